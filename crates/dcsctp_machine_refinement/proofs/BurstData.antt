@@ -1,16 +1,20 @@
 -- How many packets the turns of data send: behind a SACK, at the end of a packet, and by what the user sends and resets.
-use Rattle.std.proofs.Common.{◌≡◌, ◌≤◌, ◌+◌, ℕ, Bool, true, false, Option, None, Some, List, [], ◌∷◌, ◌++◌, map, length, sym, subst, ap, ◌∙◌, append-nil, take, arith}
+use Rattle.std.proofs.Common.{◌≡◌, ◌≤◌, ◌+◌, ℕ, Bool, true, false, Option, None, Some, List, [], ◌∷◌, ◌++◌, map, length, refl, sym, subst, ap, ◌∙◌, append-nil, take, fold, arith}
+use Rattle.std.proofs.lemmas.Bool.Decides.{nat_tests}
 use Rattle.dcsctp_wire.specs.Content.{SackContent, no_user_data}
 use Rattle.dcsctp_machine.specs.declared.association.Held.{Held}
 use Rattle.dcsctp_machine.specs.declared.arrivals.SkippedTo.{SkippedTo}
+use Rattle.dcsctp_machine.specs.declared.progress.ItemState.{ItemState}
+use Rattle.dcsctp_machine.specs.declared.progress.ItemState.TheVariants.{InFlight, Marked, Acknowledged, Abandoned}
 use Rattle.dcsctp_machine.specs.Event.{Event}
 use Rattle.dcsctp_machine.specs.Packet.{plain, error_of, Content, Emission}
-use Rattle.dcsctp_machine.specs.Endpoint.{Endpoint, held_in}
+use Rattle.dcsctp_machine.specs.Endpoint.{Endpoint, Core, held_in}
 use Rattle.dcsctp_machine.specs.Outcome.{Outcome, to_peer}
 use Rattle.dcsctp_machine.specs.control.Choices.{plain_contents}
 use Rattle.dcsctp_machine.specs.transfer.Acknowledging.{is_sack_valid, ends_delivery, told_by, delivered, delivered_by}
 use Rattle.dcsctp_machine.specs.transfer.Arrivals.{Arrival}
-use Rattle.dcsctp_machine.specs.transfer.Items.{Item}
+use Rattle.dcsctp_machine.specs.transfer.Items.{Item, counted, marked_count, unacknowledged_count, marked_items, unacknowledged_items}
+use Rattle.dcsctp_machine.specs.transfer.Progress.{is_marked, is_unacknowledged}
 use Rattle.dcsctp_machine.specs.transfer.Messages.{MessageContent}
 use Rattle.dcsctp_machine.specs.transfer.Outstanding.{acknowledged_by}
 use Rattle.dcsctp_machine.specs.transfer.OwnResets.{prepared_all, prepare_all_events}
@@ -21,9 +25,10 @@ use Rattle.dcsctp_machine.specs.turns.DataOutcomes.{DataWhere, with_transfer, fl
 use Rattle.dcsctp_machine.specs.turns.FlushOutcomes.{Answer, told_event, goes_out, draft_to, flush_of}
 use Rattle.dcsctp_machine.specs.turns.MessageOutcomes.{MessageRefusal, refusal_events, Sending, sending_refusal, name_of, queue_by, queue_one, queue_all, takes_any, SendAnswers, send_by, SendTurn}
 use Rattle.dcsctp_machine.specs.turns.PreparedResets.{ResetRefusal, reset_refusal, with_queue, OwnResetsWhere, OwnResetsTurn}
+use Rattle.dcsctp_machine.specs.turns.ShutdownOutcomes.{is_all_acknowledged, step_outcome}
 use Rattle.dcsctp_machine.proofs.SendEventLemmas.{told_prepared}
 use Rattle.dcsctp_machine_refinement.proofs.Bursts.{count, append_few, none_in_front, Few, none, one, emits_few, told_none, allowed_after, IsBurst, flush_is_burst}
-use Rattle.dcsctp_machine_refinement.proofs.BurstShutdown.{step_few}
+use Rattle.dcsctp_machine_refinement.proofs.BurstShutdown.{step_few, step_waits}
 
 -- ---- a flush by itself
 
@@ -80,29 +85,53 @@ fast_few false e held transfer o turn = subst (Few 1) (sym turn) (none 1)
 fast_few true e held transfer o turn =
     subst (Few 1) (sym turn.is) (out_few (with_transfer e (record transfer { retransmission = turn.left })) (draft_to held).with_checksum held.peer.tag (plain_contents turn.chunks))
 
-acknowledges_behind : (e : Endpoint) (held : Held) (transfer : Transfer) (sack : SackContent) (o : Outcome) → AcknowledgesBy e held transfer sack o → IsBehind 2 o
+-- An item that is to be sent at once isn't acknowledged. Then no step of a shutdown is made.
+item_below : (m n : ℕ) (state : ItemState) → m ≤ n → m + counted (is_marked state) 1 ≤ n + counted (is_unacknowledged state) 1
+item_below m n InFlight h = omega (arith, h)
+item_below m n Marked h = omega (arith, h)
+item_below m n Acknowledged h = omega (arith, h)
+item_below m n Abandoned h = omega (arith, h)
+
+items_below : (m n : ℕ) (items : List Item) → m ≤ n → fold (λ a x. a + marked_count x) m items ≤ fold (λ a x. a + unacknowledged_count x) n items
+items_below m n [] h = h
+items_below m n (item ∷ items) h = items_below (m + marked_count item) (n + unacknowledged_count item) items (item_below m n item.progress.state h)
+
+not_all : (transfer : Transfer) → has_fast_retransmit transfer.retransmission ≡ true → is_all_acknowledged (Some transfer) ≡ false
+not_all transfer due =
+    let items : List Item = transfer.retransmission.outstanding.items in
+    let below : marked_items items ≤ unacknowledged_items items = items_below 0 0 items (none 0) in
+    grind (arith, nat_tests, below, due)
+
+-- a step of a shutdown, or a fast retransmission
+stepped_few : (b : Bool) (e : Endpoint) (core : Core) (held : Held) (left : Transfer) (stepped fast : Outcome) → has_fast_retransmit left.retransmission ≡ b → e.below.transfer ≡ Some left
+    → stepped ≡ step_outcome e core → FastRetransmits b stepped.after held left fast → count (stepped.events ++ fast.events) ≤ 1
+stepped_few true e core held left stepped fast due is steps resends =
+    let waits : is_all_acknowledged e.below.transfer ≡ false = subst (λ (t : Option Transfer). is_all_acknowledged t ≡ false) (sym is) (not_all left due) in
+    none_in_front 1 stepped.events fast.events (subst (Few 0) (sym steps) (step_waits e core waits)) (fast_few true stepped.after held left fast resends)
+stepped_few false e core held left stepped fast due is steps resends =
+    append_few 1 0 stepped.events fast.events (subst (Few 1) (sym steps) (step_few e core)) (subst (Few 0) (sym resends) (none 0))
+
+acknowledges_behind : (e : Endpoint) (held : Held) (transfer : Transfer) (sack : SackContent) (o : Outcome) → AcknowledgesBy e held transfer sack o → IsBehind 1 o
 acknowledges_behind e held transfer sack o turn =
-    let step : Few 1 turn.stepped = subst (Few 1) (sym turn.steps) (step_few (sack_taken e transfer turn.left) e.core) in
-    let fast : Few 1 turn.fast = fast_few (has_fast_retransmit turn.left.retransmission) turn.stepped.after held turn.left turn.fast turn.resends in
     let flushed : Outcome = flush_of turn.fast.after (draft_to held) turn.answers in
     let told : List (Event Emission) = delivered_by sack.cumulative_tsn_ack transfer.retransmission in
-    subst (IsBehind 2) (sym turn.is)
-    (append_few 2 (allowed_after flushed) (told ++ (turn.stepped.events ++ turn.fast.events)) flushed.events
-    (none_in_front 2 told (turn.stepped.events ++ turn.fast.events)
+    subst (IsBehind 1) (sym turn.is)
+    (append_few 1 (allowed_after flushed) (told ++ (turn.stepped.events ++ turn.fast.events)) flushed.events
+    (none_in_front 1 told (turn.stepped.events ++ turn.fast.events)
     (delivered_few (take (acknowledged_by transfer.retransmission.outstanding sack.cumulative_tsn_ack) transfer.retransmission.outstanding.items))
-    (append_few 1 1 turn.stepped.events turn.fast.events step fast))
+    (stepped_few (has_fast_retransmit turn.left.retransmission) (sack_taken e transfer turn.left) e.core held turn.left turn.stepped turn.fast refl refl turn.steps turn.resends))
     (flush_is_burst turn.fast.after (draft_to held) turn.answers turn.allowed))
 
-sack_where_behind : (b : Bool) (e : Endpoint) (held : Held) (transfer : Transfer) (sack : SackContent) (o : Outcome) → SackWhere b e held transfer sack o → IsBehind 2 o
-sack_where_behind false e held transfer sack o turn = subst (IsBehind 2) (sym turn) (omega arith)
+sack_where_behind : (b : Bool) (e : Endpoint) (held : Held) (transfer : Transfer) (sack : SackContent) (o : Outcome) → SackWhere b e held transfer sack o → IsBehind 1 o
+sack_where_behind false e held transfer sack o turn = subst (IsBehind 1) (sym turn) (omega arith)
 sack_where_behind true e held transfer sack o turn = acknowledges_behind e held transfer sack o turn
 
-sack_by_behind : (e : Endpoint) (peer : Option Held) (transfer : Transfer) (sack : SackContent) (o : Outcome) → SackBy e peer transfer sack o → IsBehind 2 o
-sack_by_behind e None transfer sack o turn = subst (IsBehind 2) (sym turn) (omega arith)
+sack_by_behind : (e : Endpoint) (peer : Option Held) (transfer : Transfer) (sack : SackContent) (o : Outcome) → SackBy e peer transfer sack o → IsBehind 1 o
+sack_by_behind e None transfer sack o turn = subst (IsBehind 1) (sym turn) (omega arith)
 sack_by_behind e (Some held) transfer sack o turn = sack_where_behind (is_sack_valid transfer.retransmission sack.cumulative_tsn_ack) e held transfer sack o turn
 
-pub sack_behind : (e : Endpoint) (transfer : Option Transfer) (sack : SackContent) (o : Outcome) → SackTurn e transfer sack o → IsBehind 2 o
-sack_behind e None sack o turn = subst (IsBehind 2) (sym turn) (omega arith)
+pub sack_behind : (e : Endpoint) (transfer : Option Transfer) (sack : SackContent) (o : Outcome) → SackTurn e transfer sack o → IsBehind 1 o
+sack_behind e None sack o turn = subst (IsBehind 1) (sym turn) (omega arith)
 sack_behind e (Some transfer) sack o turn = sack_by_behind e (held_in e.core) transfer sack o turn
 
 -- ---- the end of a packet

@@ -1,5 +1,5 @@
 -- How many packets the turns of shutdown send.
-use Rattle.std.proofs.Common.{ℕ, Bool, true, false, sym, subst}
+use Rattle.std.proofs.Common.{◌≡◌, ℕ, Bool, true, false, sym, subst}
 use Rattle.dcsctp_machine.specs.declared.association.Pair.{Pair}
 use Rattle.dcsctp_machine.specs.declared.association.Held.{Held}
 use Rattle.dcsctp_machine.specs.Endpoint.{Endpoint, Core, closed, cookie_wait, cookie_echoed, open_in, OpenPhase, established, shutdown_pending, shutdown_sent, shutdown_received, shutdown_ack_sent}
@@ -23,6 +23,17 @@ step_few e closed = none 1
 step_few e (cookie_wait my) = none 1
 step_few e (cookie_echoed my held cookie) = none 1
 step_few e (open_in phase my held) = step_by_few (is_all_acknowledged e.below.transfer) e phase my held
+
+-- It waits until all is acknowledged.
+waits_by : (b : Bool) (e : Endpoint) (phase : OpenPhase) (my : Pair) (held : Held) → b ≡ false → Few 0 (step_by b e phase my held)
+waits_by false e phase my held is = none 0
+waits_by true e phase my held is = absurd (cc)
+
+pub step_waits : (e : Endpoint) (core : Core) → is_all_acknowledged e.below.transfer ≡ false → Few 0 (step_outcome e core)
+step_waits e closed is = none 0
+step_waits e (cookie_wait my) is = none 0
+step_waits e (cookie_echoed my held cookie) is = none 0
+step_waits e (open_in phase my held) is = waits_by (is_all_acknowledged e.below.transfer) e phase my held is
 
 -- from another phase
 step_from_few : (e : Endpoint) (phase : OpenPhase) (my : Pair) (held : Held) → Few 1 (step_by (is_all_acknowledged e.below.transfer) (phase_at e phase my held) phase my held)

@@ -11,8 +11,8 @@ use Rattle.dcsctp_machine.specs.turns.OwnTimers.{OwnTimer, acknowledgement_delay
 -- ---- chunks
 
 abbrev pub packets_of_plain : Plain → ℕ → ℕ
--- SHUTDOWN or SHUTDOWN ACK once all is acknowledged, a fast retransmission, and a flush
-packets_of_plain (unworked (sack_chunk sack)) flushed = 2 + flushed
+-- SHUTDOWN or SHUTDOWN ACK if all is acknowledged now, or a fast retransmission; and a flush
+packets_of_plain (unworked (sack_chunk sack)) flushed = 1 + flushed
 -- ERROR for data without a payload, or ABORT for a chunk that wasn't negotiated
 packets_of_plain (unworked (data_chunk chunk)) flushed = 1
 packets_of_plain (unworked (i_data_chunk chunk)) flushed = 1
