@@ -22,10 +22,10 @@ use Rattle.dcsctp_machine.specs.turns.HeartbeatOutcomes.{heartbeat_outcome, info
 use Rattle.dcsctp_machine.specs.turns.OwnTimers.{OwnTimer, acknowledgement_delay, retransmission, heartbeat_interval, heartbeat_timeout, reconfiguration, TimerTurn}
 use Rattle.dcsctp_machine.specs.turns.PlainOutcomes.{PlainTurn, PlainTurnBy, violation_by, violation_at, is_reported, after_unknown, unknown_bytes, unknown_told, error_outcome}
 use Rattle.dcsctp_machine.specs.turns.ReconfigurationOutcomes.{reset_again, request_emitted, request_unless, request_errors, request_expired, reconfiguration_outcome}
-use Rattle.dcsctp_machine.specs.turns.ResetOutcomes.{requested_in, is_reached, worked_in, OwnAnswer, answered_in, reset_events, told_of, reset_refusal_text, resets_worked, responses_outcome, responses_by, ResponseAnswers, WorksResets, ResetTurn}
+use Rattle.dcsctp_machine.specs.turns.ResetOutcomes.{requested_in, is_reached, worked_in, OwnAnswer, answered_in, reset_events, told_of, reset_refusal_text, resets_worked, responses_outcome, core_with, responses_by, ResponseAnswers, WorksResets, ResetTurn}
 use Rattle.dcsctp_machine.proofs.ResetLemmas.{AreResets, nothing, acceptance, performance, completion, failure, chunk_brings}
 use Rattle.dcsctp_machine_refinement.specs.Bursts.{packets_of_plain, packets_of_timer}
-use Rattle.dcsctp_machine_refinement.proofs.Bursts.{count, append_few, none_in_front, Few, none, one, emits_few, allowed_after, flush_is_burst}
+use Rattle.dcsctp_machine_refinement.proofs.Bursts.{count, append_few, none_in_front, Few, none, one, emits_core, emits_few, HasPeer, allowed_after, flush_is_burst}
 use Rattle.dcsctp_machine_refinement.proofs.BurstData.{IsBehind, data_few, forward_few, sack_behind, delay_few, loss_few}
 use Rattle.dcsctp_machine_refinement.proofs.BurstHandshake.{aborting_few}
 
@@ -109,32 +109,43 @@ response_few : (e : Endpoint) (held : Held) (responses : List ResetParameter) �
 response_few e held [] = none 1
 response_few e held (response ∷ responses) = emits_few e [] (to_peer held (re_config (response ∷ responses)))
 
+response_core : (e : Endpoint) (held : Held) (responses : List ResetParameter) → (responses_outcome e held responses).after.core ≡ e.core
+response_core e held [] = refl
+response_core e held (response ∷ responses) = emits_core e [] (to_peer held (re_config (response ∷ responses)))
+
 sent_behind : (refused : Bool) (e : Endpoint) (told : List (Event Emission)) (held : Held) (parameters responses : List ResetParameter) (answers : List Answer)
-    → ResponseAnswers refused e held responses answers → count told ≤ 0 → IsBehind 1 (responses_by refused e told held parameters responses answers)
-sent_behind true e told held parameters responses answers allowed before =
+    → HasPeer e.core → ResponseAnswers refused e held responses answers → count told ≤ 0 → IsBehind 1 (responses_by refused e told held parameters responses answers)
+sent_behind true e told held parameters responses answers peer allowed before =
     let few : count (told ++ error ProtocolViolation (reset_refusal_text parameters) ∷ []) ≤ 0 =
     none_in_front 0 told (error ProtocolViolation (reset_refusal_text parameters) ∷ []) before (none 0) in
     omega (arith, few)
-sent_behind false e told held parameters responses answers allowed before =
+sent_behind false e told held parameters responses answers peer allowed before =
     let sent : Outcome = responses_outcome e held responses in
     let flushed : Outcome = flush_of sent.after (draft_to held) answers in
     append_few 1 (allowed_after flushed) (told ++ sent.events) flushed.events (none_in_front 1 told sent.events before (response_few e held responses))
-    (flush_is_burst sent.after (draft_to held) answers allowed)
+    (flush_is_burst sent.after (draft_to held) answers (subst HasPeer (sym (response_core e held responses)) peer) allowed)
 
-works_behind : (e : Endpoint) (my : Pair) (held : Held) (parameters : List ResetParameter) (o : Outcome) → WorksResets e my held parameters o → IsBehind 1 o
-works_behind e my held parameters o turn =
+-- The peer stays known.
+with_peer : (core : Core) (held : Held) → HasPeer core → HasPeer (core_with core held)
+with_peer closed held peer = absurd peer
+with_peer (cookie_wait my) held peer = absurd peer
+with_peer (cookie_echoed my own cookie) held peer = tt
+with_peer (open_in phase my own) held peer = tt
+
+works_behind : (e : Endpoint) (my : Pair) (held : Held) (parameters : List ResetParameter) (o : Outcome) → HasPeer e.core → WorksResets e my held parameters o → IsBehind 1 o
+works_behind e my held parameters o peer turn =
     let w : WorkedParameters = worked_in e my held parameters in
     let brought = chunk_brings my (is_reached e.below.transfer (requested_in parameters)) held parameters in
     let answer : OwnAnswer = answered_in held w parameters in
     subst (IsBehind 1) (sym turn.is)
-    (sent_behind w.is_refused (resets_worked e answer w.held turn.left) (told_of e parameters w.effects) w.held parameters w.answers turn.answers turn.allowed
+    (sent_behind w.is_refused (resets_worked e answer w.held turn.left) (told_of e parameters w.effects) w.held parameters w.answers turn.answers (with_peer e.core w.held peer) turn.allowed
     (told_few _ _ w.effects brought.are))
 
-pub reset_behind : (e : Endpoint) (core : Core) (parameters : List ResetParameter) (o : Outcome) → ResetTurn e core parameters o → IsBehind 1 o
-reset_behind e closed parameters o turn = subst (IsBehind 1) (sym turn) (omega arith)
-reset_behind e (cookie_wait my) parameters o turn = subst (IsBehind 1) (sym turn) (omega arith)
-reset_behind e (cookie_echoed my held cookie) parameters o turn = works_behind e my held parameters o turn
-reset_behind e (open_in phase my held) parameters o turn = works_behind e my held parameters o turn
+pub reset_behind : (e : Endpoint) (core : Core) (parameters : List ResetParameter) (o : Outcome) → e.core ≡ core → ResetTurn e core parameters o → IsBehind 1 o
+reset_behind e closed parameters o is turn = subst (IsBehind 1) (sym turn) (omega arith)
+reset_behind e (cookie_wait my) parameters o is turn = subst (IsBehind 1) (sym turn) (omega arith)
+reset_behind e (cookie_echoed my held cookie) parameters o is turn = works_behind e my held parameters o (subst HasPeer (sym is) tt) turn
+reset_behind e (open_in phase my held) parameters o is turn = works_behind e my held parameters o (subst HasPeer (sym is) tt) turn
 
 -- ---- each
 

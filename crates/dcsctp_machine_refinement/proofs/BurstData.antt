@@ -27,17 +27,17 @@ use Rattle.dcsctp_machine.specs.turns.MessageOutcomes.{MessageRefusal, refusal_e
 use Rattle.dcsctp_machine.specs.turns.PreparedResets.{ResetRefusal, reset_refusal, with_queue, OwnResetsWhere, OwnResetsTurn}
 use Rattle.dcsctp_machine.specs.turns.ShutdownOutcomes.{is_all_acknowledged, step_outcome}
 use Rattle.dcsctp_machine.proofs.SendEventLemmas.{told_prepared}
-use Rattle.dcsctp_machine_refinement.proofs.Bursts.{count, append_few, none_in_front, Few, none, one, emits_few, told_none, allowed_after, IsBurst, flush_is_burst}
-use Rattle.dcsctp_machine_refinement.proofs.BurstShutdown.{step_few, step_waits}
+use Rattle.dcsctp_machine_refinement.proofs.Bursts.{count, append_few, none_in_front, Few, none, one, emits_few, told_none, HasPeer, held_is_peer, allowed_after, IsBurst, flush_is_burst}
+use Rattle.dcsctp_machine_refinement.proofs.BurstShutdown.{step_few, step_waits, step_peer}
 
 -- ---- a flush by itself
 
-to_is_burst : (e : Endpoint) (peer : Option Held) (answers : List Answer) → AnswersTo e peer answers → IsBurst (flush_by e peer answers)
-to_is_burst e None answers allowed = omega arith
-to_is_burst e (Some held) answers allowed = flush_is_burst e (draft_to held) answers allowed
+to_is_burst : (e : Endpoint) (peer : Option Held) (answers : List Answer) → held_in e.core ≡ peer → AnswersTo e peer answers → IsBurst (flush_by e peer answers)
+to_is_burst e None answers is allowed = omega arith
+to_is_burst e (Some held) answers is allowed = flush_is_burst e (draft_to held) answers (held_is_peer e.core held is) allowed
 
 pub flush_turn_is_burst : (e : Endpoint) (o : Outcome) → FlushTurn e o → IsBurst o
-flush_turn_is_burst e o turn = subst IsBurst (sym turn.2) (to_is_burst e (held_in e.core) turn.0 turn.1)
+flush_turn_is_burst e o turn = subst IsBurst (sym turn.2) (to_is_burst e (held_in e.core) turn.0 refl turn.1)
 
 -- ---- DATA and FORWARD-TSN
 
@@ -103,6 +103,16 @@ not_all transfer due =
     grind (arith, nat_tests, below, due)
 
 -- a step of a shutdown, or a fast retransmission
+out_peer : (e : Endpoint) (with_checksum : Bool) (tag : ℕ) (contents : List Content) → HasPeer e.core → HasPeer (goes_out e [] with_checksum tag contents).after.core
+out_peer e with_checksum tag [] peer = peer
+out_peer e with_checksum tag (content ∷ contents) peer = peer
+
+fast_peer : (b : Bool) (e : Endpoint) (held : Held) (transfer : Transfer) (o : Outcome) → FastRetransmits b e held transfer o → HasPeer e.core → HasPeer o.after.core
+fast_peer false e held transfer o turn peer = subst (λ (x : Outcome). HasPeer x.after.core) (sym turn) peer
+fast_peer true e held transfer o turn peer =
+    subst (λ (x : Outcome). HasPeer x.after.core) (sym turn.is)
+    (out_peer (with_transfer e (record transfer { retransmission = turn.left })) (draft_to held).with_checksum held.peer.tag (plain_contents turn.chunks) peer)
+
 stepped_few : (b : Bool) (e : Endpoint) (core : Core) (held : Held) (left : Transfer) (stepped fast : Outcome) → has_fast_retransmit left.retransmission ≡ b → e.below.transfer ≡ Some left
     → stepped ≡ step_outcome e core → FastRetransmits b stepped.after held left fast → count (stepped.events ++ fast.events) ≤ 1
 stepped_few true e core held left stepped fast due is steps resends =
@@ -111,8 +121,10 @@ stepped_few true e core held left stepped fast due is steps resends =
 stepped_few false e core held left stepped fast due is steps resends =
     append_few 1 0 stepped.events fast.events (subst (Few 1) (sym steps) (step_few e core)) (subst (Few 0) (sym resends) (none 0))
 
-acknowledges_behind : (e : Endpoint) (held : Held) (transfer : Transfer) (sack : SackContent) (o : Outcome) → AcknowledgesBy e held transfer sack o → IsBehind 1 o
-acknowledges_behind e held transfer sack o turn =
+acknowledges_behind : (e : Endpoint) (held : Held) (transfer : Transfer) (sack : SackContent) (o : Outcome) → HasPeer e.core → AcknowledgesBy e held transfer sack o → IsBehind 1 o
+acknowledges_behind e held transfer sack o peer turn =
+    let stepped : HasPeer turn.stepped.after.core = subst (λ (x : Outcome). HasPeer x.after.core) (sym turn.steps) (step_peer (sack_taken e transfer turn.left) e.core peer) in
+    let here : HasPeer turn.fast.after.core = fast_peer (has_fast_retransmit turn.left.retransmission) turn.stepped.after held turn.left turn.fast turn.resends stepped in
     let flushed : Outcome = flush_of turn.fast.after (draft_to held) turn.answers in
     let told : List (Event Emission) = delivered_by sack.cumulative_tsn_ack transfer.retransmission in
     subst (IsBehind 1) (sym turn.is)
@@ -120,31 +132,32 @@ acknowledges_behind e held transfer sack o turn =
     (none_in_front 1 told (turn.stepped.events ++ turn.fast.events)
     (delivered_few (take (acknowledged_by transfer.retransmission.outstanding sack.cumulative_tsn_ack) transfer.retransmission.outstanding.items))
     (stepped_few (has_fast_retransmit turn.left.retransmission) (sack_taken e transfer turn.left) e.core held turn.left turn.stepped turn.fast refl refl turn.steps turn.resends))
-    (flush_is_burst turn.fast.after (draft_to held) turn.answers turn.allowed))
+    (flush_is_burst turn.fast.after (draft_to held) turn.answers here turn.allowed))
 
-sack_where_behind : (b : Bool) (e : Endpoint) (held : Held) (transfer : Transfer) (sack : SackContent) (o : Outcome) → SackWhere b e held transfer sack o → IsBehind 1 o
-sack_where_behind false e held transfer sack o turn = subst (IsBehind 1) (sym turn) (omega arith)
-sack_where_behind true e held transfer sack o turn = acknowledges_behind e held transfer sack o turn
+sack_where_behind : (b : Bool) (e : Endpoint) (held : Held) (transfer : Transfer) (sack : SackContent) (o : Outcome) → HasPeer e.core → SackWhere b e held transfer sack o → IsBehind 1 o
+sack_where_behind false e held transfer sack o peer turn = subst (IsBehind 1) (sym turn) (omega arith)
+sack_where_behind true e held transfer sack o peer turn = acknowledges_behind e held transfer sack o peer turn
 
-sack_by_behind : (e : Endpoint) (peer : Option Held) (transfer : Transfer) (sack : SackContent) (o : Outcome) → SackBy e peer transfer sack o → IsBehind 1 o
-sack_by_behind e None transfer sack o turn = subst (IsBehind 1) (sym turn) (omega arith)
-sack_by_behind e (Some held) transfer sack o turn = sack_where_behind (is_sack_valid transfer.retransmission sack.cumulative_tsn_ack) e held transfer sack o turn
+sack_by_behind : (e : Endpoint) (peer : Option Held) (transfer : Transfer) (sack : SackContent) (o : Outcome) → held_in e.core ≡ peer → SackBy e peer transfer sack o → IsBehind 1 o
+sack_by_behind e None transfer sack o is turn = subst (IsBehind 1) (sym turn) (omega arith)
+sack_by_behind e (Some held) transfer sack o is turn =
+    sack_where_behind (is_sack_valid transfer.retransmission sack.cumulative_tsn_ack) e held transfer sack o (held_is_peer e.core held is) turn
 
 pub sack_behind : (e : Endpoint) (transfer : Option Transfer) (sack : SackContent) (o : Outcome) → SackTurn e transfer sack o → IsBehind 1 o
 sack_behind e None sack o turn = subst (IsBehind 1) (sym turn) (omega arith)
-sack_behind e (Some transfer) sack o turn = sack_by_behind e (held_in e.core) transfer sack o turn
+sack_behind e (Some transfer) sack o turn = sack_by_behind e (held_in e.core) transfer sack o refl turn
 
 -- ---- the end of a packet
 
-end_where_is_burst : (b : Bool) (e : Endpoint) (peer : Option Held) (transfer : Transfer) (tracker : TrackerState) (o : Outcome) → EndWhere b e peer transfer tracker o → IsBurst o
-end_where_is_burst true e (Some held) transfer tracker o turn = subst IsBurst (sym turn.is) (flush_is_burst _ _ turn.answers turn.allowed)
-end_where_is_burst true e None transfer tracker o turn = subst IsBurst (sym turn) (omega arith)
-end_where_is_burst false e peer transfer tracker o turn = subst IsBurst (sym turn) (omega arith)
+end_where_is_burst : (b : Bool) (e : Endpoint) (peer : Option Held) (transfer : Transfer) (tracker : TrackerState) (o : Outcome) → held_in e.core ≡ peer → EndWhere b e peer transfer tracker o → IsBurst o
+end_where_is_burst true e (Some held) transfer tracker o is turn = subst IsBurst (sym turn.is) (flush_is_burst _ _ turn.answers (held_is_peer e.core held is) turn.allowed)
+end_where_is_burst true e None transfer tracker o is turn = subst IsBurst (sym turn) (omega arith)
+end_where_is_burst false e peer transfer tracker o is turn = subst IsBurst (sym turn) (omega arith)
 
 pub end_is_burst : (e : Endpoint) (transfer : Option Transfer) (o : Outcome) → EndsBy e transfer o → IsBurst o
 end_is_burst e None o turn = subst IsBurst (sym turn) (omega arith)
 end_is_burst e (Some transfer) o turn =
-    let tracker = after_packet_end e.moment transfer.tracker in end_where_is_burst (is_acknowledgement_due tracker) e (held_in e.core) transfer tracker o turn
+    let tracker = after_packet_end e.moment transfer.tracker in end_where_is_burst (is_acknowledgement_due tracker) e (held_in e.core) transfer tracker o refl turn
 
 -- ---- what the user takes and sends
 
@@ -173,7 +186,7 @@ queue_few e (message ∷ messages) =
 
 send_where_is_burst : (b : Bool) (e : Endpoint) (answers : List Answer) → SendAnswers b e answers → IsBurst (send_by b e answers)
 send_where_is_burst false e answers allowed = omega arith
-send_where_is_burst true e answers allowed = to_is_burst e (held_in e.core) answers allowed
+send_where_is_burst true e answers allowed = to_is_burst e (held_in e.core) answers refl allowed
 
 pub send_is_burst : (e : Endpoint) (messages : List Sending) (o : Outcome) → SendTurn e messages o → IsBurst o
 send_is_burst e messages o turn =

@@ -1,5 +1,5 @@
 -- How many packets the turns of the handshake, of ABORT and of T1 send.
-use Rattle.std.proofs.Common.{◌≤◌, ℕ, Option, None, Some, Result, Ok, Err, List, [], ◌∷◌, max, arith}
+use Rattle.std.proofs.Common.{◌≡◌, ◌≤◌, ℕ, max, Option, None, Some, Result, Ok, Err, List, [], ◌∷◌, sym, subst, arith}
 use Rattle.dcsctp_machine.specs.declared.word.Word.TheVariants.{U32, U64}
 use Rattle.dcsctp_machine.specs.declared.ends.AbortReason.{AbortReason}
 use Rattle.dcsctp_machine.specs.declared.ends.AbortReason.TheVariants as reasons
@@ -18,7 +18,7 @@ use Rattle.dcsctp_machine.specs.turns.TimerOutcomes.{AgainAnswers, again_by, t1_
 use Rattle.dcsctp_machine.specs.turns.CookieEchoOutcomes.{established_by, acknowledgement, EstablishAnswers, queue_kept, queue_begun, RestartAnswers, restart_by_where, MaintainAnswers, maintain_by, ResolvedAnswers, resolved_by, EchoedAnswers, cookie_echo_by}
 use Rattle.dcsctp_machine.specs.control.CookieEchoChanges.{held_by_cookie, Resolution, establish_new, restart, simultaneous_init, discard, maintain_existing, invalid_tag, resolve}
 use Rattle.dcsctp_machine_refinement.specs.Bursts.{packets_of_chunk, packets_of_t1}
-use Rattle.dcsctp_machine_refinement.proofs.Bursts.{count, append_few, Few, none, emits_few, allowed_after, IsBurst, flush_is_burst, echo_is_burst}
+use Rattle.dcsctp_machine_refinement.proofs.Bursts.{count, append_few, Few, none, emits_few, HasPeer, allowed_after, IsBurst, flush_is_burst, echo_is_burst}
 
 -- ---- the handshake
 
@@ -51,14 +51,14 @@ init_ack_counts e theirs None (cookie_echoed my held echoed) word answers allowe
 init_ack_counts e theirs None (open_in phase my held) word answers allowed = none 1
 init_ack_counts e theirs (Some cookie) closed word answers allowed = omega arith
 init_ack_counts e theirs (Some cookie) (cookie_wait my) word answers allowed =
-    echo_is_burst (awaits_cookie_ack e my theirs cookie word) (U64 word ∷ []) theirs.pair.tag cookie answers allowed
+    echo_is_burst (awaits_cookie_ack e my theirs cookie word) (U64 word ∷ []) theirs.pair.tag cookie answers tt allowed
 init_ack_counts e theirs (Some cookie) (cookie_echoed my held echoed) word answers allowed = omega arith
 init_ack_counts e theirs (Some cookie) (open_in phase my held) word answers allowed = omega arith
 
 pub cookie_ack_is_burst : (e : Endpoint) (core : Core) (answers : List Answer) → CookieAckAnswers e core answers → IsBurst (cookie_ack_by (flush_answered answers) e core)
 cookie_ack_is_burst e closed answers allowed = omega arith
 cookie_ack_is_burst e (cookie_wait my) answers allowed = omega arith
-cookie_ack_is_burst e (cookie_echoed my held cookie) answers allowed = flush_is_burst (connected_after e my held) (draft_to held) answers allowed
+cookie_ack_is_burst e (cookie_echoed my held cookie) answers allowed = flush_is_burst (connected_after e my held) (draft_to held) answers tt allowed
 cookie_ack_is_burst e (open_in phase my held) answers allowed = omega arith
 
 -- ---- COOKIE ECHO
@@ -76,7 +76,7 @@ nothing_of n = omega arith
 established_echoed : (e : Endpoint) (cookie : Cookie) (queue : SendQueueState) (tie : ℕ) (answers : List Answer) → EstablishAnswers e cookie queue tie answers
     → IsEchoed (flush_of (established_by e cookie queue tie) (acknowledgement (held_by_cookie e.options cookie) cookie) answers)
 established_echoed e cookie queue tie answers allowed =
-    burst_of _ _ (flush_is_burst (established_by e cookie queue tie) (acknowledgement (held_by_cookie e.options cookie) cookie) answers allowed)
+    burst_of _ _ (flush_is_burst (established_by e cookie queue tie) (acknowledgement (held_by_cookie e.options cookie) cookie) answers tt allowed)
 
 restarted_echoed : (e : Endpoint) (cookie : Cookie) (tie : ℕ) (core : Core) (answers : List Answer) → RestartAnswers e cookie tie core answers
     → IsEchoed (restart_by_where (flush_answered answers) e cookie tie core)
@@ -89,25 +89,25 @@ restarted_echoed e cookie tie (open_in shutdown_sent my held) answers allowed = 
 restarted_echoed e cookie tie (open_in shutdown_received my held) answers allowed = established_echoed e cookie (queue_begun e cookie) tie answers allowed
 restarted_echoed e cookie tie (open_in shutdown_ack_sent my held) answers allowed = omega arith
 
-maintained_echoed : (e : Endpoint) (cookie : Cookie) (core : Core) (answers : List Answer) → MaintainAnswers e cookie core answers → IsEchoed (maintain_by (flush_answered answers) e cookie core)
-maintained_echoed e cookie closed answers allowed = nothing_of _
-maintained_echoed e cookie (cookie_wait my) answers allowed = nothing_of _
-maintained_echoed e cookie (cookie_echoed my held echoed) answers allowed = burst_of _ _ (flush_is_burst (connected_after e my held) (acknowledgement held cookie) answers allowed)
-maintained_echoed e cookie (open_in phase my held) answers allowed = burst_of _ _ (flush_is_burst e (acknowledgement held cookie) answers allowed)
+maintained_echoed : (e : Endpoint) (cookie : Cookie) (core : Core) (answers : List Answer) → e.core ≡ core → MaintainAnswers e cookie core answers → IsEchoed (maintain_by (flush_answered answers) e cookie core)
+maintained_echoed e cookie closed answers is allowed = nothing_of _
+maintained_echoed e cookie (cookie_wait my) answers is allowed = nothing_of _
+maintained_echoed e cookie (cookie_echoed my held echoed) answers is allowed = burst_of _ _ (flush_is_burst (connected_after e my held) (acknowledgement held cookie) answers tt allowed)
+maintained_echoed e cookie (open_in phase my held) answers is allowed = burst_of _ _ (flush_is_burst e (acknowledgement held cookie) answers (subst HasPeer (sym is) tt) allowed)
 
-resolved_echoed : (e : Endpoint) (cookie : Cookie) (core : Core) (word : ℕ) (resolution : Resolution) (answers : List Answer) → ResolvedAnswers e cookie core word resolution answers
+resolved_echoed : (e : Endpoint) (cookie : Cookie) (core : Core) (word : ℕ) (resolution : Resolution) (answers : List Answer) → e.core ≡ core → ResolvedAnswers e cookie core word resolution answers
     → IsEchoed (resolved_by (flush_answered answers) e cookie core word resolution)
-resolved_echoed e cookie core word establish_new answers allowed = established_echoed e cookie (queue_kept e cookie) word answers allowed
-resolved_echoed e cookie core word restart answers allowed = restarted_echoed e cookie word core answers allowed
-resolved_echoed e cookie core word simultaneous_init answers allowed = established_echoed e cookie (queue_begun e cookie) word answers allowed
-resolved_echoed e cookie core word discard answers allowed = nothing_of _
-resolved_echoed e cookie core word maintain_existing answers allowed = maintained_echoed e cookie core answers allowed
-resolved_echoed e cookie core word invalid_tag answers allowed = nothing_of _
+resolved_echoed e cookie core word establish_new answers is allowed = established_echoed e cookie (queue_kept e cookie) word answers allowed
+resolved_echoed e cookie core word restart answers is allowed = restarted_echoed e cookie word core answers allowed
+resolved_echoed e cookie core word simultaneous_init answers is allowed = established_echoed e cookie (queue_begun e cookie) word answers allowed
+resolved_echoed e cookie core word discard answers is allowed = nothing_of _
+resolved_echoed e cookie core word maintain_existing answers is allowed = maintained_echoed e cookie core answers is allowed
+resolved_echoed e cookie core word invalid_tag answers is allowed = nothing_of _
 
-pub echo_counts : (e : Endpoint) (core : Core) (header : ℕ) (found : Result Cookie (List ℕ)) (word : ℕ) (answers : List Answer) → EchoedAnswers e core header found word answers
+pub echo_counts : (e : Endpoint) (core : Core) (header : ℕ) (found : Result Cookie (List ℕ)) (word : ℕ) (answers : List Answer) → e.core ≡ core → EchoedAnswers e core header found word answers
     → IsEchoed (cookie_echo_by (flush_answered answers) e core header found word)
-echo_counts e core header (Err text) word answers allowed = nothing_of _
-echo_counts e core header (Ok cookie) word answers allowed = resolved_echoed e cookie core word (resolve core e.tie header cookie) answers allowed
+echo_counts e core header (Err text) word answers is allowed = nothing_of _
+echo_counts e core header (Ok cookie) word answers is allowed = resolved_echoed e cookie core word (resolve core e.tie header cookie) answers is allowed
 
 -- ---- ends, and T1
 
@@ -129,12 +129,12 @@ aborting_few e (cookie_wait my) reason = append_few 1 0 [] (end_of reason ∷ []
 aborting_few e (cookie_echoed my held cookie) reason = append_few 1 0 (emits e [] (abort_to held reason)).events (end_of reason ∷ []) (emits_few e [] (abort_to held reason)) (end_few reason)
 aborting_few e (open_in phase my held) reason = append_few 1 0 (emits e [] (abort_to held reason)).events (end_of reason ∷ []) (emits_few e [] (abort_to held reason)) (end_few reason)
 
-pub again_counts : (e : Endpoint) (core : Core) (answers : List Answer) → AgainAnswers e core answers
+pub again_counts : (e : Endpoint) (core : Core) (answers : List Answer) → e.core ≡ core → AgainAnswers e core answers
     → count (again_by (flush_answered answers) e core).events ≤ packets_of_t1 core (allowed_after (again_by (flush_answered answers) e core))
-again_counts e closed answers allowed = none 0
-again_counts e (cookie_wait my) answers allowed = emits_few e [] (init_emission e my)
-again_counts e (cookie_echoed my held cookie) answers allowed = echo_is_burst e [] held.peer.tag cookie answers allowed
-again_counts e (open_in phase my held) answers allowed = none 0
+again_counts e closed answers is allowed = none 0
+again_counts e (cookie_wait my) answers is allowed = emits_few e [] (init_emission e my)
+again_counts e (cookie_echoed my held cookie) answers is allowed = echo_is_burst e [] held.peer.tag cookie answers (subst HasPeer (sym is) tt) allowed
+again_counts e (open_in phase my held) answers is allowed = none 0
 
 pub gives_up_few : (e : Endpoint) (core : Core) → Few 0 (t1_gives_up_outcome e core)
 gives_up_few e closed = none 0

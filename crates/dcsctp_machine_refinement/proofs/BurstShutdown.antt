@@ -6,7 +6,7 @@ use Rattle.dcsctp_machine.specs.Endpoint.{Endpoint, Core, closed, cookie_wait, c
 use Rattle.dcsctp_machine.specs.Outcome.{Outcome}
 use Rattle.dcsctp_machine.specs.Turn.{BeginTurn}
 use Rattle.dcsctp_machine.specs.turns.ShutdownOutcomes.{phase_at, is_all_acknowledged, step_by, step_outcome, t1_stopped, shut_down_outcome, shutdown_outcome, shutdown_ack_outcome, shutdown_complete_outcome, t2_goes_on, sent_again, t2_again_outcome}
-use Rattle.dcsctp_machine_refinement.proofs.Bursts.{Few, none, one}
+use Rattle.dcsctp_machine_refinement.proofs.Bursts.{Few, none, one, HasPeer}
 
 -- ---- a step of it
 
@@ -34,6 +34,21 @@ step_waits e closed is = none 0
 step_waits e (cookie_wait my) is = none 0
 step_waits e (cookie_echoed my held cookie) is = none 0
 step_waits e (open_in phase my held) is = waits_by (is_all_acknowledged e.below.transfer) e phase my held is
+
+-- The peer stays known.
+step_by_peer : (b : Bool) (e : Endpoint) (phase : OpenPhase) (my : Pair) (held : Held) → HasPeer e.core → HasPeer (step_by b e phase my held).after.core
+step_by_peer false e phase my held peer = peer
+step_by_peer true e established my held peer = peer
+step_by_peer true e shutdown_pending my held peer = tt
+step_by_peer true e shutdown_sent my held peer = peer
+step_by_peer true e shutdown_received my held peer = tt
+step_by_peer true e shutdown_ack_sent my held peer = peer
+
+pub step_peer : (e : Endpoint) (core : Core) → HasPeer e.core → HasPeer (step_outcome e core).after.core
+step_peer e closed peer = peer
+step_peer e (cookie_wait my) peer = peer
+step_peer e (cookie_echoed my held cookie) peer = peer
+step_peer e (open_in phase my held) peer = step_by_peer (is_all_acknowledged e.below.transfer) e phase my held peer
 
 -- from another phase
 step_from_few : (e : Endpoint) (phase : OpenPhase) (my : Pair) (held : Held) → Few 1 (step_by (is_all_acknowledged e.below.transfer) (phase_at e phase my held) phase my held)

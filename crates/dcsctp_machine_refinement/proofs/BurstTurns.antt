@@ -1,5 +1,5 @@
 -- No turn sends more packets than its input allows.
-use Rattle.std.proofs.Common.{◌≡◌, ◌≤◌, ℕ, Bool, true, false, Option, None, Some, List, [], ◌∷◌, length, sym, subst, ap, arith}
+use Rattle.std.proofs.Common.{◌≡◌, ◌≤◌, ℕ, Bool, true, false, Option, None, Some, List, [], ◌∷◌, length, refl, sym, subst, ap, arith}
 use Rattle.std.specs.Prelude.{ℤ}
 use Rattle.dcsctp_machine.specs.declared.association.Held.{Held}
 use Rattle.dcsctp_machine.specs.declared.options.Options.{Options}
@@ -15,13 +15,12 @@ use Rattle.dcsctp_machine.specs.Controlled.{signs_of_events, signs_of_effects}
 use Rattle.dcsctp_machine.specs.CallTurns.{Turned, IsTurn}
 use Rattle.dcsctp_machine.specs.Turn.{Input, arrival, refusal, packet_begins, chunk_input, packet_ends, act_input, user_sets, user_sends, user_resets, user_takes, timer_expires, time_passes, restores, has_data, ContentTurn, ActTurn}
 use Rattle.dcsctp_machine.specs.control.Acts.{Act, connect, t1_expires, shut_down, step_of_shutdown, shutdown_repeats, abort_with, hands_over, flushes, request_again, request_sent, request_again_change}
-use Rattle.dcsctp_machine.specs.turns.FlushOutcomes.{packets_allowed}
 use Rattle.dcsctp_machine.specs.turns.TimerOutcomes.{t1_goes_on}
 use Rattle.dcsctp_machine.proofs.AlongLemmas.{run_along}
 use Rattle.dcsctp_machine.proofs.ControlLemmas.{acts_are_controlled}
 use Rattle.dcsctp_machine.proofs.DataLemmas.{flushed_act, end_at, send_at, resets_at}
 use Rattle.dcsctp_machine.proofs.TurnLemmas.{content_keeps_options}
-use Rattle.dcsctp_machine_refinement.specs.Bursts.{packets_of, packets_of_chunk, packets_of_act}
+use Rattle.dcsctp_machine_refinement.specs.Bursts.{flush_limit, packets_of, packets_of_chunk, packets_of_act}
 use Rattle.dcsctp_machine_refinement.specs.OneSocket.{KeepsBurst, TurnKeepsBurst, SocketsKeepBursts}
 use Rattle.dcsctp_machine_refinement.proofs.Bursts.{count, Few, none, one, allowed_after}
 use Rattle.dcsctp_machine_refinement.proofs.BurstShutdown.{step_few, shut_down_few, shutdown_few, shutdown_ack_few, shutdown_complete_few, t2_again_few, begin_few}
@@ -39,9 +38,9 @@ chunk_counts e tag (init theirs) o turn = subst (Few 1) (sym turn.2) (init_few e
 chunk_counts e tag (init_ack theirs cookie) o turn =
     subst (λ (x : Outcome). count x.events ≤ packets_of_chunk (init_ack theirs cookie) (allowed_after x)) (sym turn.3) (init_ack_counts e theirs cookie e.core turn.0 turn.1 turn.2)
 chunk_counts e tag (cookie_echo bytes) o turn =
-    subst (λ (x : Outcome). count x.events ≤ packets_of_chunk (cookie_echo bytes) (allowed_after x)) (sym turn.3) (echo_counts e e.core tag (cookie_at bytes) turn.0 turn.1 turn.2)
+    subst (λ (x : Outcome). count x.events ≤ packets_of_chunk (cookie_echo bytes) (allowed_after x)) (sym turn.3) (echo_counts e e.core tag (cookie_at bytes) turn.0 turn.1 refl turn.2)
 chunk_counts e tag cookie_ack o turn = subst (λ (x : Outcome). count x.events ≤ allowed_after x) (sym turn.2) (cookie_ack_is_burst e e.core turn.0 turn.1)
-chunk_counts e tag (re_config parameters) o turn = reset_behind e e.core parameters o turn
+chunk_counts e tag (re_config parameters) o turn = reset_behind e e.core parameters o refl turn
 chunk_counts e tag (abort reflected causes) o turn = subst (Few 0) (sym turn) (abort_few e causes e.core)
 chunk_counts e tag (shutdown tsn) o turn = subst (Few 1) (sym turn) (shutdown_few e e.core)
 chunk_counts e tag shutdown_ack o turn = subst (Few 1) (sym turn) (shutdown_ack_few e e.core tag)
@@ -93,7 +92,7 @@ again_few e reset o turn =
 act_counts : (e : Endpoint) (act : Act) (o : Outcome) → ActTurn e act o → count o.events ≤ packets_of_act e.core act (allowed_after o)
 act_counts e connect o turn = subst (Few 1) (sym turn.2) (connect_few e e.core turn.0 turn.1)
 act_counts e (t1_expires true) o turn =
-    subst (λ (x : Outcome). count x.events ≤ packets_of_act e.core (t1_expires true) (allowed_after x)) (sym turn.2) (again_counts (t1_goes_on e) e.core turn.0 turn.1)
+    subst (λ (x : Outcome). count x.events ≤ packets_of_act e.core (t1_expires true) (allowed_after x)) (sym turn.2) (again_counts (t1_goes_on e) e.core turn.0 refl turn.1)
 act_counts e (t1_expires false) o turn = subst (Few 0) (sym turn) (gives_up_few e e.core)
 act_counts e shut_down o turn = subst (Few 1) (sym turn) (shut_down_few e e.core)
 act_counts e step_of_shutdown o turn = subst (Few 1) (sym turn) (step_few e e.core)
@@ -109,7 +108,7 @@ act_counts e (request_again reset) o turn = again_few e reset o turn
 keeps_from : (e : Endpoint) (input : Input) (o : Outcome) → SameOptions e.options o.after.options → count o.events ≤ packets_of e.core input (allowed_after o) → KeepsBurst e input o
 keeps_from e input o same few =
     let burst : o.after.options.max_burst ≡ e.options.max_burst = ap (λ (p : Options). p.max_burst) same in
-    subst (λ (b : ℤ). count o.events ≤ packets_of e.core input (packets_allowed b o.after.core)) burst few
+    subst (λ (b : ℤ). count o.events ≤ packets_of e.core input (flush_limit b o.after.core)) burst few
 
 turn_counts : (e : Endpoint) (input : Input) (t : Turned) → IsTurn e input t → KeepsBurst e input t.outcome
 turn_counts e arrival t turn = subst (Few 0) (sym turn.comes) (none 0)

@@ -1,12 +1,21 @@
 -- How many packets one turn of a socket may send (RFC 9260, sections 5.1 and 6.1). In each table `flushed` is how many of them a
 -- flush may send; a row without it is of a turn without a flush.
-use Rattle.std.specs.Prelude.{ℕ, ◌+◌, max, true, false, None, Some}
+use Rattle.std.specs.Prelude.{ℕ, ℤ, ◌+◌, max, true, false, None, Some}
 use Rattle.dcsctp_wire.specs.Content.{data_chunk, sack_chunk, i_data_chunk, forward_tsn_chunk, i_forward_tsn_chunk}
 use Rattle.dcsctp_machine.specs.Packet.{Plain, unknown, heartbeat, heartbeat_ack, unworked, Content, init, init_ack, cookie_echo, cookie_ack, re_config, abort, shutdown, shutdown_ack, shutdown_complete, plain}
-use Rattle.dcsctp_machine.specs.Endpoint.{Core, cookie_wait, cookie_echoed}
+use Rattle.dcsctp_machine.specs.Endpoint.{Core, closed, cookie_wait, cookie_echoed}
 use Rattle.dcsctp_machine.specs.Turn.{Input, arrival, refusal, packet_begins, chunk_input, packet_ends, act_input, user_sets, user_sends, user_resets, user_takes, timer_expires, time_passes, restores}
 use Rattle.dcsctp_machine.specs.control.Acts.{Act, connect, t1_expires, shut_down, step_of_shutdown, shutdown_repeats, abort_with, hands_over, flushes, request_again}
+use Rattle.dcsctp_machine.specs.turns.FlushOutcomes.{packets_allowed}
 use Rattle.dcsctp_machine.specs.turns.OwnTimers.{OwnTimer, acknowledgement_delay, retransmission, heartbeat_interval, heartbeat_timeout, reconfiguration}
+
+-- ---- a flush
+
+-- As many as `max_burst` allows: none if it is 0 or below, and one while the COOKIE ECHO isn't answered. Without a peer none.
+abbrev pub flush_limit : ℤ → Core → ℕ
+flush_limit max_burst closed = 0
+flush_limit max_burst (cookie_wait my) = 0
+flush_limit max_burst core = packets_allowed max_burst core
 
 -- ---- chunks
 

@@ -17,12 +17,11 @@ use Rattle.dcsctp_machine.specs.Turn.{Input, chunk_input}
 use Rattle.dcsctp_machine.specs.CallTurns.{Turned, AlongTurns}
 use Rattle.dcsctp_machine.specs.Schedule.{call_step, advance_call, ActContent, step_act}
 use Rattle.dcsctp_machine.specs.TimeTurns.{Waits, MoveClock}
-use Rattle.dcsctp_machine.specs.turns.FlushOutcomes.{packets_allowed}
 use Rattle.dcsctp_machine.specs.Past.{Has, Each, InPlace}
 use Rattle.dcsctp_machine.specs.Sockets.{Worked, Both, of_side, turns_after, endpoint_after, packets_shown, side_of_act, SocketRun}
 use Rattle.dcsctp_machine_agreement.specs.OneSide.{IsSuccess, IsRefusal, HasResponse, parameters_in}
 use Rattle.dcsctp_machine_refinement.specs.Agreement.{AreUsable, noted_past}
-use Rattle.dcsctp_machine_refinement.specs.Bursts.{packets_of}
+use Rattle.dcsctp_machine_refinement.specs.Bursts.{flush_limit, packets_of}
 
 -- Each effect of a socket's turns is in its order (RFC 6525, section 4.1). In one lifetime an association connects at most once,
 -- and its own requests go up by one, one at a time. So do the peer's accepted ones, and each of these is performed at most once.
@@ -80,10 +79,10 @@ SocketsKeepSizes =
 
 -- ---- flushes
 
--- A turn sends no more packets than its input allows, where a flush sends at most as many as `max_burst` allows: none if that is 0
--- or below, and one while the COOKIE ECHO isn't answered. The association of the flush is the one that the turn leads to.
+-- A turn sends no more packets than its input allows. How many of them a flush may send is a matter of `max_burst`, and of the
+-- association that the turn leads to.
 abbrev pub KeepsBurst : Endpoint → Input → Outcome → Type 0
-KeepsBurst e input o = length (packets_in o.events) ≤ packets_of e.core input (packets_allowed e.options.max_burst o.after.core)
+KeepsBurst e input o = length (packets_in o.events) ≤ packets_of e.core input (flush_limit e.options.max_burst o.after.core)
 
 abbrev pub TurnKeepsBurst : Endpoint → Turned → Type 0
 TurnKeepsBurst e turn = KeepsBurst e turn.input turn.outcome
