@@ -140,14 +140,9 @@ agree_now law agree options run are runs tags honest =
       b_performed = resets options.b options.a world.b world.a (turns_after run).b (turns_after run).a h.b h.a both.b.performed;
     }
 
--- No tag was drawn twice before a step, where none is after it.
-fresh_before : (side : Side) (more : List Turned) (turns : Both (List Turned)) → AreFresh (with_turns side more turns) → AreFresh turns
-fresh_before sides.A more turns h = record { a = distinct_front (pairs_of turns.a) (pairs_of more) (subst HasDistinctTags (pairs_of-append turns.a more) h.a); b = h.b }
-fresh_before sides.B more turns h = record { a = h.a; b = distinct_front (pairs_of turns.b) (pairs_of more) (subst HasDistinctTags (pairs_of-append turns.b more) h.b) }
-
 pub sockets_agree : Below → SidesAgree → SocketsAgree
-sockets_agree law agree options [] are runs tags = agree_now law agree options [] are runs tags tt
-sockets_agree law agree options (worked ∷ earlier) are runs tags = (
-  (λ honest. agree_now law agree options (worked ∷ earlier) are runs tags honest),
-  sockets_agree law agree options earlier are runs.1 (fresh_before (side_of_act worked.act) worked.turns (turns_after earlier) tags),
+sockets_agree law agree options [] are runs = agree_now law agree options [] are runs (record { a = tt; b = tt }) tt
+sockets_agree law agree options (worked ∷ earlier) are runs = (
+  (λ honest fresh. agree_now law agree options (worked ∷ earlier) are runs fresh honest),
+  sockets_agree law agree options earlier are runs.1,
 )
