@@ -6,17 +6,15 @@ use Rattle.dcsctp_machine.specs.declared.schedule.Side.{Side}
 use Rattle.dcsctp_machine.specs.declared.schedule.Side.TheVariants as sides
 use Rattle.dcsctp_machine.specs.Settings.{IsValid, FitsOptions}
 use Rattle.dcsctp_machine.specs.Offer.{offer_of, negotiated}
-use Rattle.dcsctp_machine.specs.CallTurns.{Turned, pairs_of}
+use Rattle.dcsctp_machine.specs.CallTurns.{Turned}
 use Rattle.dcsctp_machine.specs.control.Effect.{Link, Effect, noted}
 use Rattle.dcsctp_machine.specs.Past.{Each}
 use Rattle.dcsctp_machine.specs.World as machine
 use Rattle.dcsctp_machine.specs.World.{SideState, fresh_side, at_a, at_b, world_after, Run, Moved, MovesMade, after_moves, with_moves}
 use Rattle.dcsctp_machine.specs.Sockets.{Worked, Both, side_of, of_side, of_other, with_turns, turns_after, endpoint_after, packets_shown, StepTurns, SocketRun, side_of_act, NextTurns, acts_of}
-use Rattle.dcsctp_machine.proofs.TurnLemmas.{pairs_of-append}
 use Rattle.dcsctp_machine_agreement.specs.Agreement.{FindsCrossed, FindsPerformed, BothAgree, SidesAgree}
-use Rattle.dcsctp_machine_refinement.specs.Agreement.{noted_past, HasDistinctTags, FindsHeld, Agree, AreUsable, AreFresh, SocketsAgree}
+use Rattle.dcsctp_machine_refinement.specs.Agreement.{noted_past, FindsHeld, Agree, AreUsable, AreFresh, SocketsAgree}
 use Rattle.dcsctp_machine_refinement.proofs.Follow.{Followed, each_connected_map}
-use Rattle.dcsctp_machine_refinement.proofs.Fresh.{distinct_front}
 use Rattle.dcsctp_machine_refinement.proofs.NotedLemmas.{performed-noted}
 use Rattle.dcsctp_machine_refinement.proofs.Moves.{Below, SideMoves}
 use Rattle.dcsctp_machine_refinement.proofs.StepMoves.{step_moves}
