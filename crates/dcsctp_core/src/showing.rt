@@ -4,6 +4,7 @@ ghost use Rattle.std.specs.Prelude.{◌≡◌, Some};
 ghost use Rattle.dcsctp_machine.specs.declared.association.Held.{Held};
 ghost use Rattle.dcsctp_machine.specs.Endpoint.{established, held_in};
 ghost use Rattle.dcsctp_machine.specs.Handover.{readiness_of, readiness_open};
+ghost use Rattle.dcsctp_machine.specs.Soundness.{IsSoundBelow};
 ghost use Rattle.dcsctp_machine.specs.transfer.Incoming.{AreInOrder};
 ghost use Rattle.dcsctp_api.specs.Messages.{incoming_streams};
 ghost use Rattle.dcsctp_api.specs.Metrics.{ShowsMetrics};
@@ -42,14 +43,13 @@ impl<R> Context<R> {
         ensures reasons { (held : Held) → held_in (endpoint_of self.now).core ≡ Some held
             → result.0 ≡ readiness_open (endpoint_of self.now) established held }
         ensures streams { AreInOrder (incoming_streams (endpoint_of self.now)) }
+        ensures below { IsSoundBelow (endpoint_of self.now).below }
     {
         let with_data = self.options.enable_handover_with_outstanding_data;
+        let of_queue = self.send_queue.get_handover_readiness(with_data);
         match self.state.tcb() {
             None => HandoverReadiness::READY,
-            Some(tcb) => {
-                self.send_queue.get_handover_readiness(with_data)
-                    | tcb.get_handover_readiness(with_data)
-            }
+            Some(tcb) => of_queue | tcb.get_handover_readiness(with_data),
         }
     }
 
@@ -57,6 +57,7 @@ impl<R> Context<R> {
     pub fn get_handover_readiness(&self) -> HandoverReadiness
         ensures reasons { result.0 ≡ readiness_of (endpoint_of self.now) }
         ensures streams { AreInOrder (incoming_streams (endpoint_of self.now)) }
+        ensures below { IsSoundBelow (endpoint_of self.now).below }
     {
         let of_parts = self.readiness_of_parts();
         match &self.state {

@@ -3,7 +3,7 @@
 ghost use Rattle.std.specs.Prelude.{◌≡◌, ◌==◌, Some, bit_or, is_some, IfOk};
 ghost use Rattle.dcsctp_machine.specs.Readiness.{reason_where, pending_stream_reset_request};
 ghost use Rattle.dcsctp_machine.specs.Settings.{IsValid};
-ghost use Rattle.dcsctp_machine.specs.transfer.Incoming.{AreInOrder};
+ghost use Rattle.dcsctp_machine.specs.Soundness.{IsSoundTransfer};
 ghost use Rattle.dcsctp_machine.specs.transfer.Readiness.{transfer_readiness};
 ghost use Rattle.dcsctp_core.specs.View.{held_of, number_of, IsNew};
 ghost use Rattle.dcsctp_core.specs.Flushing.{empty_packet};
@@ -137,7 +137,7 @@ impl TransmissionControlBlock {
     pub fn get_handover_readiness(&self, with_outstanding_data: bool) -> HandoverReadiness
         ensures reasons { result.0 ≡ bit_or (reason_where (is_some self.now.reset_request) pending_stream_reset_request)
             (transfer_readiness with_outstanding_data self.now.transfer) }
-        ensures streams { AreInOrder self.now.transfer.reassembly.incoming.streams }
+        ensures sound { IsSoundTransfer self.now.transfer }
     {
         HandoverReadiness::PENDING_STREAM_RESET_REQUEST & self.reset_request.is_some()
             | self.transfer.get_handover_readiness(with_outstanding_data)

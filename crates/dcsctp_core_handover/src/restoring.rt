@@ -68,6 +68,7 @@ fn restored_association(
     now: SocketTime,
     state: &SocketHandoverState,
 ) -> Result<TransmissionControlBlock, AllocError>
+    requires { is_valid_send_part (snapshot state.now).tx ≡ true }
     ensures { IfOk result (IsRestored options.now now (snapshot state.now)) }
 {
     let peer = Peer {
