@@ -22,5 +22,5 @@ returns-clause-call g c =
 pub invariant_of-self : goal.invariant_of-self
 invariant_of-self g c = λ goes_on.
     close_sound c.calls_keep_soundness.ensures g.R.Rng.stream c.self.inside.context.value c.close-outcome.new.context c.self.inside.failed c.settled.new.failed (c.self.invariant c.if-self.false) goes_on
-    c.close-outcome.result c.settled.result 
+    c.close-outcome.result c.settled.result
     (subst (λ (x : Context g.row.R.Denot). WorksCall g.R.Rng.stream (ActTurns (abort_with CloseCalled)) x c.close-outcome.result c.close-outcome.new.context) c.deref_mut.ensures.value c.close-outcome.ensures.turn) c.settled.ensures

@@ -20,5 +20,5 @@ returns-clause-call g c =
 pub invariant_of-self : goal.invariant_of-self
 invariant_of-self g c = λ goes_on.
     connect_sound c.calls_keep_soundness.ensures g.R.Rng.stream c.self.inside.context.value c.connect-outcome.new.context c.self.inside.failed c.settled.new.failed (c.self.invariant c.if-self.false) goes_on
-    c.connect-outcome.result c.settled.result 
+    c.connect-outcome.result c.settled.result
     (subst (λ (x : Context g.row.R.Denot). WorksConnect g.R.Rng.stream x c.connect-outcome.result c.connect-outcome.new.context) c.deref_mut.ensures.value c.connect-outcome.ensures.turn) c.settled.ensures

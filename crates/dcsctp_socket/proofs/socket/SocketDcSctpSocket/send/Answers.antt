@@ -21,5 +21,5 @@ returns-clause-call g c =
 pub invariant_of-self : goal.invariant_of-self
 invariant_of-self g c = λ goes_on.
     send_sound c.calls_keep_soundness.ensures g.R.Rng.stream c.self.inside.context.value c.send-outcome.new.context c.self.inside.failed c.settled.new.failed (c.self.invariant c.if-self.false) goes_on
-    (message_content c.args.message) c.args.options.now c.send-outcome.result c.settled.result 
+    (message_content c.args.message) c.args.options.now c.send-outcome.result c.settled.result
     (subst (λ (x : Context g.row.R.Denot). WorksSend g.R.Rng.stream (message_content c.args.message) c.args.options.now x c.send-outcome.result c.send-outcome.new.context) c.deref_mut.ensures.value c.send-outcome.ensures) c.settled.ensures

@@ -21,5 +21,5 @@ returns-clause-call g c =
 pub invariant_of-self : goal.invariant_of-self
 invariant_of-self g c = λ goes_on.
     send_many_sound c.calls_keep_soundness.ensures g.R.Rng.stream c.self.inside.context.value c.send_many-outcome.new.context c.self.inside.failed c.settled.new.failed (c.self.invariant c.if-self.false) goes_on
-    (map message_content c.args.messages.items) c.args.options.now c.send_many-outcome.result c.settled.result 
+    (map message_content c.args.messages.items) c.args.options.now c.send_many-outcome.result c.settled.result
     (subst (λ (x : Context g.row.R.Denot). WorksSendMany g.R.Rng.stream (map message_content c.args.messages.items) c.args.options.now x c.send_many-outcome.result c.send_many-outcome.new.context) c.deref_mut.ensures.value c.send_many-outcome.ensures) c.settled.ensures
