@@ -36,6 +36,7 @@ mod SizesChunks
 mod SizesData
 mod SizesShutdown
 mod SizesTurns
+pub mod SnapshotsBack
 mod SocketsAgree
 mod SocketsAlone
 mod TurnsFit
