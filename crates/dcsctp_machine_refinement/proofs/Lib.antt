@@ -18,11 +18,13 @@ mod HandshakeTurns
 mod Idle
 mod IdleTurns
 mod Moves
+mod OpenStreams
 mod PacketMoves
 mod PlainFits
 mod Quiet
 mod RequestAgain
 mod Resets
+pub mod RestoredFlush
 mod RestoreTurns
 mod Sendable
 mod ShutdownFits
@@ -34,6 +36,7 @@ mod SizesChunks
 mod SizesData
 mod SizesShutdown
 mod SizesTurns
+pub mod SnapshotsBack
 mod SocketsAgree
 mod SocketsAlone
 mod TurnsFit

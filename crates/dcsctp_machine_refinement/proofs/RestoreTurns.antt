@@ -4,7 +4,7 @@ use Rattle.dcsctp_machine.specs.Endpoint.{Endpoint}
 use Rattle.dcsctp_machine.specs.Outcome.{Outcome}
 use Rattle.dcsctp_machine.specs.Snapshot.{Snapshot}
 use Rattle.dcsctp_machine.specs.World.{ControlTurn, resumed}
-use Rattle.dcsctp_machine.specs.turns.RestoreOutcomes.{own_pair, peer_pair, capabilities_restored, restored_outcome, RestoreTurn}
+use Rattle.dcsctp_machine.specs.turns.RestoreOutcomes.{own_pair, peer_pair, capabilities_restored, RestoreTurn}
 use Rattle.dcsctp_machine.proofs.ControlRestores.{resumed_by, Resumes, restore_stands}
 use Rattle.dcsctp_machine_refinement.proofs.Sizes.{AtLimit, TurnSizes}
 use Rattle.dcsctp_machine_refinement.proofs.T1Turns.{Up, UpAfter}

@@ -5,6 +5,7 @@ ghost use Rattle.dcsctp_machine_refinement.specs.Deadlines.{SocketsRunT1};
 ghost use Rattle.dcsctp_machine_refinement.specs.Handshake.{FittingSocketsConnect};
 ghost use Rattle.dcsctp_machine_refinement.specs.Laws.{SocketLaws};
 ghost use Rattle.dcsctp_machine_refinement.specs.OneSocket.{SocketEffectsInPlace, SocketRequestsEndByAnswers, SocketsTellEnds, SocketsKeepSizes, SocketsKeepBursts, SocketsWaitQuietly};
+ghost use Rattle.dcsctp_machine_refinement.specs.Restores.{SnapshotsBringBack, RestoredSocketsBeginNothing};
 
 use dcsctp_machine::{
     acts_are_controlled, admitted_packets_may_be_worked, answer_keeps_agreement,
@@ -98,6 +99,18 @@ pub fn sockets_wait_quietly()
 {
     time_passes_quietly();
 }
+
+/// The snapshot of an established socket brings back both pairs, what both ends support, the numbers of
+/// requests to reset streams, and the tie tag.
+pub fn snapshots_bring_back()
+    ensures { SnapshotsBringBack }
+{}
+
+/// A socket that is restored begins no request to reset streams by itself: its next number is that of the
+/// snapshot (RFC 6525, section 4.1).
+pub fn restored_sockets_begin_nothing()
+    ensures { RestoredSocketsBeginNothing }
+{}
 
 /// All that holds of the sockets of a run: the theorems above, and that each flush keeps its limits.
 pub fn socket_laws()
