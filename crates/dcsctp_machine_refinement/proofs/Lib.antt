@@ -40,6 +40,7 @@ mod TurnsFit
 pub mod NotedLemmas
 pub mod OneSocket
 pub mod RunFacts
+mod TellingEffects
 mod TellingEnds
 pub mod TimeMoves
 pub mod T1Lemmas

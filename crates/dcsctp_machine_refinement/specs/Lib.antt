@@ -2,4 +2,5 @@ pub mod Agreement
 pub mod Handshake
 pub mod Laws
 pub mod OneSocket
+pub mod Telling
 pub mod Deadlines
