@@ -18,6 +18,8 @@ mod HandshakeTurns
 mod Idle
 mod IdleTurns
 mod Moves
+mod NoHolding
+mod NotingAnew
 mod PacketMoves
 mod PlainFits
 mod Quiet
@@ -42,6 +44,7 @@ pub mod OneSocket
 pub mod RunFacts
 mod TellingEffects
 mod TellingEnds
+pub mod TellingFacts
 pub mod TimeMoves
 pub mod T1Lemmas
 mod T1Turns

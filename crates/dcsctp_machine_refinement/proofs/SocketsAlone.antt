@@ -42,7 +42,7 @@ pub data Moves (e : Endpoint) (o : Outcome) : Type 0 where
   it_moves : (change : Change) → ControlTurn e.options e.core change → IsControlled e o change → Moves e o
 
 -- a turn of a socket with usable options
-abbrev pub MovesAlone : Endpoint → Turned → Type 0
+abbrev MovesAlone : Endpoint → Turned → Type 0
 MovesAlone e t = IsValid e.options → Moves e t.outcome
 
 rests_as : (e : Endpoint) (t : Turned) (o : Outcome) → t.outcome ≡ o → o.after.core ≡ e.core → SameOptions e.options o.after.options → o.effects ≡ []
@@ -74,7 +74,7 @@ pub record MoveLaws : Type 0 where
   pub chunks : ChunksAreControlled
   pub acts : ActsAreControlled
 
-pub turn_moves : MoveLaws → (e : Endpoint) (input : Input) (t : Turned) → IsTurn e input t → MovesAlone e t
+turn_moves : MoveLaws → (e : Endpoint) (input : Input) (t : Turned) → IsTurn e input t → MovesAlone e t
 turn_moves law e arrival t h valid = rests_as e t _ h.comes refl refl refl refl
 turn_moves law e (refusal text) t h valid = rests_as e t _ h.comes refl refl refl refl
 turn_moves law e (packet_begins contents) t h valid =
@@ -128,7 +128,7 @@ pub record RunsOn (options : Options) (turns : List Turned) (e : Endpoint) (befo
 behind : (turns : List Turned) (t : Turned) (before : List Effect) → after_effects (effects_of turns) (after_effects t.outcome.effects before) ≡ after_effects (effects_of (t ∷ turns)) before
 behind turns t before = sym (after_both t.outcome.effects (effects_of turns) before)
 
-pub still_valid : (p q : Options) → IsValid p → SameOptions p q → IsValid q
+still_valid : (p q : Options) → IsValid p → SameOptions p q → IsValid q
 still_valid p q valid same =
     subst IsValid (sym same) (record { least_size = valid.least_size; greatest_size = valid.greatest_size; receive_window = valid.receive_window; send_buffer = valid.send_buffer })
 
@@ -167,6 +167,25 @@ runs_on : (options : Options) (turns : List Turned) (e : Endpoint) → IsValid o
 runs_on options [] e valid along steps own is run = record { steps = steps; is_run = run; past = refl; core = is }
 runs_on options (t ∷ turns) e valid along steps own is run =
     next_on options turns e t (λ more same core runs. runs_on options turns t.outcome.after valid along.1 more same core runs) (along.0 (still_valid options e.options valid own)) steps own is run
+
+-- ---- each turn of a run
+
+same_options : (e : Endpoint) (o : Outcome) → Moves e o → SameOptions e.options o.after.options
+same_options e o (it_rests core options effects told) = options
+same_options e o (it_moves change turn is) = is.options
+
+along_moves : (Good : Endpoint → Turned → Type 0) → ((e : Endpoint) (t : Turned) → Moves e t.outcome → Good e t) → (e : Endpoint) (turns : List Turned) → IsValid e.options
+    → AlongTurns MovesAlone e turns → AlongTurns Good e turns
+along_moves Good good e [] valid along = tt
+along_moves Good good e (t ∷ turns) valid along =
+    let moves : Moves e t.outcome = along.0 valid in
+    (good e t moves, along_moves Good good t.outcome.after turns (still_valid e.options t.outcome.after.options valid (same_options e t.outcome moves)) along.1)
+
+-- What holds of a turn that moves the association so holds of each turn of a run.
+pub of_moves : MoveLaws → (Good : Endpoint → Turned → Type 0) → ((e : Endpoint) (t : Turned) → Moves e t.outcome → Good e t) → (options : Both Options) (run : List Worked)
+    → AreUsable options → SocketRun options run → (side : Side) → AlongTurns Good (fresh_endpoint (of_side side options)) (of_side side (turns_after run))
+of_moves law Good good options run are runs side =
+    along_moves Good good (fresh_endpoint (of_side side options)) (of_side side (turns_after run)) (are side).valid (run_along MovesAlone (turn_moves law) options run runs side)
 
 -- ---- a run
 

@@ -1,25 +1,22 @@
 -- What a socket tells is what its turns noted, and its association is the one that they noted.
 use Rattle.std.proofs.Common.{◌≡◌, List, [], ◌∷◌, refl, sym, subst, ap, ◌∙◌}
-use Rattle.std.specs.List.{AllByRecursion}
 use Rattle.dcsctp_machine.specs.declared.association.Pair.{Pair}
 use Rattle.dcsctp_machine.specs.declared.association.Held.{Held}
 use Rattle.dcsctp_machine.specs.declared.options.Options.{Options}
-use Rattle.dcsctp_machine.specs.Settings.{IsValid, SameOptions}
 use Rattle.dcsctp_machine.specs.Event.{Event, sent, connected, closed, connection_restarted, aborted, error, buffered_amount_low, total_buffered_amount_low, streams_reset_failed, streams_reset_performed, incoming_stream_reset, lifecycle_message_fully_sent, lifecycle_message_maybe_expired, lifecycle_message_expired, lifecycle_message_delivered, lifecycle_end}
 use Rattle.dcsctp_machine.specs.Packet.{Emission}
 use Rattle.dcsctp_machine.specs.Endpoint.{Endpoint, Core, cookie_wait, cookie_echoed, open_in, fresh_endpoint}
 use Rattle.dcsctp_machine.specs.Endpoint as machine
-use Rattle.dcsctp_machine.specs.Outcome.{Outcome}
-use Rattle.dcsctp_machine.specs.control.Effect.{Effect, draws, sends, holds, connects, ends, begins, completes, fails, accepts, performs, resumes, noted, Change}
-use Rattle.dcsctp_machine.specs.Controlled.{Sign, packet_sent, has_connected, has_ended, own_reset_performed, own_reset_failed, peer_reset_performed, signs_of_events, signs_of_effects, IsControlled}
-use Rattle.dcsctp_machine.specs.CallTurns.{Turned, AlongTurns, after_all}
+use Rattle.dcsctp_machine.specs.control.Effect.{Effect, draws, sends, holds, connects, ends, begins, completes, fails, accepts, performs, resumes, noted}
+use Rattle.dcsctp_machine.specs.Controlled.{Sign, packet_sent, has_connected, has_ended, own_reset_performed, own_reset_failed, peer_reset_performed, signs_of_events, signs_of_effects}
+use Rattle.dcsctp_machine.specs.CallTurns.{Turned, after_all}
 use Rattle.dcsctp_machine.specs.World.{side_after}
 use Rattle.dcsctp_machine.specs.Sockets.{of_side, turns_after}
-use Rattle.dcsctp_machine.proofs.AlongLemmas.{run_along}
 use Rattle.dcsctp_machine_agreement.specs.OneSide.{LeavesHeld, Leaves, PastIsState}
 use Rattle.dcsctp_machine_refinement.specs.Telling.{told_signs, TellsNoted, SocketsTellEffects, SocketsHoldNoted}
 use Rattle.dcsctp_machine_refinement.proofs.NotedLemmas.{current-noted, number_to_begin-noted, outstanding-noted, number_to_accept-noted}
-use Rattle.dcsctp_machine_refinement.proofs.SocketsAlone.{Moves, it_rests, it_moves, MovesAlone, MoveLaws, turn_moves, still_valid, RunsOn, runs_alone}
+use Rattle.dcsctp_machine_refinement.proofs.OneSocket.{all_along}
+use Rattle.dcsctp_machine_refinement.proofs.SocketsAlone.{Moves, it_rests, it_moves, MoveLaws, of_moves, RunsOn, runs_alone}
 
 -- ---- signs without packets
 
@@ -74,19 +71,10 @@ tells_noted e t (it_rests core options effects told) = told ∙ ap signs_of_effe
 tells_noted e t (it_moves change turn is) =
     told_without t.outcome.events ∙ ap without_packets is.signs ∙ sym (noted_without change.effects) ∙ ap signs_of_effects (sym is.effects)
 
-same_options : (e : Endpoint) (o : Outcome) → Moves e o → SameOptions e.options o.after.options
-same_options e o (it_rests core options effects told) = options
-same_options e o (it_moves change turn is) = is.options
-
-all_tell : (e : Endpoint) (turns : List Turned) → IsValid e.options → AlongTurns MovesAlone e turns → AllByRecursion TellsNoted turns
-all_tell e [] valid along = tt
-all_tell e (t ∷ turns) valid along =
-    let moves : Moves e t.outcome = along.0 valid in
-    (tells_noted e t moves, all_tell t.outcome.after turns (still_valid e.options t.outcome.after.options valid (same_options e t.outcome moves)) along.1)
-
 pub effects_are_told : MoveLaws → SocketsTellEffects
 effects_are_told law options run are runs side =
-    all_tell (fresh_endpoint (of_side side options)) (of_side side (turns_after run)) (are side).valid (run_along MovesAlone (turn_moves law) options run runs side)
+    all_along TellsNoted (fresh_endpoint (of_side side options)) (of_side side (turns_after run))
+    (of_moves law (λ (x : Endpoint). TellsNoted) tells_noted options run are runs side)
 
 -- ---- the association
 

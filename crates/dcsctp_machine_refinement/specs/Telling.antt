@@ -1,13 +1,15 @@
 -- What a socket tells its user of its association is what its turns noted, and its association is the one that they noted. So
 -- what holds of the notes holds of what the user sees.
-use Rattle.std.specs.Prelude.{◌≡◌, List, [], ◌∷◌}
+use Rattle.std.specs.Prelude.{◌≡◌, ◌≢◌, Some, List, [], ◌∷◌}
 use Rattle.std.specs.List.{AllByRecursion}
 use Rattle.dcsctp_machine.specs.declared.options.Options.{Options}
 use Rattle.dcsctp_machine.specs.declared.schedule.Side.{Side}
 use Rattle.dcsctp_machine.specs.Event.{Event, connected, closed, aborted, streams_reset_failed, streams_reset_performed, incoming_stream_reset}
-use Rattle.dcsctp_machine.specs.Endpoint.{Endpoint}
+use Rattle.dcsctp_machine.specs.Endpoint.{Endpoint, fresh_endpoint}
+use Rattle.dcsctp_machine.specs.control.Effect.{Link, holds, link_in}
 use Rattle.dcsctp_machine.specs.Controlled.{Sign, has_connected, has_ended, own_reset_performed, own_reset_failed, peer_reset_performed, signs_of_effects}
-use Rattle.dcsctp_machine.specs.CallTurns.{Turned}
+use Rattle.dcsctp_machine.specs.CallTurns.{Turned, AlongTurns}
+use Rattle.dcsctp_machine.specs.Past.{Has}
 use Rattle.dcsctp_machine.specs.Sockets.{Worked, Both, of_side, turns_after, endpoint_after, SocketRun}
 use Rattle.dcsctp_machine_agreement.specs.OneSide.{Leaves}
 use Rattle.dcsctp_machine_refinement.specs.Agreement.{AreUsable, noted_past}
@@ -42,3 +44,12 @@ abbrev pub SocketsHoldNoted : Type 0
 SocketsHoldNoted =
     (options : Both Options) (run : List Worked) → AreUsable options → SocketRun options run → (side : Side)
     → HoldsNoted (of_side side (turns_after run)) (endpoint_after (of_side side options) (of_side side (turns_after run)))
+
+-- The turn notes an association that a handshake made only where it is another than before, or where there was none.
+abbrev pub NotesAnew : Endpoint → Turned → Type 0
+NotesAnew e turn = (link : Link) → Has (holds link) turn.outcome.effects → link_in e.core ≢ Some link
+
+abbrev pub SocketsNoteAnew : Type 0
+SocketsNoteAnew =
+    (options : Both Options) (run : List Worked) → AreUsable options → SocketRun options run → (side : Side)
+    → AlongTurns NotesAnew (fresh_endpoint (of_side side options)) (of_side side (turns_after run))

@@ -5,7 +5,7 @@ ghost use Rattle.dcsctp_machine_refinement.specs.Deadlines.{SocketsRunT1};
 ghost use Rattle.dcsctp_machine_refinement.specs.Handshake.{FittingSocketsConnect};
 ghost use Rattle.dcsctp_machine_refinement.specs.Laws.{SocketLaws};
 ghost use Rattle.dcsctp_machine_refinement.specs.OneSocket.{SocketEffectsInPlace, SocketRequestsEndByAnswers, SocketsTellEnds, SocketsKeepSizes, SocketsKeepBursts, SocketsWaitQuietly};
-ghost use Rattle.dcsctp_machine_refinement.specs.Telling.{SocketsTellEffects, SocketsHoldNoted};
+ghost use Rattle.dcsctp_machine_refinement.specs.Telling.{SocketsTellEffects, SocketsHoldNoted, SocketsNoteAnew};
 
 use dcsctp_machine::{
     acts_are_controlled, admitted_packets_may_be_worked, answer_keeps_agreement,
@@ -92,6 +92,15 @@ pub fn sockets_hold_noted()
     acts_are_controlled();
 }
 
+/// A turn of a socket notes an association that a handshake made only where it is another than before, or
+/// where there was none.
+pub fn sockets_note_anew()
+    ensures { SocketsNoteAnew }
+{
+    chunks_are_controlled();
+    acts_are_controlled();
+}
+
 /// At each socket of a run that awaits an INIT ACK or a COOKIE ACK, T1 runs (RFC 9260, section 5.1). So it
 /// has a next deadline, whatever is lost and whatever bytes it was handed.
 pub fn sockets_run_t1()
@@ -129,6 +138,7 @@ pub fn socket_laws()
     sockets_tell_ends();
     sockets_tell_effects();
     sockets_hold_noted();
+    sockets_note_anew();
     sockets_run_t1();
     sockets_keep_sizes();
     sockets_keep_bursts();

@@ -39,6 +39,7 @@ world_agrees law options world h =
       numbers = λ side. law.numbers options h.steps h.usable h.run side;
       told = λ side. law.told options h.steps h.usable h.run side;
       held = λ side. subst (HoldsNoted (of_side side (turns_after h.steps))) (sym (h.sides side).endpoint) (law.held options h.steps h.usable h.run side);
+      anew = λ side. law.anew options h.steps h.usable h.run side;
       answers = λ side. law.answers options h.steps h.run side;
       ends = λ side. law.ends options h.steps h.run side;
       t1 = λ side. subst RunsT1 (sym (h.sides side).endpoint) (law.t1 options h.steps h.usable h.run side);

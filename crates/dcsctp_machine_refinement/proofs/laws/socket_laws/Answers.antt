@@ -10,6 +10,7 @@ returns c =
       ends = c.sockets_tell_ends.ensures;
       told = c.sockets_tell_effects.ensures;
       held = c.sockets_hold_noted.ensures;
+      anew = c.sockets_note_anew.ensures;
       t1 = c.sockets_run_t1.ensures;
       sizes = c.sockets_keep_sizes.ensures;
       bursts = c.sockets_keep_bursts.ensures;
