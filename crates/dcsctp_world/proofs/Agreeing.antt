@@ -47,7 +47,7 @@ world_agrees law options world h =
       bursts = λ side. law.bursts options h.steps h.run side;
       flushes = law.flushes;
       quiet = law.quiet options h.steps h.run;
-      agree = λ a b. law.agree options h.steps h.usable h.run (record { a = subst HasDistinctTags (h.sides sides.A).pairs a; b = subst HasDistinctTags (h.sides sides.B).pairs b });
+      agree = law.agree options h.steps h.usable h.run;
     }
 
 -- ---- the handshake
