@@ -19,6 +19,8 @@ mod Idle
 mod IdleTurns
 mod Moves
 mod OpenStreams
+mod NoHolding
+mod NotingAnew
 mod PacketMoves
 mod PlainFits
 mod Quiet
@@ -43,7 +45,9 @@ mod TurnsFit
 pub mod NotedLemmas
 pub mod OneSocket
 pub mod RunFacts
+mod TellingEffects
 mod TellingEnds
+pub mod TellingFacts
 pub mod TimeMoves
 pub mod T1Lemmas
 mod T1Turns
