@@ -1,6 +1,11 @@
 mod Aborting
 mod ActMoves
 mod BegunSends
+mod BurstChunks
+mod BurstData
+mod BurstHandshake
+mod BurstShutdown
+mod BurstTurns
 pub mod Bursts
 mod Bytes
 mod DataFits

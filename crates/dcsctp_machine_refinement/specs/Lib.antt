@@ -1,4 +1,5 @@
 pub mod Agreement
+pub mod Bursts
 pub mod Handshake
 pub mod Laws
 pub mod OneSocket
