@@ -23,11 +23,15 @@ mod HandshakeTurns
 mod Idle
 mod IdleTurns
 mod Moves
+mod OpenStreams
+mod NoHolding
+mod NotingAnew
 mod PacketMoves
 mod PlainFits
 mod Quiet
 mod RequestAgain
 mod Resets
+pub mod RestoredFlush
 mod RestoreTurns
 mod Sendable
 mod ShutdownFits
@@ -39,13 +43,16 @@ mod SizesChunks
 mod SizesData
 mod SizesShutdown
 mod SizesTurns
+pub mod SnapshotsBack
 mod SocketsAgree
 mod SocketsAlone
 mod TurnsFit
 pub mod NotedLemmas
 pub mod OneSocket
 pub mod RunFacts
+mod TellingEffects
 mod TellingEnds
+pub mod TellingFacts
 pub mod TimeMoves
 pub mod T1Lemmas
 mod T1Turns

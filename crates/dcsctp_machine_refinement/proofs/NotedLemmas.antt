@@ -7,7 +7,7 @@ use Rattle.dcsctp_machine_agreement.specs.Agreement.{FindsPerformed}
 
 -- ---- each thing that the past leaves
 
-current-noted : (past : List Effect) → current (noted past) ≡ current past
+pub current-noted : (past : List Effect) → current (noted past) ≡ current past
 current-noted [] = refl
 current-noted (draws pair ∷ past) = current-noted past
 current-noted (sends packet ∷ past) = current-noted past
@@ -35,7 +35,7 @@ unconnected-noted (accepts number ∷ past) = unconnected-noted past
 unconnected-noted (performs peer number ∷ past) = unconnected-noted past
 unconnected-noted (resumes link own last ∷ past) = refl
 
-number_to_begin-noted : (past : List Effect) → number_to_begin (noted past) ≡ number_to_begin past
+pub number_to_begin-noted : (past : List Effect) → number_to_begin (noted past) ≡ number_to_begin past
 number_to_begin-noted [] = refl
 number_to_begin-noted (draws pair ∷ past) = number_to_begin-noted past
 number_to_begin-noted (sends packet ∷ past) = number_to_begin-noted past
@@ -49,7 +49,7 @@ number_to_begin-noted (accepts number ∷ past) = number_to_begin-noted past
 number_to_begin-noted (performs peer number ∷ past) = number_to_begin-noted past
 number_to_begin-noted (resumes link own last ∷ past) = refl
 
-outstanding-noted : (past : List Effect) → outstanding (noted past) ≡ outstanding past
+pub outstanding-noted : (past : List Effect) → outstanding (noted past) ≡ outstanding past
 outstanding-noted [] = refl
 outstanding-noted (draws pair ∷ past) = outstanding-noted past
 outstanding-noted (sends packet ∷ past) = outstanding-noted past
@@ -63,7 +63,7 @@ outstanding-noted (accepts number ∷ past) = outstanding-noted past
 outstanding-noted (performs peer number ∷ past) = outstanding-noted past
 outstanding-noted (resumes link own last ∷ past) = refl
 
-number_to_accept-noted : (past : List Effect) → number_to_accept (noted past) ≡ number_to_accept past
+pub number_to_accept-noted : (past : List Effect) → number_to_accept (noted past) ≡ number_to_accept past
 number_to_accept-noted [] = refl
 number_to_accept-noted (draws pair ∷ past) = number_to_accept-noted past
 number_to_accept-noted (sends packet ∷ past) = number_to_accept-noted past

@@ -36,7 +36,7 @@ use Rattle.dcsctp_machine_refinement.specs.OneSocket.{EndsByAnswer, SocketReques
 -- ---- one turn
 
 -- what is noted happened
-noted_happened : (effect : Effect) (effects : List Effect) → Has effect (noted effects) → Has effect effects
+pub noted_happened : (effect : Effect) (effects : List Effect) → Has effect (noted effects) → Has effect effects
 noted_happened effect [] has = absurd has
 noted_happened effect (sends packet ∷ effects) has = inr (noted_happened effect effects has)
 noted_happened effect (draws pair ∷ effects) (inl is) = inl is
@@ -165,11 +165,11 @@ turn_ends law e (restores state) t h =
 
 -- ---- a run
 
-all_by_answer : (e : Endpoint) (ts : List Turned) → AlongTurns (λ (x : Endpoint). EndsByAnswer) e ts → AllByRecursion EndsByAnswer ts
-all_by_answer e [] along = tt
-all_by_answer e (t ∷ ts) along = (along.0, all_by_answer t.outcome.after ts along.1)
+pub all_along : (Good : Turned → Type 0) (e : Endpoint) (ts : List Turned) → AlongTurns (λ (x : Endpoint). Good) e ts → AllByRecursion Good ts
+all_along Good e [] along = tt
+all_along Good e (t ∷ ts) along = (along.0, all_along Good t.outcome.after ts along.1)
 
 pub requests_end : EndLaws → SocketRequestsEndByAnswers
 requests_end law options run runs side =
-    all_by_answer (fresh_endpoint (of_side side options)) (of_side side (turns_after run))
+    all_along EndsByAnswer (fresh_endpoint (of_side side options)) (of_side side (turns_after run))
     (run_along (λ (x : Endpoint). EndsByAnswer) (turn_ends law) options run runs side)

@@ -6,17 +6,15 @@ use Rattle.dcsctp_machine.specs.declared.schedule.Side.{Side}
 use Rattle.dcsctp_machine.specs.declared.schedule.Side.TheVariants as sides
 use Rattle.dcsctp_machine.specs.Settings.{IsValid, FitsOptions}
 use Rattle.dcsctp_machine.specs.Offer.{offer_of, negotiated}
-use Rattle.dcsctp_machine.specs.CallTurns.{Turned, pairs_of}
+use Rattle.dcsctp_machine.specs.CallTurns.{Turned}
 use Rattle.dcsctp_machine.specs.control.Effect.{Link, Effect, noted}
 use Rattle.dcsctp_machine.specs.Past.{Each}
 use Rattle.dcsctp_machine.specs.World as machine
 use Rattle.dcsctp_machine.specs.World.{SideState, fresh_side, at_a, at_b, world_after, Run, Moved, MovesMade, after_moves, with_moves}
 use Rattle.dcsctp_machine.specs.Sockets.{Worked, Both, side_of, of_side, of_other, with_turns, turns_after, endpoint_after, packets_shown, StepTurns, SocketRun, side_of_act, NextTurns, acts_of}
-use Rattle.dcsctp_machine.proofs.TurnLemmas.{pairs_of-append}
 use Rattle.dcsctp_machine_agreement.specs.Agreement.{FindsCrossed, FindsPerformed, BothAgree, SidesAgree}
-use Rattle.dcsctp_machine_refinement.specs.Agreement.{noted_past, HasDistinctTags, FindsHeld, Agree, AreUsable, AreFresh, SocketsAgree}
+use Rattle.dcsctp_machine_refinement.specs.Agreement.{noted_past, FindsHeld, Agree, AreUsable, AreFresh, SocketsAgree}
 use Rattle.dcsctp_machine_refinement.proofs.Follow.{Followed, each_connected_map}
-use Rattle.dcsctp_machine_refinement.proofs.Fresh.{distinct_front}
 use Rattle.dcsctp_machine_refinement.proofs.NotedLemmas.{performed-noted}
 use Rattle.dcsctp_machine_refinement.proofs.Moves.{Below, SideMoves}
 use Rattle.dcsctp_machine_refinement.proofs.StepMoves.{step_moves}
@@ -140,14 +138,9 @@ agree_now law agree options run are runs tags honest =
       b_performed = resets options.b options.a world.b world.a (turns_after run).b (turns_after run).a h.b h.a both.b.performed;
     }
 
--- No tag was drawn twice before a step, where none is after it.
-fresh_before : (side : Side) (more : List Turned) (turns : Both (List Turned)) → AreFresh (with_turns side more turns) → AreFresh turns
-fresh_before sides.A more turns h = record { a = distinct_front (pairs_of turns.a) (pairs_of more) (subst HasDistinctTags (pairs_of-append turns.a more) h.a); b = h.b }
-fresh_before sides.B more turns h = record { a = h.a; b = distinct_front (pairs_of turns.b) (pairs_of more) (subst HasDistinctTags (pairs_of-append turns.b more) h.b) }
-
 pub sockets_agree : Below → SidesAgree → SocketsAgree
-sockets_agree law agree options [] are runs tags = agree_now law agree options [] are runs tags tt
-sockets_agree law agree options (worked ∷ earlier) are runs tags = (
-  (λ honest. agree_now law agree options (worked ∷ earlier) are runs tags honest),
-  sockets_agree law agree options earlier are runs.1 (fresh_before (side_of_act worked.act) worked.turns (turns_after earlier) tags),
+sockets_agree law agree options [] are runs = agree_now law agree options [] are runs (record { a = tt; b = tt }) tt
+sockets_agree law agree options (worked ∷ earlier) are runs = (
+  (λ honest fresh. agree_now law agree options (worked ∷ earlier) are runs fresh honest),
+  sockets_agree law agree options earlier are runs.1,
 )

@@ -79,13 +79,13 @@ pub record AreFresh (turns : Both (List Turned)) : Type 0 where
   pub a : HasDistinctTags (pairs_of turns.a)
   pub b : HasDistinctTags (pairs_of turns.b)
 
--- They agree at the end of each first part of the run that is honest. So each OnConnected, when it is reported, finds what the
--- other side has done so far. What came before the first act from outside is promised whatever comes after it.
+-- They agree at the end of each first part of the run that is honest, and in which no tag was drawn twice. So each OnConnected, when
+-- it is reported, finds what the other side has done so far, whatever comes later.
 abbrev pub AgreeThroughout : Both Options → List Worked → Type 0
 AgreeThroughout options [] = Agree options (turns_after [])
 AgreeThroughout options (worked ∷ earlier) =
-    (AreHonest (acts_of (worked ∷ earlier)) → Agree options (turns_after (worked ∷ earlier))) × AgreeThroughout options earlier
+    (AreHonest (acts_of (worked ∷ earlier)) → AreFresh (turns_after (worked ∷ earlier)) → Agree options (turns_after (worked ∷ earlier)))
+    × AgreeThroughout options earlier
 
 abbrev pub SocketsAgree : Type 0
-SocketsAgree =
-    (options : Both Options) (run : List Worked) → AreUsable options → SocketRun options run → AreFresh (turns_after run) → AgreeThroughout options run
+SocketsAgree = (options : Both Options) (run : List Worked) → AreUsable options → SocketRun options run → AgreeThroughout options run

@@ -3,6 +3,7 @@ use Rattle.dcsctp_machine_refinement.specs.Agreement.{SocketsAgree}
 use Rattle.dcsctp_machine_refinement.specs.Deadlines.{SocketsRunT1}
 use Rattle.dcsctp_machine_refinement.specs.Handshake.{FittingSocketsConnect}
 use Rattle.dcsctp_machine_refinement.specs.OneSocket.{SocketEffectsInPlace, SocketRequestsEndByAnswers, SocketsTellEnds, SocketsKeepSizes, SocketsKeepBursts, SocketsWaitQuietly}
+use Rattle.dcsctp_machine_refinement.specs.Telling.{SocketsTellEffects, SocketsHoldNoted, SocketsNoteAnew}
 
 pub record SocketLaws : Type 0 where
   pub agree : SocketsAgree
@@ -10,6 +11,9 @@ pub record SocketLaws : Type 0 where
   pub numbers : SocketEffectsInPlace
   pub answers : SocketRequestsEndByAnswers
   pub ends : SocketsTellEnds
+  pub told : SocketsTellEffects
+  pub held : SocketsHoldNoted
+  pub anew : SocketsNoteAnew
   pub t1 : SocketsRunT1
   pub sizes : SocketsKeepSizes
   pub bursts : SocketsKeepBursts

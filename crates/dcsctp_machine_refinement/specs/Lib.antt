@@ -3,4 +3,6 @@ pub mod Bursts
 pub mod Handshake
 pub mod Laws
 pub mod OneSocket
+pub mod Restores
+pub mod Telling
 pub mod Deadlines

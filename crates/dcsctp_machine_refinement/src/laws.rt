@@ -5,6 +5,8 @@ ghost use Rattle.dcsctp_machine_refinement.specs.Deadlines.{SocketsRunT1};
 ghost use Rattle.dcsctp_machine_refinement.specs.Handshake.{FittingSocketsConnect};
 ghost use Rattle.dcsctp_machine_refinement.specs.Laws.{SocketLaws};
 ghost use Rattle.dcsctp_machine_refinement.specs.OneSocket.{SocketEffectsInPlace, SocketRequestsEndByAnswers, SocketsTellEnds, SocketsKeepSizes, SocketsKeepBursts, SocketsWaitQuietly};
+ghost use Rattle.dcsctp_machine_refinement.specs.Restores.{SnapshotsBringBack, RestoredSocketsBeginNothing};
+ghost use Rattle.dcsctp_machine_refinement.specs.Telling.{SocketsTellEffects, SocketsHoldNoted, SocketsNoteAnew};
 
 use dcsctp_machine::{
     acts_are_controlled, admitted_packets_may_be_worked, answer_keeps_agreement,
@@ -12,7 +14,7 @@ use dcsctp_machine::{
     time_passes_quietly,
 };
 use dcsctp_machine_agreement::{
-    answers_end_requests, effects_in_place, effects_mean, ends_once, sides_agree,
+    answers_end_requests, effects_in_place, effects_mean, ends_once, past_is_state, sides_agree,
 };
 use dcsctp_wire_laws::{built_packet_reads_as_itself, built_packet_reads_back};
 
@@ -73,6 +75,33 @@ pub fn sockets_tell_ends()
     acts_are_controlled();
 }
 
+/// The events of a socket's turn tell what it noted of its association: each connection, each end, each own
+/// request that was performed or failed, and each performed request of the peer, in this order.
+pub fn sockets_tell_effects()
+    ensures { SocketsTellEffects }
+{
+    chunks_are_controlled();
+    acts_are_controlled();
+}
+
+/// The association of a socket, with its numbers of requests, is the one that its turns noted.
+pub fn sockets_hold_noted()
+    ensures { SocketsHoldNoted }
+{
+    past_is_state();
+    chunks_are_controlled();
+    acts_are_controlled();
+}
+
+/// A turn of a socket notes an association that a handshake made only where it is another than before, or
+/// where there was none.
+pub fn sockets_note_anew()
+    ensures { SocketsNoteAnew }
+{
+    chunks_are_controlled();
+    acts_are_controlled();
+}
+
 /// At each socket of a run that awaits an INIT ACK or a COOKIE ACK, T1 runs (RFC 9260, section 5.1). So it
 /// has a next deadline, whatever is lost and whatever bytes it was handed.
 pub fn sockets_run_t1()
@@ -100,6 +129,18 @@ pub fn sockets_wait_quietly()
     time_passes_quietly();
 }
 
+/// The snapshot of an established socket brings back both pairs, what both ends support, the numbers of
+/// requests to reset streams, and the tie tag.
+pub fn snapshots_bring_back()
+    ensures { SnapshotsBringBack }
+{}
+
+/// A socket that is restored begins no request to reset streams by itself: its next number is that of the
+/// snapshot (RFC 6525, section 4.1).
+pub fn restored_sockets_begin_nothing()
+    ensures { RestoredSocketsBeginNothing }
+{}
+
 /// All that holds of the sockets of a run: the theorems above.
 pub fn socket_laws()
     ensures { SocketLaws }
@@ -109,6 +150,9 @@ pub fn socket_laws()
     socket_effects_in_place();
     socket_requests_end_by_answers();
     sockets_tell_ends();
+    sockets_tell_effects();
+    sockets_hold_noted();
+    sockets_note_anew();
     sockets_run_t1();
     sockets_keep_sizes();
     sockets_keep_bursts();

@@ -3,7 +3,7 @@
 mod snapshot;
 
 use dcsctp_api::{Events, LifecycleId, Message, PpId, SendOptions, SocketTime, StreamId};
-use dcsctp_machine::{HandoverTransmission, Options};
+use dcsctp_machine::{Options, SocketHandoverState};
 use dcsctp_send_queue::{DataToSend, SendQueue};
 use dcsctp_send_retransmission::{HandleSackResult, RetransmissionQueue};
 use dcsctp_testing::{Row, Takes};
@@ -22,7 +22,7 @@ pub struct Line {
     how: SendOptions,
     rtt: Option<Duration>,
     is_new: bool,
-    snapshot: HandoverTransmission,
+    snapshot: SocketHandoverState,
 }
 
 // Written out: a derived one costs more to prove.
@@ -127,7 +127,7 @@ impl Line {
             how: SendOptions::default(),
             rtt: None,
             is_new: false,
-            snapshot: HandoverTransmission::empty(alloc),
+            snapshot: snapshot::empty(alloc),
         }
     }
 

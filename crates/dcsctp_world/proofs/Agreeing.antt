@@ -19,6 +19,7 @@ use Rattle.dcsctp_machine_refinement.specs.Deadlines.{RunsT1}
 use Rattle.dcsctp_machine_refinement.specs.Handshake.{ConnectThroughout, handshake_acts, connections, IsConnected, AreConnected, FittingSocketsConnect}
 use Rattle.dcsctp_machine_refinement.specs.Laws.{SocketLaws}
 use Rattle.dcsctp_machine_refinement.specs.OneSocket.{IsWithinLimit}
+use Rattle.dcsctp_machine_refinement.specs.Telling.{HoldsNoted}
 use Rattle.dcsctp_machine.specs.Schedule.{ActContent, step_content, step_act}
 use Rattle.dcsctp_world.specs.Shown.{SideShown, WorldView, options_of}
 use Rattle.dcsctp_world.specs.Run.{SideRuns, IsRun}
@@ -36,13 +37,16 @@ world_agrees law options world h =
       honest = honest_run world.acts (acts_of h.steps) h.acts;
       connect = λ fit side. law.connect options side h.steps h.usable fit h.run;
       numbers = λ side. law.numbers options h.steps h.usable h.run side;
+      told = λ side. law.told options h.steps h.usable h.run side;
+      held = λ side. subst (HoldsNoted (of_side side (turns_after h.steps))) (sym (h.sides side).endpoint) (law.held options h.steps h.usable h.run side);
+      anew = λ side. law.anew options h.steps h.usable h.run side;
       answers = λ side. law.answers options h.steps h.run side;
       ends = λ side. law.ends options h.steps h.run side;
       t1 = λ side. subst RunsT1 (sym (h.sides side).endpoint) (law.t1 options h.steps h.usable h.run side);
       sizes = λ side. subst (AllByRecursion (IsWithinLimit (of_side side options))) (sym (h.sides side).packets) (law.sizes options h.steps h.run side (h.usable side).valid);
       bursts = λ side. law.bursts options h.steps h.run side;
       quiet = law.quiet options h.steps h.run;
-      agree = λ a b. law.agree options h.steps h.usable h.run (record { a = subst HasDistinctTags (h.sides sides.A).pairs a; b = subst HasDistinctTags (h.sides sides.B).pairs b });
+      agree = law.agree options h.steps h.usable h.run;
     }
 
 -- ---- the handshake

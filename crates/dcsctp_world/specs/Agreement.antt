@@ -11,27 +11,33 @@ use Rattle.dcsctp_machine.specs.control.HandshakeChanges.{new_held}
 use Rattle.dcsctp_machine.specs.CallTurns.{AlongTurns}
 use Rattle.dcsctp_machine.specs.Past.{Each, InPlace}
 use Rattle.dcsctp_machine.specs.Sockets.{Both, of_side, turns_after, acts_of}
-use Rattle.dcsctp_machine_refinement.specs.Agreement.{HasDistinctTags, AgreeThroughout, noted_past}
+use Rattle.dcsctp_machine_refinement.specs.Agreement.{AgreeThroughout, noted_past}
 use Rattle.dcsctp_machine_refinement.specs.Deadlines.{RunsT1}
 use Rattle.dcsctp_machine_refinement.specs.Handshake.{handshake_acts, AreFitting, ConnectThroughout, connections}
 use Rattle.dcsctp_machine_refinement.specs.OneSocket.{EndsByAnswer, TellsEnd, IsWithinLimit, TurnKeepsBurst, TimeIsQuiet}
+use Rattle.dcsctp_machine_refinement.specs.Telling.{TellsNoted, HoldsNoted, NotesAnew}
 use Rattle.dcsctp_world.specs.Shown.{SideShown, WorldView}
 use Rattle.dcsctp_world.specs.Run.{IsRun}
 
--- All that the world shows is what a run shows. The agreement needs two premises: no side drew a verification tag twice, and no
--- act came from outside so far. Then, when one side reports OnConnected, its peer has, or had, the matching association. When one
+-- All that the world shows is what a run shows. The agreement needs two premises: so far no side drew a verification tag twice,
+-- and no act came from outside. Then, when one side reports OnConnected, its peer has, or had, the matching association. When one
 -- side's request to reset streams was performed, the other performed it. If the sockets fit each other, the first five acts of a
 -- handshake connect them, whatever comes later. The rest holds whatever bytes came from outside. What each side notes of
--- connections and of the numbers of requests is in its order. A request ends by an answer with its number. A turn that ends an
--- association tells it once, and no other turn tells an end. A socket that awaits an INIT ACK or a COOKIE ACK has T1 running. No
--- packet that a side shows is longer than its options allow. No turn sends more of them than its input allows, and what a flush may
--- send. Time before the next deadline moves the clock alone.
+-- connections and of the numbers of requests is in its order. Each turn's events tell what it notes of connections, ends and
+-- resets, in the same order. A side's association is the one that it noted, and one of a handshake is noted only where it is
+-- another than before. A request ends by an answer with its number. A turn that ends an association tells it once, and no other
+-- turn tells an end. A socket that awaits an INIT ACK or a COOKIE ACK has T1 running. No packet that a side shows is longer than
+-- its options allow. No turn sends more of them than its input allows, and what a flush may send. Time before the next deadline
+-- moves the clock alone.
 pub record Agrees {R : Type 0} (options : Both Options) (world : WorldView R) : Type 0 where
   pub is_run : IsRun options world
   pub honest : AreHonest world.acts → AreHonest (acts_of is_run.steps)
-  pub agree : HasDistinctTags world.sides.a.pairs → HasDistinctTags world.sides.b.pairs → AgreeThroughout options is_run.steps
+  pub agree : AgreeThroughout options is_run.steps
   pub connect : AreFitting options → (side : Side) → ConnectThroughout options side is_run.steps
   pub numbers : (side : Side) → Each InPlace (noted_past (of_side side (turns_after is_run.steps)))
+  pub told : (side : Side) → AllByRecursion TellsNoted (of_side side (turns_after is_run.steps))
+  pub held : (side : Side) → HoldsNoted (of_side side (turns_after is_run.steps)) (of_side side world.sides).socket.view.endpoint
+  pub anew : (side : Side) → AlongTurns NotesAnew (fresh_endpoint (of_side side options)) (of_side side (turns_after is_run.steps))
   pub answers : (side : Side) → AllByRecursion EndsByAnswer (of_side side (turns_after is_run.steps))
   pub ends : (side : Side) → AlongTurns TellsEnd (fresh_endpoint (of_side side options)) (of_side side (turns_after is_run.steps))
   pub t1 : (side : Side) → RunsT1 (of_side side world.sides).socket.view.endpoint

@@ -56,7 +56,8 @@ impl<R> Recorded<R> {
         &self.words
     }
 
-    /// Are all that it gave among `words`? Allocates nothing.
+    /// Are all that it gave among `words`? Not once there was no room for one, or bytes were asked for. Allocates
+    /// nothing.
     pub fn is_whole(&self) -> bool
         ensures { result ≡ self.now.is_whole }
     {

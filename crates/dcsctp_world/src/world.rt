@@ -4,7 +4,7 @@ use crate::act::{Reply, are_honest, side_of};
 use crate::recorded::Recorded;
 use crate::watched_socket::WatchedSocket;
 use dcsctp_machine::{Act, Outside, Side, Step, options_fit, sockets_stay_sound};
-use dcsctp_machine_refinement::socket_laws;
+use dcsctp_machine_refinement::{restored_sockets_begin_nothing, socket_laws};
 use dcsctp_socket::{Association, Options, Pair, Socket, SocketEvent, SocketFault, Word};
 use rand_core::Rng;
 use std::alloc::Global;
@@ -12,7 +12,7 @@ use std::marker::Model;
 
 /// Two sockets, with all that happened to them and all that they ever showed.
 ///
-/// Each takes the other's packets only by a step that delivers one, and other bytes only by an act from
+/// Each takes a packet that the other emitted by a step that delivers it, and any bytes by an act from
 /// outside. If an allocation fails in a call, the call returns `SocketFault::OutOfMemory`, and the world has
 /// failed from here on. Each later call that applies something returns `SocketFault::Failed` and changes
 /// nothing. What the world shows then starts with what it showed before the call that failed.
@@ -179,7 +179,7 @@ impl<R: Rng + Drop> World<R> {
     /// socket, and what they show is kept.
     ///
     /// Returns `Reply::NoCall` if the number of a delivery names no packet, which changes no socket, and else
-    /// `Reply::Done`. Over all that was applied so far the two sockets agree, as `run` says. The errors are
+    /// what the call answered. Over all that was applied so far the two sockets agree, as `run` says. The errors are
     /// `SocketFault::OutOfMemory`, if an allocation failed for a socket or the world, and
     /// `SocketFault::Failed`, if one failed before.
     pub fn apply(&mut self, step: &Step) -> Result<Reply, SocketFault>
@@ -207,11 +207,12 @@ impl<R: Rng + Drop> World<R> {
     /// socket, and what they show is kept.
     ///
     /// Bytes are handed to it: `Reply::Done`. It is restored from a snapshot: `Reply::Restored`, or
-    /// `Reply::NoCall` if the snapshot isn't valid, and nothing has changed. Or it is handed over and restored
+    /// `Reply::NoCall` if the snapshot isn't valid, and no socket has changed. Or it is handed over and restored
     /// from its own snapshot: `Reply::Restored`, or `Reply::HandedOver` if that is refused. A restore brings back
-    /// both pairs, the tie tag, what both ends support, and the numbers of requests to reset streams.
+    /// both pairs, the tie tag, what both ends support, and the numbers of requests to reset streams. It begins
+    /// no such request, so the next own number is that of the snapshot (RFC 6525, section 4.1).
     ///
-    /// From here on `is_honest` is false, and the agreement of the two sockets is promised only up to here.
+    /// Once it was applied, `is_honest` is false, and the agreement of the two sockets is promised only up to here.
     /// What `run` says of one socket still holds. The errors are those of `apply`.
     pub fn outside(&mut self, outside: Outside) -> Result<Reply, SocketFault>
         ensures call { Applies (outside_act (outside_content outside)) self.old result self.new }
@@ -224,22 +225,27 @@ impl<R: Rng + Drop> World<R> {
         ensures whole { OnOk result (AreWhole self.new.sides) }
         ensures options { OnOk result (options_of self.new ≡ options_of self.old) }
     {
+        restored_sockets_begin_nothing();
         self.apply_act(Act::Outside(outside))
     }
 
     /// Applies steps one after another, up to the first that fails. The errors are those of `apply`; if an
-    /// allocation failed, what is promised holds of the steps before it.
+    /// allocation failed, what is promised of both sockets holds of the steps before it.
     ///
     /// Over every schedule that loses, repeats, delays and reorders packets the two sockets agree. That has
     /// two premises: no act comes from outside, which `is_honest` tells, and no side draws a verification tag
     /// twice, which `pairs` shows. When one side reports OnConnected, its peer has, or had, the matching
-    /// association, with what the two have in common. The rest holds whatever bytes come from outside. In one
-    /// lifetime an association connects at most once, and the numbers of requests to reset streams go up by
-    /// one. Each request that was accepted is performed at most once (RFC 6525, section 4.1). A request ends
-    /// by an answer with its number (section 5.2.7). The four packets of a handshake, delivered in turn,
-    /// connect two fresh sockets that fit each other (RFC 9260, section 5.1). A socket that awaits an INIT
-    /// ACK or a COOKIE ACK has T1 running, so it will send again. No packet is longer than the `mtu` of its
-    /// side, rounded down to a multiple of 4.
+    /// association, with what the two have in common. When it reports OnStreamsResetPerformed, its peer has
+    /// performed that request. The four packets of a handshake, delivered in turn, connect two fresh sockets
+    /// that fit each other (RFC 9260, section 5.1).
+    ///
+    /// The rest holds whatever bytes come from outside. In one lifetime an association connects at most once,
+    /// and the numbers of requests to reset streams go up by one. Each request that was accepted is performed
+    /// at most once (RFC 6525, section 4.1). A request ends by an answer with its number (section 5.2.7). An
+    /// association that ends tells it once. While an INIT ACK or a COOKIE ACK is awaited, T1 runs. Time before
+    /// the next deadline moves the clock alone, but for a socket that awaits a COOKIE ACK. No packet is longer
+    /// than the `mtu` of its side, rounded down to a multiple of 4, and no flush sends more than `max_burst` of
+    /// them.
     pub fn run(&mut self, steps: &[Step]) -> Result<(), SocketFault>
         ensures call { Runs (recorded_stream R.stream) (map step_content steps.now) self.old result self.new }
         ensures agreement { OnOk result (Agrees (options_of self.old) self.new) }
@@ -297,7 +303,7 @@ impl<R: Rng + Drop> World<R> {
     }
 
     /// The random words that this side ever drew, in order: those that its generator gave first. They are kept
-    /// after each call, and while the world hasn't failed, `socket(side).generator().words()` has the same ones.
+    /// after each call. `socket(side).generator()` keeps what it gave by itself, by which a test can compare.
     /// Allocates nothing.
     pub fn words(&self, side: Side) -> &[Word]
         ensures { result.now ≡ (of_side side self.now.sides).words }

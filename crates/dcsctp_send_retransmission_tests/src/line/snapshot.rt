@@ -1,8 +1,35 @@
 //! Snapshots: what one has of the queue, and the queue that goes on from it.
 
 use super::{Line, at};
-use dcsctp_machine::HandoverOutstandingData;
+use dcsctp_api::SocketTime;
+use dcsctp_machine::{HandoverOutstandingData, HandoverSocketState, Options, SocketHandoverState};
+use dcsctp_send_retransmission::RetransmissionQueue;
 use dcsctp_testing::Row;
+use std::alloc::Global;
+
+/// The snapshot of a connected socket of which nothing is known.
+pub fn empty(alloc: Global) -> SocketHandoverState {
+    let mut state = SocketHandoverState::empty(alloc);
+    state.socket_state = HandoverSocketState::Connected;
+    state.my_verification_tag = 1;
+    state.peer_verification_tag = 1;
+    state
+}
+
+// The queue goes on from the snapshot at this moment. Is it done?
+fn restore_into(
+    state: &SocketHandoverState,
+    sent: &mut RetransmissionQueue,
+    now: SocketTime,
+) -> bool {
+    match state.socket_state {
+        HandoverSocketState::Closed => false,
+        HandoverSocketState::Connected => {
+            state.is_valid(&Options::default())
+                && sent.restore_from_state(now, false, &state.tx).is_ok()
+        }
+    }
+}
 
 // The names of the numbers of a snapshot, in the order in which a line has them.
 static SNAPSHOT: &[&str] = &[
@@ -71,7 +98,7 @@ impl Line {
         let moment = at(self.now);
         let made = self
             .sent
-            .add_to_handover_state(moment, with_data, &mut self.snapshot);
+            .add_to_handover_state(moment, with_data, &mut self.snapshot.tx);
         row.done(made.is_ok());
     }
 
@@ -80,20 +107,20 @@ impl Line {
         row.check_all(
             SNAPSHOT,
             &[
-                self.snapshot.next_tsn as u128,
-                self.snapshot.cwnd as u128,
-                self.snapshot.rwnd as u128,
-                self.snapshot.ssthresh as u128,
-                self.snapshot.partial_bytes_acked as u128,
-                self.snapshot.last_cumulative_tsn_ack as u128,
-                self.snapshot.outstanding_data.len() as u128,
+                self.snapshot.tx.next_tsn as u128,
+                self.snapshot.tx.cwnd as u128,
+                self.snapshot.tx.rwnd as u128,
+                self.snapshot.tx.ssthresh as u128,
+                self.snapshot.tx.partial_bytes_acked as u128,
+                self.snapshot.tx.last_cumulative_tsn_ack as u128,
+                self.snapshot.tx.outstanding_data.len() as u128,
             ],
         );
     }
 
     /// What a line expects of the item at a place of the snapshot.
     pub fn part(&self, row: &mut Row) {
-        match self.snapshot.outstanding_data.get(row.number::<usize>()) {
+        match self.snapshot.tx.outstanding_data.get(row.number::<usize>()) {
             None => row.done(false),
             Some(part) => shows_part(row, part),
         }
@@ -101,7 +128,7 @@ impl Line {
 
     /// After how many milliseconds the item at a place of the snapshot is abandoned, as `Debug` writes it.
     pub fn part_expires(&self, row: &mut Row) {
-        match self.snapshot.outstanding_data.get(row.number::<usize>()) {
+        match self.snapshot.tx.outstanding_data.get(row.number::<usize>()) {
             None => row.done(false),
             Some(part) => row.shows(&part.expires_in_ms),
         }
@@ -113,8 +140,7 @@ impl Line {
         let negotiated = (row.number::<u8>() == 1, row.number::<u8>() == 1);
         let mut line = Line::new(self.alloc, 0, 0, negotiated);
         line.now = now;
-        let restored = line.sent.restore_from_state(at(now), false, &self.snapshot);
-        row.done(restored.is_ok());
+        row.done(restore_into(&self.snapshot, &mut line.sent, at(now)));
         *self = line;
     }
 }
