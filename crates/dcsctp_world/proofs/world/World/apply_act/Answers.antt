@@ -34,9 +34,9 @@ returns-in-Ok-clause-handshake g c =
 
 pub returns-in-Ok-clause-sound : goal.returns-in-Ok-clause-sound
 returns-in-Ok-clause-sound g c =
-    subst (λ (w : WorldView g.row.R.Denot). BothSound w) c.self.view_is
+    subst (λ (w : WorldView (Recording g.row.R.Denot)). BothSound w) c.self.view_is
     (both_sound c.sockets_stay_sound.ensures (options_of (world_of c.self.inside.a c.self.inside.b c.self.inside.acts.items c.self.inside.failed))
-    (world_of c.self.inside.a c.self.inside.b c.self.inside.acts.items c.self.inside.failed) (c.self.invariant c.if-self.false))
+    (world_of c.self.inside.a c.self.inside.b c.self.inside.acts.items c.self.inside.failed) (c.self.invariant c.if-self.false).is_run)
 
 pub returns-in-Ok-clause-options : goal.returns-in-Ok-clause-options
 returns-in-Ok-clause-options g c =
