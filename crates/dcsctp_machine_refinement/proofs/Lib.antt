@@ -18,7 +18,9 @@ mod HandshakeTurns
 mod Idle
 mod IdleTurns
 mod Moves
+mod NewAssociations
 mod NoHolding
+mod NoHoldingTurns
 mod NotingAnew
 mod PacketMoves
 mod PlainFits
