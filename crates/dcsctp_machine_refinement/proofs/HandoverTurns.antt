@@ -8,6 +8,7 @@ use Rattle.dcsctp_machine.specs.Turn.{ActTurn}
 use Rattle.dcsctp_machine.specs.control.Acts.{hands_over}
 use Rattle.dcsctp_machine.specs.turns.EndOutcomes.{ended_outcome}
 use Rattle.dcsctp_machine.specs.turns.HandoverOutcomes.{hand_over_outcome}
+use Rattle.dcsctp_machine_refinement.proofs.Bursts.{Few, none}
 use Rattle.dcsctp_machine_refinement.proofs.Sizes.{AtLimit, TurnSizes}
 use Rattle.dcsctp_machine_refinement.proofs.T1Turns.{Up, UpAfter}
 
@@ -30,6 +31,9 @@ hand_over_up e o turn h = of_turn UpAfter e o turn h tt
 
 pub hand_over_sizes : (limit : ℕ) (e : Endpoint) (o : Outcome) → ActTurn e hands_over o → AtLimit limit e → TurnSizes limit o
 hand_over_sizes limit e o turn h = of_turn (TurnSizes limit) e o turn (h, tt) (h, tt)
+
+pub hand_over_few : (e : Endpoint) (o : Outcome) → ActTurn e hands_over o → Few 0 o
+hand_over_few e o turn = of_turn (Few 0) e o turn (none 0) (none 0)
 
 pub hand_over_fits : (e : Endpoint) (o : Outcome) → ActTurn e hands_over o → FitsEndpoint e → TurnFits o
 hand_over_fits e o turn h =

@@ -1,6 +1,11 @@
 mod Aborting
 mod ActMoves
 mod BegunSends
+mod BurstChunks
+mod BurstData
+mod BurstHandshake
+mod BurstShutdown
+mod BurstTurns
 pub mod Bursts
 mod Bytes
 mod DataFits
@@ -22,11 +27,13 @@ mod NewAssociations
 mod NoHolding
 mod NoHoldingTurns
 mod NotingAnew
+mod OpenStreams
 mod PacketMoves
 mod PlainFits
 mod Quiet
 mod RequestAgain
 mod Resets
+pub mod RestoredFlush
 mod RestoreTurns
 mod Sendable
 mod ShutdownFits
@@ -38,6 +45,7 @@ mod SizesChunks
 mod SizesData
 mod SizesShutdown
 mod SizesTurns
+pub mod SnapshotsBack
 mod SocketsAgree
 mod SocketsAlone
 mod TurnsFit

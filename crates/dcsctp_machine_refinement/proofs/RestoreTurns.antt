@@ -4,8 +4,9 @@ use Rattle.dcsctp_machine.specs.Endpoint.{Endpoint}
 use Rattle.dcsctp_machine.specs.Outcome.{Outcome}
 use Rattle.dcsctp_machine.specs.Snapshot.{Snapshot}
 use Rattle.dcsctp_machine.specs.World.{ControlTurn, resumed}
-use Rattle.dcsctp_machine.specs.turns.RestoreOutcomes.{own_pair, peer_pair, capabilities_restored, restored_outcome, RestoreTurn}
+use Rattle.dcsctp_machine.specs.turns.RestoreOutcomes.{own_pair, peer_pair, capabilities_restored, RestoreTurn}
 use Rattle.dcsctp_machine.proofs.ControlRestores.{resumed_by, Resumes, restore_stands}
+use Rattle.dcsctp_machine_refinement.proofs.Bursts.{Few, none}
 use Rattle.dcsctp_machine_refinement.proofs.Sizes.{AtLimit, TurnSizes}
 use Rattle.dcsctp_machine_refinement.proofs.T1Turns.{Up, UpAfter}
 
@@ -19,3 +20,6 @@ restore_up e state o turn h = elim (restore_stands e state o turn) [ inl rests �
 pub restore_sizes : (limit : ℕ) (e : Endpoint) (state : Snapshot) (o : Outcome) → RestoreTurn e e.core state o → AtLimit limit e → TurnSizes limit o
 restore_sizes limit e state o turn h =
     elim (restore_stands e state o turn) [ inl rests ↦ subst (TurnSizes limit) (sym rests) (h, tt) | inr restored ↦ subst (TurnSizes limit) (sym restored.is) (h, tt) ]
+
+pub restore_few : (e : Endpoint) (state : Snapshot) (o : Outcome) → RestoreTurn e e.core state o → Few 0 o
+restore_few e state o turn = elim (restore_stands e state o turn) [ inl rests ↦ subst (Few 0) (sym rests) (none 0) | inr restored ↦ subst (Few 0) (sym restored.is) (none 0) ]

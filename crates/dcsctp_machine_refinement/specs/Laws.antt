@@ -1,5 +1,4 @@
 -- All that holds of the sockets of a run.
-use Rattle.dcsctp_machine.specs.Laws.{FlushKeepsLimits}
 use Rattle.dcsctp_machine_refinement.specs.Agreement.{SocketsAgree}
 use Rattle.dcsctp_machine_refinement.specs.Deadlines.{SocketsRunT1}
 use Rattle.dcsctp_machine_refinement.specs.Handshake.{FittingSocketsConnect}
@@ -18,6 +17,4 @@ pub record SocketLaws : Type 0 where
   pub t1 : SocketsRunT1
   pub sizes : SocketsKeepSizes
   pub bursts : SocketsKeepBursts
-  -- of each flush, also of one behind a chunk
-  pub flushes : FlushKeepsLimits
   pub quiet : SocketsWaitQuietly

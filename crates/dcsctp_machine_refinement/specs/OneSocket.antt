@@ -1,5 +1,5 @@
 -- What holds of one socket of a run, whatever bytes it is handed. It is about the numbers of requests, by what they end, how its
--- ends are reported, how long its packets are and how many a flush sends, and what time does.
+-- ends are reported, how long its packets are and how many a turn sends, and what time does.
 use Rattle.std.specs.Prelude.{◌≡◌, ◌≢◌, ◌≤◌, ◌<◌, ℕ, suc, List, [], ◌∷◌, length}
 use Rattle.std.specs.List.{AllByRecursion}
 use Rattle.dcsctp_wire.specs.declared.reconfiguration.ReconfigurationResponseResult.{ReconfigurationResponseResult}
@@ -12,16 +12,17 @@ use Rattle.dcsctp_machine.specs.Event.{Event, closed, aborted, packets_in}
 use Rattle.dcsctp_machine.specs.Packet.{Emission}
 use Rattle.dcsctp_machine.specs.Endpoint.{Endpoint, fresh_endpoint}
 use Rattle.dcsctp_machine.specs.Endpoint as machine
-use Rattle.dcsctp_machine.specs.Turn.{Input, chunk_input, packet_ends, act_input, user_sends, user_resets}
+use Rattle.dcsctp_machine.specs.Outcome.{Outcome}
+use Rattle.dcsctp_machine.specs.Turn.{Input, chunk_input}
 use Rattle.dcsctp_machine.specs.CallTurns.{Turned, AlongTurns}
 use Rattle.dcsctp_machine.specs.Schedule.{call_step, advance_call, ActContent, step_act}
 use Rattle.dcsctp_machine.specs.TimeTurns.{Waits, MoveClock}
-use Rattle.dcsctp_machine.specs.control.Acts.{flushes}
 use Rattle.dcsctp_machine.specs.turns.FlushOutcomes.{packets_allowed}
 use Rattle.dcsctp_machine.specs.Past.{Has, Each, InPlace}
 use Rattle.dcsctp_machine.specs.Sockets.{Worked, Both, of_side, turns_after, endpoint_after, packets_shown, side_of_act, SocketRun}
 use Rattle.dcsctp_machine_agreement.specs.OneSide.{IsSuccess, IsRefusal, HasResponse, parameters_in}
 use Rattle.dcsctp_machine_refinement.specs.Agreement.{AreUsable, noted_past}
+use Rattle.dcsctp_machine_refinement.specs.Bursts.{packets_of}
 
 -- Each effect of a socket's turns is in its order (RFC 6525, section 4.1). In one lifetime an association connects at most once,
 -- and its own requests go up by one, one at a time. So do the peer's accepted ones, and each of these is performed at most once.
@@ -79,21 +80,13 @@ SocketsKeepSizes =
 
 -- ---- flushes
 
--- At most as many packets as `max_burst` allows: none if it is 0 or below, and one while the COOKIE ECHO isn't answered.
-abbrev pub IsWithinBurst : Endpoint → List (Event Emission) → Type 0
-IsWithinBurst e events = length (packets_in events) ≤ packets_allowed e.options.max_burst e.core
-
--- A turn that sends by a flush alone keeps within it: what the user sends and resets, the end of a packet, and the end of what time
--- brings. Of the flush behind a chunk `FlushKeepsLimits` says it.
-abbrev pub KeepsBurst : Endpoint → Input → List (Event Emission) → Type 0
-KeepsBurst e (act_input flushes) events = IsWithinBurst e events
-KeepsBurst e (user_sends messages) events = IsWithinBurst e events
-KeepsBurst e (user_resets ids) events = IsWithinBurst e events
-KeepsBurst e packet_ends events = IsWithinBurst e events
-KeepsBurst e input events = Unit {0}
+-- A turn sends no more packets than its input allows, where a flush sends at most as many as `max_burst` allows: none if that is 0
+-- or below, and one while the COOKIE ECHO isn't answered. The association of the flush is the one that the turn leads to.
+abbrev pub KeepsBurst : Endpoint → Input → Outcome → Type 0
+KeepsBurst e input o = length (packets_in o.events) ≤ packets_of e.core input (packets_allowed e.options.max_burst o.after.core)
 
 abbrev pub TurnKeepsBurst : Endpoint → Turned → Type 0
-TurnKeepsBurst e turn = KeepsBurst e turn.input turn.outcome.events
+TurnKeepsBurst e turn = KeepsBurst e turn.input turn.outcome
 
 abbrev pub SocketsKeepBursts : Type 0
 SocketsKeepBursts =

@@ -5,12 +5,13 @@ ghost use Rattle.dcsctp_machine_refinement.specs.Deadlines.{SocketsRunT1};
 ghost use Rattle.dcsctp_machine_refinement.specs.Handshake.{FittingSocketsConnect};
 ghost use Rattle.dcsctp_machine_refinement.specs.Laws.{SocketLaws};
 ghost use Rattle.dcsctp_machine_refinement.specs.OneSocket.{SocketEffectsInPlace, SocketRequestsEndByAnswers, SocketsTellEnds, SocketsKeepSizes, SocketsKeepBursts, SocketsWaitQuietly};
+ghost use Rattle.dcsctp_machine_refinement.specs.Restores.{SnapshotsBringBack, RestoredSocketsBeginNothing};
 ghost use Rattle.dcsctp_machine_refinement.specs.Telling.{SocketsTellEffects, SocketsHoldNoted, SocketsNoteAnew};
 
 use dcsctp_machine::{
     acts_are_controlled, admitted_packets_may_be_worked, answer_keeps_agreement,
-    chunks_are_controlled, cookie_reads_back, flush_keeps_limits, offer_reads_back,
-    packets_are_controlled, time_passes_quietly,
+    chunks_are_controlled, cookie_reads_back, offer_reads_back, packets_are_controlled,
+    time_passes_quietly,
 };
 use dcsctp_machine_agreement::{
     answers_end_requests, effects_in_place, effects_mean, ends_once, past_is_state, sides_agree,
@@ -114,8 +115,9 @@ pub fn sockets_keep_sizes()
     ensures { SocketsKeepSizes }
 {}
 
-/// No flush that a socket of a run makes by itself sends more packets than `max_burst` allows: none if that
-/// is 0 or below, and one while its COOKIE ECHO isn't answered (RFC 9260, sections 5.1 and 6.1).
+/// No turn of a socket of a run sends more packets than its input allows, and no flush more of them than
+/// `max_burst` allows: none if that is 0 or below, and one while its COOKIE ECHO isn't answered (RFC 9260,
+/// sections 5.1 and 6.1).
 pub fn sockets_keep_bursts()
     ensures { SocketsKeepBursts }
 {}
@@ -128,7 +130,19 @@ pub fn sockets_wait_quietly()
     time_passes_quietly();
 }
 
-/// All that holds of the sockets of a run: the theorems above, and that each flush keeps its limits.
+/// The snapshot of an established socket brings back both pairs, what both ends support, the numbers of
+/// requests to reset streams, and the tie tag.
+pub fn snapshots_bring_back()
+    ensures { SnapshotsBringBack }
+{}
+
+/// A socket that is restored begins no request to reset streams by itself: its next number is that of the
+/// snapshot (RFC 6525, section 4.1).
+pub fn restored_sockets_begin_nothing()
+    ensures { RestoredSocketsBeginNothing }
+{}
+
+/// All that holds of the sockets of a run: the theorems above.
 pub fn socket_laws()
     ensures { SocketLaws }
 {
@@ -143,6 +157,5 @@ pub fn socket_laws()
     sockets_run_t1();
     sockets_keep_sizes();
     sockets_keep_bursts();
-    flush_keeps_limits();
     sockets_wait_quietly();
 }

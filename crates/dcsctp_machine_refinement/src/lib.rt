@@ -6,7 +6,8 @@
 mod laws;
 
 pub use laws::{
-    fitting_sockets_connect, socket_effects_in_place, socket_laws, socket_requests_end_by_answers,
-    sockets_agree, sockets_hold_noted, sockets_keep_bursts, sockets_keep_sizes, sockets_note_anew,
-    sockets_run_t1, sockets_tell_effects, sockets_tell_ends, sockets_wait_quietly,
+    fitting_sockets_connect, restored_sockets_begin_nothing, snapshots_bring_back,
+    socket_effects_in_place, socket_laws, socket_requests_end_by_answers, sockets_agree,
+    sockets_hold_noted, sockets_keep_bursts, sockets_keep_sizes, sockets_note_anew, sockets_run_t1,
+    sockets_tell_effects, sockets_tell_ends, sockets_wait_quietly,
 };

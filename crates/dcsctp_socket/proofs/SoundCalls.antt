@@ -1,6 +1,6 @@
 -- Each call keeps the tags of a socket's association other than 0, and its zero checksum method that of the options or none, unless
 -- an allocation fails.
-use Rattle.std.proofs.Common.{◌≡◌, ℕ, Bool, true, false, Result, Ok, Err, Option, None, Some, List, [], ◌∷◌, refl, sym, subst}
+use Rattle.std.proofs.Common.{◌≡◌, ℕ, Bool, true, false, Result, Ok, Err, Option, List, [], ◌∷◌, refl, sym, subst}
 use Rattle.rand_core.specs.Stream.{Stream}
 use Rattle.dcsctp_machine.specs.declared.ends.AbortReason.TheVariants.{CloseCalled}
 use Rattle.dcsctp_machine.specs.declared.message.SendOptions.{SendOptions}
@@ -23,7 +23,7 @@ use Rattle.dcsctp_api.specs.declared.errors.ResetStreamsError.{ResetStreamsError
 use Rattle.dcsctp_api.specs.declared.errors.RestoreError.{RestoreError}
 use Rattle.dcsctp_api.specs.declared.errors.SendError.{SendError}
 use Rattle.dcsctp_core.specs.declared.context.Context.{Context}
-use Rattle.dcsctp_core.specs.View.{View, view_of, call_start, CallMoves}
+use Rattle.dcsctp_core.specs.View.{View, view_of, CallMoves}
 use Rattle.dcsctp_socket.specs.SocketView.{Settles}
 use Rattle.dcsctp_socket_calls.specs.HandoverParts.{WorksHandover, WorksRestore}
 use Rattle.dcsctp_socket_calls.specs.MessageParts.{WorksSend, WorksSendMany, WorksTake}
@@ -43,50 +43,51 @@ turns_sound stream old new turns moves sound = subst IsSound (sym moves.endpoint
 failed_sound : {R A E : Type 0} (new : Context R) (failed fails : Bool) (error : E) (answer : Result A SocketFault) → Settles failed (Err error) answer fails → fails ≡ false → SoundContext new
 failed_sound new failed fails error answer settled goes_on = let has : fails ≡ true = settled.1 in absurd (cc)
 
-module _ (law : CallsKeepSoundness) {R E : Type 0} (stream : R → Stream) (old new : Context R) (failed fails : Bool) (sound : SoundContext old) (goes_on : fails ≡ false) where
-  -- what a call of the user leaves
-  after_call : (call : CallContent) (turns : List Turned) → UserTurns (view_of old).endpoint call turns → CallMoves stream (view_of old) turns (view_of new) → SoundContext new
-  after_call call turns are moves = turns_sound stream (view_of old) (view_of new) turns moves (law.calls (view_of old).endpoint call turns are sound)
+-- what a call of the user leaves
+after_call : {R : Type 0} → CallsKeepSoundness → (stream : R → Stream) (old new : Context R) → SoundContext old → (call : CallContent) (turns : List Turned)
+    → UserTurns (view_of old).endpoint call turns → CallMoves stream (view_of old) turns (view_of new) → SoundContext new
+after_call law stream old new sound call turns are moves = turns_sound stream (view_of old) (view_of new) turns moves (law.calls (view_of old).endpoint call turns are sound)
 
+module _ (law : CallsKeepSoundness) {R E : Type 0} (stream : R → Stream) (old new : Context R) (failed fails : Bool) (sound : SoundContext old) (goes_on : fails ≡ false) where
   pub input_sound : (bytes : List ℕ) (outcome : Result (Unit {0}) E) (answer : Result (Unit {0}) SocketFault) → WorksInput stream bytes old outcome new → Settles failed outcome answer fails → SoundContext new
   input_sound bytes (Ok done) answer worked settled =
       turns_sound stream (view_of old) (view_of new) worked.turns worked.moves (law.input (view_of old).endpoint bytes worked.turns worked.are sound)
   input_sound bytes (Err error) answer worked settled = failed_sound new failed fails error answer settled goes_on
 
   pub connect_sound : (outcome : Result (Unit {0}) E) (answer : Result (Unit {0}) SocketFault) → WorksConnect stream old outcome new → Settles failed outcome answer fails → SoundContext new
-  connect_sound (Ok done) answer worked settled = after_call connect_call worked.turns worked.are worked.moves
+  connect_sound (Ok done) answer worked settled = after_call law stream old new sound connect_call worked.turns worked.are worked.moves
   connect_sound (Err error) answer worked settled = failed_sound new failed fails error answer settled goes_on
 
   pub close_sound : (outcome : Result (Unit {0}) E) (answer : Result (Unit {0}) SocketFault) → WorksCall stream (ActTurns (abort_with CloseCalled)) old outcome new → Settles failed outcome answer fails → SoundContext new
-  close_sound (Ok done) answer worked settled = after_call close_call worked.turns worked.are worked.moves
+  close_sound (Ok done) answer worked settled = after_call law stream old new sound close_call worked.turns worked.are worked.moves
   close_sound (Err error) answer worked settled = failed_sound new failed fails error answer settled goes_on
 
   pub shutdown_sound : (outcome : Result (Unit {0}) E) (answer : Result (Unit {0}) SocketFault) → WorksCall stream (ActTurns shut_down) old outcome new → Settles failed outcome answer fails → SoundContext new
-  shutdown_sound (Ok done) answer worked settled = after_call shutdown_call worked.turns worked.are worked.moves
+  shutdown_sound (Ok done) answer worked settled = after_call law stream old new sound shutdown_call worked.turns worked.are worked.moves
   shutdown_sound (Err error) answer worked settled = failed_sound new failed fails error answer settled goes_on
 
   pub time_sound : (moment : ℕ) (outcome : Result (Unit {0}) E) (answer : Result (Unit {0}) SocketFault) → WorksTime stream moment old outcome new → Settles failed outcome answer fails → SoundContext new
-  time_sound moment (Ok done) answer worked settled = after_call (advance_call moment) worked.turns worked.are worked.moves
+  time_sound moment (Ok done) answer worked settled = after_call law stream old new sound (advance_call moment) worked.turns worked.are worked.moves
   time_sound moment (Err error) answer worked settled = failed_sound new failed fails error answer settled goes_on
 
   pub send_sound : (message : MessageContent) (options : SendOptions) (outcome : Result (Result (Unit {0}) SendError) E) (answer : Result (Result (Unit {0}) SendError) SocketFault)
       → WorksSend stream message options old outcome new → Settles failed outcome answer fails → SoundContext new
-  send_sound message options (Ok value) answer worked settled = after_call (send_call message options) worked.1.turns worked.1.are worked.1.moves
+  send_sound message options (Ok value) answer worked settled = after_call law stream old new sound (send_call message options) worked.1.turns worked.1.are worked.1.moves
   send_sound message options (Err error) answer worked settled = failed_sound new failed fails error answer settled goes_on
 
   pub send_many_sound : (messages : List MessageContent) (options : SendOptions) (outcome : Result (Result (Unit {0}) BatchSendError) E) (answer : Result (Result (Unit {0}) BatchSendError) SocketFault)
       → WorksSendMany stream messages options old outcome new → Settles failed outcome answer fails → SoundContext new
-  send_many_sound messages options (Ok value) answer worked settled = after_call (send_many_call messages options) worked.1.turns worked.1.are worked.1.moves
+  send_many_sound messages options (Ok value) answer worked settled = after_call law stream old new sound (send_many_call messages options) worked.1.turns worked.1.are worked.1.moves
   send_many_sound messages options (Err error) answer worked settled = failed_sound new failed fails error answer settled goes_on
 
   pub reset_sound : (ids : List ℕ) (outcome : Result (Result (Unit {0}) ResetStreamsError) E) (answer : Result (Result (Unit {0}) ResetStreamsError) SocketFault)
       → WorksReset stream ids old outcome new → Settles failed outcome answer fails → SoundContext new
-  reset_sound ids (Ok value) answer worked settled = after_call (reset_call ids) worked.1.turns worked.1.are worked.1.moves
+  reset_sound ids (Ok value) answer worked settled = after_call law stream old new sound (reset_call ids) worked.1.turns worked.1.are worked.1.moves
   reset_sound ids (Err error) answer worked settled = failed_sound new failed fails error answer settled goes_on
 
   pub hand_over_sound : (outcome : Result (Result SocketHandoverState HandoverError) E) (answer : Result (Result SocketHandoverState HandoverError) SocketFault)
       → WorksHandover stream old outcome new → Settles failed outcome answer fails → SoundContext new
-  hand_over_sound (Ok value) answer worked settled = after_call hand_over_call worked.1.turns worked.1.are worked.1.moves
+  hand_over_sound (Ok value) answer worked settled = after_call law stream old new sound hand_over_call worked.1.turns worked.1.are worked.1.moves
   hand_over_sound (Err error) answer worked settled = failed_sound new failed fails error answer settled goes_on
 
   pub restore_sound : (state : Snapshot) (outcome : Result (Result (Unit {0}) RestoreError) E) (answer : Result (Result (Unit {0}) RestoreError) SocketFault)

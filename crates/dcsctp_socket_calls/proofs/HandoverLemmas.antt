@@ -172,7 +172,7 @@ works_handed_over {R} stream old start new is_ready readiness state law sound be
     let here : IsSoundBelow old.endpoint = subst (λ (v : View R). IsSoundBelow v.endpoint) begins below in
     let valid : is_valid_snapshot old.endpoint.options state ≡ true =
     subst (λ (s : Snapshot). is_valid_snapshot old.endpoint.options s ≡ true) (sym own) (law old.endpoint sound here none) in
-    ((none, (own, valid)), handed_over stream old start new begins none moves)
+    ((none, own, valid), handed_over stream old start new begins none moves)
 
 pub works_restored : {R : Type 0} (stream : R → Stream) (old start mid new : View R) (is_closed_now : Bool) (state : Snapshot) → start ≡ call_start old
     → is_closed_now ≡ is_closed start.endpoint.core → is_closed_now ≡ true → state.socket_state ≡ states.Connected

@@ -11,8 +11,8 @@ ghost use Rattle.dcsctp_socket_calls.specs.HandoverParts.{WorksHandover, WorksRe
 use dcsctp_api::handover::{HandoverSocketState, SocketHandoverState};
 use dcsctp_api::{HandoverError, RestoreError};
 use dcsctp_core::Context;
-use dcsctp_machine::snapshots_are_valid;
 use dcsctp_core_handover::{hand_over, handover_state};
+use dcsctp_machine::snapshots_are_valid;
 use rand_core::Rng;
 use std::alloc::AllocError;
 

@@ -45,7 +45,6 @@ world_agrees law options world h =
       t1 = λ side. subst RunsT1 (sym (h.sides side).endpoint) (law.t1 options h.steps h.usable h.run side);
       sizes = λ side. subst (AllByRecursion (IsWithinLimit (of_side side options))) (sym (h.sides side).packets) (law.sizes options h.steps h.run side (h.usable side).valid);
       bursts = λ side. law.bursts options h.steps h.run side;
-      flushes = law.flushes;
       quiet = law.quiet options h.steps h.run;
       agree = law.agree options h.steps h.usable h.run;
     }

@@ -1,9 +1,9 @@
 -- What both generators have kept.
-use Rattle.std.proofs.Common.{◌≡◌, true, refl, sym, subst}
+use Rattle.std.proofs.Common.{◌≡◌, ◌↔◌, Bool, true, false, IsTrue, refl, sym, subst, ◌∙◌}
 use Rattle.dcsctp_machine.specs.declared.options.Options.{Options}
 use Rattle.dcsctp_machine.specs.declared.schedule.Side.{Side}
 use Rattle.dcsctp_machine.specs.declared.schedule.Side.TheVariants as sides
-use Rattle.dcsctp_machine.specs.Sockets.{Both, of_side}
+use Rattle.dcsctp_machine.specs.Sockets.{Both}
 use Rattle.dcsctp_world.specs.Acts.{with_associations}
 use Rattle.dcsctp_world.specs.Drawing.{AreWhole}
 use Rattle.dcsctp_world.specs.Recording.{Recording, fresh_recording}
@@ -12,6 +12,13 @@ use Rattle.dcsctp_world.specs.Shown.{SideShown, WorldView, fresh_world}
 pub both_whole : {R : Type 0} (both : Both (SideShown (Recording R))) → both.a.socket.view.generator.is_whole ≡ true → both.b.socket.view.generator.is_whole ≡ true → AreWhole both
 both_whole both a b sides.A = a
 both_whole both a b sides.B = b
+
+-- where A's has, and where it hasn't
+pub whole_by_b : {R : Type 0} (both : Both (SideShown (Recording R))) (b : Bool) → both.a.socket.view.generator.is_whole ≡ true → b ≡ both.b.socket.view.generator.is_whole → IsTrue b ↔ AreWhole both
+whole_by_b both b first is = ((λ yes. both_whole both first (sym is ∙ yes)), (λ whole. is ∙ whole sides.B))
+
+pub whole_by_a : {R : Type 0} (both : Both (SideShown (Recording R))) (a : Bool) → a ≡ false → a ≡ both.a.socket.view.generator.is_whole → IsTrue a ↔ AreWhole both
+whole_by_a both a not_whole is = ((λ yes. absurd (cc)), (λ whole. is ∙ whole sides.A))
 
 noted_whole_at : {R : Type 0} (moved : Both (SideShown (Recording R))) → AreWhole moved → AreWhole (with_associations moved)
 noted_whole_at moved whole sides.A = whole sides.A

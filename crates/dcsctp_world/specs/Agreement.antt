@@ -9,7 +9,6 @@ use Rattle.dcsctp_machine.specs.Endpoint.{open_in, established, fresh_endpoint}
 use Rattle.dcsctp_machine.specs.Offer.{offer_of, negotiated}
 use Rattle.dcsctp_machine.specs.control.HandshakeChanges.{new_held}
 use Rattle.dcsctp_machine.specs.CallTurns.{AlongTurns}
-use Rattle.dcsctp_machine.specs.Laws.{FlushKeepsLimits}
 use Rattle.dcsctp_machine.specs.Past.{Each, InPlace}
 use Rattle.dcsctp_machine.specs.Sockets.{Both, of_side, turns_after, acts_of}
 use Rattle.dcsctp_machine_refinement.specs.Agreement.{AgreeThroughout, noted_past}
@@ -28,7 +27,8 @@ use Rattle.dcsctp_world.specs.Run.{IsRun}
 -- resets, in the same order. A side's association is the one that it noted, and one of a handshake is noted only where it is
 -- another than before. A request ends by an answer with its number. A turn that ends an association tells it once, and no other
 -- turn tells an end. A socket that awaits an INIT ACK or a COOKIE ACK has T1 running. No packet that a side shows is longer than
--- its options allow, and no flush sends more of them than these allow. Time before the next deadline moves the clock alone.
+-- its options allow. No turn sends more of them than its input allows, and what a flush may send. Time before the next deadline
+-- moves the clock alone.
 pub record Agrees {R : Type 0} (options : Both Options) (world : WorldView R) : Type 0 where
   pub is_run : IsRun options world
   pub honest : AreHonest world.acts → AreHonest (acts_of is_run.steps)
@@ -43,7 +43,6 @@ pub record Agrees {R : Type 0} (options : Both Options) (world : WorldView R) : 
   pub t1 : (side : Side) → RunsT1 (of_side side world.sides).socket.view.endpoint
   pub sizes : (side : Side) → AllByRecursion (IsWithinLimit (of_side side options)) (of_side side world.sides).packets
   pub bursts : (side : Side) → AlongTurns TurnKeepsBurst (fresh_endpoint (of_side side options)) (of_side side (turns_after is_run.steps))
-  pub flushes : FlushKeepsLimits
   pub quiet : TimeIsQuiet options is_run.steps
 
 -- The side is Established with this pair and peer, and was told OnConnected once.

@@ -7,7 +7,7 @@ use Rattle.dcsctp_machine.specs.Sockets.{Both, of_side}
 use Rattle.dcsctp_core.specs.View.{Drawn}
 use Rattle.dcsctp_socket.specs.SocketView.{SocketView}
 use Rattle.dcsctp_world.specs.Recording.{Recording}
-use Rattle.dcsctp_world.specs.Shown.{SideShown, WorldView}
+use Rattle.dcsctp_world.specs.Shown.{SideShown}
 
 -- The words of a call are what the socket's generator gave, in order.
 abbrev pub CallDraws : {R : Type 0} → (R → Stream) → SocketView R → SocketView R → Type 0

@@ -1,5 +1,5 @@
 -- What a restore brings back of an association.
-use Rattle.std.specs.Prelude.{◌≡◌, Option, Ok}
+use Rattle.std.specs.Prelude.{◌≡◌, Ok}
 use Rattle.dcsctp_machine.specs.declared.association.Held.{Held}
 use Rattle.dcsctp_machine.specs.declared.association.Pair.{Pair}
 use Rattle.dcsctp_machine.specs.declared.options.Options.{Options}
@@ -12,23 +12,20 @@ use Rattle.dcsctp_machine.specs.Soundness.{IsSound}
 use Rattle.dcsctp_machine.specs.declared.schedule.Side.{Side}
 use Rattle.dcsctp_world.specs.Shown.{WorldView}
 use Rattle.dcsctp_machine.specs.control.ResumeChanges.{resumed_held}
-use Rattle.dcsctp_machine.specs.turns.BegunResets.{BegunReset, held_begun}
 use Rattle.dcsctp_machine.specs.turns.RestoreOutcomes.{own_pair, held_restored}
 use Rattle.dcsctp_world.specs.declared.act.Reply.{Reply}
 use Rattle.dcsctp_world.specs.declared.act.Reply.TheVariants.{Restored}
 
--- Both pairs, the tie tag, what both ends support, and the numbers of requests are those of the snapshot. The flush behind it may
--- have begun an own request.
+-- Both pairs, the tie tag, what both ends support, and the numbers of requests are those of the snapshot. The flush behind it
+-- begins no own request.
 pub record GoesOnFrom (options : Options) (state : Snapshot) (new : Endpoint) : Type 0 where
-  pub begun : Option BegunReset
-  pub core : new.core ≡ open_in established (own_pair state) (held_begun begun (held_restored options state))
+  pub core : new.core ≡ open_in established (own_pair state) (held_restored options state)
   pub tie : new.tie ≡ state.tie_tag
 
 -- A socket that was established goes on as it was: with both pairs, the tie tag, what both ends support, and the numbers of
 -- requests. No own request is outstanding, and the kept answer is 'nothing to do'.
 pub record GoesOn (old : Endpoint) (my : Pair) (held : Held) (new : Endpoint) : Type 0 where
-  pub begun : Option BegunReset
-  pub core : new.core ≡ open_in established my (held_begun begun (resumed_held held.peer held.capabilities held.own_next held.peer_last))
+  pub core : new.core ≡ open_in established my (resumed_held held.peer held.capabilities held.own_next held.peer_last)
   pub tie : new.tie ≡ old.tie
 
 -- No verification tag of either side's association is 0, and its zero checksum method is that of the options or none.

@@ -4,7 +4,7 @@ use crate::act::{Reply, are_honest, side_of};
 use crate::recorded::Recorded;
 use crate::watched_socket::WatchedSocket;
 use dcsctp_machine::{Act, Outside, Side, Step, options_fit, sockets_stay_sound};
-use dcsctp_machine_refinement::socket_laws;
+use dcsctp_machine_refinement::{restored_sockets_begin_nothing, socket_laws};
 use dcsctp_socket::{Association, Options, Pair, Socket, SocketEvent, SocketFault, Word};
 use rand_core::Rng;
 use std::alloc::Global;
@@ -209,7 +209,8 @@ impl<R: Rng + Drop> World<R> {
     /// Bytes are handed to it: `Reply::Done`. It is restored from a snapshot: `Reply::Restored`, or
     /// `Reply::NoCall` if the snapshot isn't valid, and no socket has changed. Or it is handed over and restored
     /// from its own snapshot: `Reply::Restored`, or `Reply::HandedOver` if that is refused. A restore brings back
-    /// both pairs, the tie tag, what both ends support, and the numbers of requests to reset streams.
+    /// both pairs, the tie tag, what both ends support, and the numbers of requests to reset streams. It begins
+    /// no such request, so the next own number is that of the snapshot (RFC 6525, section 4.1).
     ///
     /// Once it was applied, `is_honest` is false, and the agreement of the two sockets is promised only up to here.
     /// What `run` says of one socket still holds. The errors are those of `apply`.
@@ -224,6 +225,7 @@ impl<R: Rng + Drop> World<R> {
         ensures whole { OnOk result (AreWhole self.new.sides) }
         ensures options { OnOk result (options_of self.new ≡ options_of self.old) }
     {
+        restored_sockets_begin_nothing();
         self.apply_act(Act::Outside(outside))
     }
 

@@ -14,6 +14,5 @@ returns c =
       t1 = c.sockets_run_t1.ensures;
       sizes = c.sockets_keep_sizes.ensures;
       bursts = c.sockets_keep_bursts.ensures;
-      flushes = c.flush_keeps_limits.ensures;
       quiet = c.sockets_wait_quietly.ensures;
     }

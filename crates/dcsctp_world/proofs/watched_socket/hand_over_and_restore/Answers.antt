@@ -14,7 +14,7 @@ restore-requires g c =
     let old : UserView = user_view_of c.args.socket.now in
     let mid : UserView = user_view_of c.get_handover_state_and_close.new.self in
     let handed = subst (λ (answer : Result SocketHandoverState HandoverError). HandsOver old (Ok answer) mid) c.in-Ok.is c.in_ok-error.ensures.call in
-    valid_there old mid (snapshot c.in-Ok.state) handed.1 handed.0.0 handed.0.1.1 handed.2 handed.3
+    valid_there old mid (snapshot c.in-Ok.state) handed.1 handed.0.0 handed.0.2 handed.2 handed.3
 
 pub returns-in-Err-clause-call : goal.returns-in-Err-clause-call
 returns-in-Err-clause-call g c =
@@ -29,8 +29,8 @@ returns-in-Ok-clause-call g c =
     let mid : UserView = user_view_of c.get_handover_state_and_close.new.self in
     let new : UserView = user_view_of c.restore.new.socket in
     let handed = subst (λ (answer : Result SocketHandoverState HandoverError). HandsOver old (Ok answer) mid) c.in-Ok.is c.in_ok-error.ensures.call in
-    let valid : is_valid_snapshot mid.endpoint.options (snapshot c.in-Ok.state) ≡ true = valid_there old mid (snapshot c.in-Ok.state) handed.1 handed.0.0 handed.0.1.1 handed.2 handed.3 in
-    hands_on old mid new (snapshot c.in-Ok.state) c.restore.result handed.1 handed.0.0 handed.0.1.0 valid handed.2 handed.3 c.restore.ensures.call
+    let valid : is_valid_snapshot mid.endpoint.options (snapshot c.in-Ok.state) ≡ true = valid_there old mid (snapshot c.in-Ok.state) handed.1 handed.0.0 handed.0.2 handed.2 handed.3 in
+    hands_on old mid new (snapshot c.in-Ok.state) c.restore.result handed.1 handed.0.0 handed.0.1 valid handed.2 handed.3 c.restore.ensures.call
 
 pub returns-in-Ok-clause-drawn : goal.returns-in-Ok-clause-drawn
 returns-in-Ok-clause-drawn g c =

@@ -28,10 +28,10 @@ returns-in_err-reply-in-B-clause-call g c =
     (subst (λ (bytes : List (Vec ℕ Global)). Fails (TurnsOfAct c.args.b.now.socket.view.endpoint (packet_bytes bytes) (act_content c.args.act.now)) (shown c.args.b.now) fault (shown c.perform-in-B.new.self))
     c.deref-in-B.ensures.value c.in_err-reply-in-B.ensures.call) refl)
 
-pub returns-in-A-clause-drawn : goal.returns-in-A-clause-drawn
-returns-in-A-clause-drawn g c =
+pub returns-in_ok-reply-in-A-clause-drawn : goal.returns-in_ok-reply-in-A-clause-drawn
+returns-in_ok-reply-in-A-clause-drawn g c =
     draw_on_at g.R.Rng.stream sides.A (both c.args.a.now c.args.b.now) (both c.perform.new.self c.args.b.now) c.in_ok-reply-in-A.ensures.drawn refl
 
-pub returns-in-B-clause-drawn : goal.returns-in-B-clause-drawn
-returns-in-B-clause-drawn g c =
+pub returns-in_ok-reply-in-B-clause-drawn : goal.returns-in_ok-reply-in-B-clause-drawn
+returns-in_ok-reply-in-B-clause-drawn g c =
     draw_on_at g.R.Rng.stream sides.B (both c.args.a.now c.args.b.now) (both c.args.a.now c.perform-in-B.new.self) c.in_ok-reply-in-B.ensures.drawn refl

@@ -6,6 +6,7 @@ use Rattle.dcsctp_socket.specs.SocketView.{SocketView, user_view_of}
 use Rattle.dcsctp_machine.specs.declared.ends.AbortReason.TheVariants.{CloseCalled}
 use Rattle.dcsctp_machine.specs.control.Acts.{abort_with}
 use Rattle.dcsctp_socket_calls.specs.Parts.{WorksCall, ActTurns}
+use Rattle.dcsctp_socket.proofs.SoundCalls.{close_sound}
 use Rattle.dcsctp_socket.proofs.AnsweredCalls.{closes}
 use Rattle.dcsctp_socket.proofs.socket.SocketDcSctpSocket.close.Goals as goal
 
@@ -17,3 +18,9 @@ returns-clause-call g c =
     c.if-self.false
     (subst (λ (x : Context g.row.R.Denot). WorksCall g.R.Rng.stream (ActTurns (abort_with CloseCalled)) x c.close-outcome.result c.close-outcome.new.context) c.deref_mut.ensures.value c.close-outcome.ensures.turn)
     c.settled.ensures)
+
+pub invariant_of-self : goal.invariant_of-self
+invariant_of-self g c = λ goes_on.
+    close_sound c.calls_keep_soundness.ensures g.R.Rng.stream c.self.inside.context.value c.close-outcome.new.context c.self.inside.failed c.settled.new.failed (c.self.invariant c.if-self.false) goes_on
+    c.close-outcome.result c.settled.result
+    (subst (λ (x : Context g.row.R.Denot). WorksCall g.R.Rng.stream (ActTurns (abort_with CloseCalled)) x c.close-outcome.result c.close-outcome.new.context) c.deref_mut.ensures.value c.close-outcome.ensures.turn) c.settled.ensures

@@ -3,6 +3,7 @@ use Rattle.dcsctp_core.specs.declared.context.Context.{Context}
 use Rattle.dcsctp_core.specs.View.{view_of}
 use Rattle.dcsctp_socket.specs.SocketView.{SocketView, user_view_of}
 use Rattle.dcsctp_socket_calls.specs.Parts.{WorksConnect}
+use Rattle.dcsctp_socket.proofs.SoundCalls.{connect_sound}
 use Rattle.dcsctp_socket.proofs.AnsweredCalls.{connects}
 use Rattle.std.proofs.Common.{subst}
 use Rattle.dcsctp_socket.proofs.socket.SocketDcSctpSocket.connect.Goals as goal
@@ -15,3 +16,9 @@ returns-clause-call g c =
     c.if-self.false
     (subst (λ (x : Context g.row.R.Denot). WorksConnect g.R.Rng.stream x c.connect-outcome.result c.connect-outcome.new.context) c.deref_mut.ensures.value c.connect-outcome.ensures.turn)
     c.settled.ensures)
+
+pub invariant_of-self : goal.invariant_of-self
+invariant_of-self g c = λ goes_on.
+    connect_sound c.calls_keep_soundness.ensures g.R.Rng.stream c.self.inside.context.value c.connect-outcome.new.context c.self.inside.failed c.settled.new.failed (c.self.invariant c.if-self.false) goes_on
+    c.connect-outcome.result c.settled.result
+    (subst (λ (x : Context g.row.R.Denot). WorksConnect g.R.Rng.stream x c.connect-outcome.result c.connect-outcome.new.context) c.deref_mut.ensures.value c.connect-outcome.ensures.turn) c.settled.ensures

@@ -5,6 +5,7 @@ use Rattle.dcsctp_core.specs.declared.context.Context.{Context}
 use Rattle.dcsctp_core.specs.View.{view_of}
 use Rattle.dcsctp_socket.specs.SocketView.{SocketView, user_view_of}
 use Rattle.dcsctp_socket_calls.specs.MessageParts.{WorksSend}
+use Rattle.dcsctp_socket.proofs.SoundCalls.{send_sound}
 use Rattle.dcsctp_socket.proofs.AnsweredCalls.{sends}
 use Rattle.dcsctp_socket.proofs.socket.SocketDcSctpSocket.send.Goals as goal
 
@@ -16,3 +17,9 @@ returns-clause-call g c =
     c.if-self.false
     (subst (λ (x : Context g.row.R.Denot). WorksSend g.R.Rng.stream (message_content c.args.message) c.args.options.now x c.send-outcome.result c.send-outcome.new.context) c.deref_mut.ensures.value c.send-outcome.ensures)
     c.settled.ensures)
+
+pub invariant_of-self : goal.invariant_of-self
+invariant_of-self g c = λ goes_on.
+    send_sound c.calls_keep_soundness.ensures g.R.Rng.stream c.self.inside.context.value c.send-outcome.new.context c.self.inside.failed c.settled.new.failed (c.self.invariant c.if-self.false) goes_on
+    (message_content c.args.message) c.args.options.now c.send-outcome.result c.settled.result
+    (subst (λ (x : Context g.row.R.Denot). WorksSend g.R.Rng.stream (message_content c.args.message) c.args.options.now x c.send-outcome.result c.send-outcome.new.context) c.deref_mut.ensures.value c.send-outcome.ensures) c.settled.ensures

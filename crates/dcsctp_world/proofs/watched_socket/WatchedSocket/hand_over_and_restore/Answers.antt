@@ -29,4 +29,4 @@ returns-in_err-keep_all-clause-call g c =
 
 pub returns-clause-drawn : goal.returns-clause-drawn
 returns-clause-drawn g c =
-    side_draws g.R.Rng.stream (shown c.args.self.now) (shown c.keep_all.new.self) c.hand_on.new.socket c.in_ok-reply.ensures.drawn c.in_ok-keep_all.ensures
+    side_draws g.R.Rng.stream (shown c.args.self.now) (shown c.keep_all.new.self) c.hand_over_and_restore.new.socket c.in_ok-reply.ensures.drawn c.in_ok-keep_all.ensures

@@ -6,7 +6,7 @@ use Rattle.dcsctp_machine.specs.Snapshot.{snapshot, is_valid_snapshot}
 use Rattle.dcsctp_world.specs.Outside.{ValidTurns, IsRestoredBy}
 use Rattle.dcsctp_world.specs.Parts.{shown}
 use Rattle.dcsctp_world.proofs.HandingOn.{not_restored_by}
-use Rattle.dcsctp_world.proofs.Drawing.{side_draws, side_draws_nothing}
+use Rattle.dcsctp_world.proofs.Drawing.{side_draws_nothing}
 use Rattle.dcsctp_world.proofs.Stopping.{call_fails, stops_after}
 use Rattle.dcsctp_world.proofs.watched_socket.WatchedSocket.restore.Goals as goal
 
@@ -36,10 +36,6 @@ returns-then-not-is_valid-clause-call g c =
     let options = c.options.ensures in
     let invalid : is_valid_snapshot c.args.self.now.socket.view.endpoint.options (snapshot c.args.state.now) ≡ false = cc in
     not_restored_by (shown c.args.self.now) (snapshot c.args.state.now) invalid c.requires
-
-pub returns-else-not-is_valid-clause-drawn : goal.returns-else-not-is_valid-clause-drawn
-returns-else-not-is_valid-clause-drawn g c =
-    side_draws g.R.Rng.stream (shown c.args.self.now) (shown c.keep_all.new.self) c.restore.new.socket c.in_ok-reply.ensures.drawn c.in_ok-keep_all.ensures
 
 pub returns-then-not-is_valid-clause-drawn : goal.returns-then-not-is_valid-clause-drawn
 returns-then-not-is_valid-clause-drawn g c = side_draws_nothing g.R.Rng.stream (shown c.args.self.now)

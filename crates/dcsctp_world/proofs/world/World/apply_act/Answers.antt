@@ -1,6 +1,7 @@
 use Rattle.dcsctp_machine.specs.Schedule.{act_content}
 use Rattle.dcsctp_machine.specs.declared.schedule.Side.TheVariants as sides
 use Rattle.std.proofs.Common.{true, subst}
+use Rattle.dcsctp_world.specs.Recording.{Recording}
 use Rattle.dcsctp_world.specs.Shown.{WorldView, options_of}
 use Rattle.dcsctp_world.specs.Run.{IsRun}
 use Rattle.dcsctp_world.specs.Acts.{RanOut}
@@ -22,7 +23,7 @@ pub returns-in-Ok-clause-agreement : goal.returns-in-Ok-clause-agreement
 returns-in-Ok-clause-agreement g c =
     let new = world_of c.perform_and_keep.new.a c.perform_and_keep.new.b c.perform_and_keep.new.acts.items c.self.inside.failed in
     world_agrees c.socket_laws.ensures (options_of c.args.self.now) new
-    (subst (λ (w : WorldView g.row.R.Denot). IsRun (options_of w) new) c.self.view_is
+    (subst (λ (w : WorldView (Recording g.row.R.Denot)). IsRun (options_of w) new) c.self.view_is
     (applied_is_run (act_content c.args.act) c.in-Ok.reply c.self.inside.a c.self.inside.b c.perform_and_keep.new.a c.perform_and_keep.new.b c.self.inside.acts.items c.perform_and_keep.new.acts.items
     c.self.inside.failed c.if-self.false (λ runs. (c.self.invariant runs).is_run) c.in-Ok.ensures.call))
 
@@ -44,7 +45,7 @@ returns-in-Ok-clause-options g c =
 pub returns-in-Err-clause-call : goal.returns-in-Err-clause-call
 returns-in-Err-clause-call g c =
     let new = world_of c.perform_and_keep.new.a c.perform_and_keep.new.b c.perform_and_keep.new.acts.items true in
-    subst (λ (w : WorldView g.row.R.Denot). RanOut (act_content c.args.act) w new) c.self.view_is
+    subst (λ (w : WorldView (Recording g.row.R.Denot)). RanOut (act_content c.args.act) w new) c.self.view_is
     (ran_out_in (act_content c.args.act) _ c.self.inside.a c.self.inside.b c.perform_and_keep.new.a c.perform_and_keep.new.b c.self.inside.acts.items c.perform_and_keep.new.acts.items
     c.self.inside.failed c.if-self.false (λ runs. (c.self.invariant runs).is_run) c.in-Err.ensures.call)
 

@@ -1,9 +1,9 @@
-use Rattle.std.proofs.Common.{◌≡◌, false, ap, ◌∙◌}
+use Rattle.std.proofs.Common.{false, ap, ◌∙◌}
 use Rattle.dcsctp_machine.specs.declared.options.Options.{Options}
 use Rattle.dcsctp_machine.specs.Sockets.{Both}
 use Rattle.dcsctp_world.specs.Parts.{world_of}
 use Rattle.dcsctp_world.specs.Recording.{Recording, fresh_recording}
-use Rattle.dcsctp_world.specs.Shown.{WorldView, fresh_side, fresh_world}
+use Rattle.dcsctp_world.specs.Shown.{WorldView, fresh_side}
 use Rattle.dcsctp_world.proofs.Running.{is_fresh, fresh_is_run, is_run_of_own}
 use Rattle.dcsctp_world.proofs.Whole.{fresh_whole}
 use Rattle.dcsctp_world.proofs.world.World.new.Goals as goal

@@ -1,0 +1,11 @@
+use Rattle.std.proofs.Common.{subst}
+use Rattle.dcsctp_core.specs.declared.context.Context.{Context}
+use Rattle.dcsctp_socket_calls.specs.HandoverParts.{WorksHandover}
+use Rattle.dcsctp_socket.proofs.SoundCalls.{hand_over_sound}
+use Rattle.dcsctp_socket.proofs.socket.SocketDcSctpSocket.get_handover_state_and_close.Goals as goal
+
+pub invariant_of-self : goal.invariant_of-self
+invariant_of-self g c = λ goes_on.
+    hand_over_sound c.calls_keep_soundness.ensures g.R.Rng.stream c.self.inside.context.value c.get_handover_state_and_close-outcome.new.context c.self.inside.failed c.settled.new.failed (c.self.invariant c.if-self.false) goes_on
+    c.get_handover_state_and_close-outcome.result c.settled.result
+    (subst (λ (x : Context g.row.R.Denot). WorksHandover g.R.Rng.stream x c.get_handover_state_and_close-outcome.result c.get_handover_state_and_close-outcome.new.context) c.deref_mut.ensures.value c.get_handover_state_and_close-outcome.ensures.call) c.settled.ensures
