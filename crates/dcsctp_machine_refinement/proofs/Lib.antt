@@ -23,9 +23,11 @@ mod HandshakeTurns
 mod Idle
 mod IdleTurns
 mod Moves
-mod OpenStreams
+mod NewAssociations
 mod NoHolding
+mod NoHoldingTurns
 mod NotingAnew
+mod OpenStreams
 mod PacketMoves
 mod PlainFits
 mod Quiet

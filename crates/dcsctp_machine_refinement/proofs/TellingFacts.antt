@@ -8,10 +8,11 @@ use Rattle.dcsctp_machine.specs.Endpoint.{Endpoint, open_in, established}
 use Rattle.dcsctp_machine.specs.Endpoint as machine
 use Rattle.dcsctp_machine.specs.Outcome.{still}
 use Rattle.dcsctp_machine.specs.Turn.{arrival}
-use Rattle.dcsctp_machine.specs.control.Effect.{Link, Effect, draws, holds, connects, ends, begins, completes, fails, accepts, performs, link_of}
+use Rattle.dcsctp_machine.specs.control.Effect.{Link, Effect, draws, holds, connects, ends, begins, completes, fails, accepts, performs, resumes, link_of}
 use Rattle.dcsctp_machine.specs.Controlled.{has_connected, own_reset_performed, own_reset_failed, peer_reset_performed}
 use Rattle.dcsctp_machine.specs.CallTurns.{Turned, turned}
-use Rattle.dcsctp_machine_refinement.specs.Telling.{TellsNoted, HoldsNoted, NotesAnew}
+use Rattle.dcsctp_machine.specs.Past.{Each}
+use Rattle.dcsctp_machine_refinement.specs.Telling.{TellsNoted, HoldsNoted, NotesAnew, IsAnew}
 
 -- a turn that noted these and told those
 abbrev telling : Endpoint → List Effect → List (Event Emission) → Turned
@@ -65,3 +66,14 @@ lost_unnoted e link h = let same : Some link ≡ None = h in absurd (cc)
 -- One that is there isn't noted again.
 noted_again : (e : Endpoint) (my : Pair) (held : Held) → NotesAnew (record e { core = open_in established my held }) (telling e (holds (link_of my held) ∷ []) []) → ⊥
 noted_again e my held h = h (link_of my held) (inl refl) refl
+
+-- That is so in one turn too, after a restore as after a handshake,
+noted_twice : (link : Link) → Each IsAnew (connects link ∷ holds link ∷ connects link ∷ holds link ∷ []) → ⊥
+noted_twice link each = each.1.0 refl
+
+restored_and_noted : (link : Link) → Each IsAnew (holds link ∷ connects link ∷ resumes link 1 5 ∷ []) → ⊥
+restored_and_noted link each = each.0 refl
+
+-- but not after an end.
+noted_after_an_end : (link : Link) → Each IsAnew (holds link ∷ ends ∷ connects link ∷ holds link ∷ [])
+noted_after_an_end link = (λ same. absurd (cc), (tt, (tt, (λ same. absurd (cc), tt))))

@@ -6,10 +6,10 @@ use Rattle.dcsctp_machine.specs.declared.options.Options.{Options}
 use Rattle.dcsctp_machine.specs.declared.schedule.Side.{Side}
 use Rattle.dcsctp_machine.specs.Event.{Event, connected, closed, aborted, streams_reset_failed, streams_reset_performed, incoming_stream_reset}
 use Rattle.dcsctp_machine.specs.Endpoint.{Endpoint, fresh_endpoint}
-use Rattle.dcsctp_machine.specs.control.Effect.{Link, holds, link_in}
+use Rattle.dcsctp_machine.specs.control.Effect.{Link, Effect, holds, link_in}
 use Rattle.dcsctp_machine.specs.Controlled.{Sign, has_connected, has_ended, own_reset_performed, own_reset_failed, peer_reset_performed, signs_of_effects}
 use Rattle.dcsctp_machine.specs.CallTurns.{Turned, AlongTurns}
-use Rattle.dcsctp_machine.specs.Past.{Has}
+use Rattle.dcsctp_machine.specs.Past.{Has, Each, current}
 use Rattle.dcsctp_machine.specs.Sockets.{Worked, Both, of_side, turns_after, endpoint_after, SocketRun}
 use Rattle.dcsctp_machine_agreement.specs.OneSide.{Leaves}
 use Rattle.dcsctp_machine_refinement.specs.Agreement.{AreUsable, noted_past}
@@ -45,11 +45,21 @@ SocketsHoldNoted =
     (options : Both Options) (run : List Worked) → AreUsable options → SocketRun options run → (side : Side)
     → HoldsNoted (of_side side (turns_after run)) (endpoint_after (of_side side options) (of_side side (turns_after run)))
 
--- The turn notes an association that a handshake made only where it is another than before, or where there was none.
+-- The turn notes an association that a handshake made only where it is another than before it, or where there was none.
 abbrev pub NotesAnew : Endpoint → Turned → Type 0
 NotesAnew e turn = (link : Link) → Has (holds link) turn.outcome.effects → link_in e.core ≢ Some link
+
+-- It is another than the one that what was noted before leaves, in the same turn too.
+abbrev pub IsAnew : Effect → List Effect → Type 0
+IsAnew (holds link) earlier = current earlier ≢ Some link
+IsAnew effect earlier = Unit {0}
+
+-- No association is noted again while it is there, so no lifetime begins within another of the same association.
+pub record AreAnew (e : Endpoint) (turns : List Turned) : Type 0 where
+  pub by_turns : AlongTurns NotesAnew e turns
+  pub by_notes : Each IsAnew (noted_past turns)
 
 abbrev pub SocketsNoteAnew : Type 0
 SocketsNoteAnew =
     (options : Both Options) (run : List Worked) → AreUsable options → SocketRun options run → (side : Side)
-    → AlongTurns NotesAnew (fresh_endpoint (of_side side options)) (of_side side (turns_after run))
+    → AreAnew (fresh_endpoint (of_side side options)) (of_side side (turns_after run))

@@ -93,11 +93,12 @@ pub fn sockets_hold_noted()
     acts_are_controlled();
 }
 
-/// A turn of a socket notes an association that a handshake made only where it is another than before, or
-/// where there was none.
+/// A socket notes an association that a handshake made only where it is another than before, or where there
+/// was none.
 pub fn sockets_note_anew()
     ensures { SocketsNoteAnew }
 {
+    past_is_state();
     chunks_are_controlled();
     acts_are_controlled();
 }

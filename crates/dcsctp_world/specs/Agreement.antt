@@ -15,7 +15,7 @@ use Rattle.dcsctp_machine_refinement.specs.Agreement.{AgreeThroughout, noted_pas
 use Rattle.dcsctp_machine_refinement.specs.Deadlines.{RunsT1}
 use Rattle.dcsctp_machine_refinement.specs.Handshake.{handshake_acts, AreFitting, ConnectThroughout, connections}
 use Rattle.dcsctp_machine_refinement.specs.OneSocket.{EndsByAnswer, TellsEnd, IsWithinLimit, TurnKeepsBurst, TimeIsQuiet}
-use Rattle.dcsctp_machine_refinement.specs.Telling.{TellsNoted, HoldsNoted, NotesAnew}
+use Rattle.dcsctp_machine_refinement.specs.Telling.{TellsNoted, HoldsNoted, AreAnew}
 use Rattle.dcsctp_world.specs.Shown.{SideShown, WorldView}
 use Rattle.dcsctp_world.specs.Run.{IsRun}
 
@@ -37,7 +37,7 @@ pub record Agrees {R : Type 0} (options : Both Options) (world : WorldView R) : 
   pub numbers : (side : Side) → Each InPlace (noted_past (of_side side (turns_after is_run.steps)))
   pub told : (side : Side) → AllByRecursion TellsNoted (of_side side (turns_after is_run.steps))
   pub held : (side : Side) → HoldsNoted (of_side side (turns_after is_run.steps)) (of_side side world.sides).socket.view.endpoint
-  pub anew : (side : Side) → AlongTurns NotesAnew (fresh_endpoint (of_side side options)) (of_side side (turns_after is_run.steps))
+  pub anew : (side : Side) → AreAnew (fresh_endpoint (of_side side options)) (of_side side (turns_after is_run.steps))
   pub answers : (side : Side) → AllByRecursion EndsByAnswer (of_side side (turns_after is_run.steps))
   pub ends : (side : Side) → AlongTurns TellsEnd (fresh_endpoint (of_side side options)) (of_side side (turns_after is_run.steps))
   pub t1 : (side : Side) → RunsT1 (of_side side world.sides).socket.view.endpoint
