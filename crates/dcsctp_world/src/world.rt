@@ -239,13 +239,13 @@ impl<R: Rng + Drop> World<R> {
     /// performed that request. The four packets of a handshake, delivered in turn, connect two fresh sockets
     /// that fit each other (RFC 9260, section 5.1).
     ///
-    /// The rest holds whatever bytes come from outside. In one lifetime an association connects at most once,
-    /// and the numbers of requests to reset streams go up by one. Each request that was accepted is performed
-    /// at most once (RFC 6525, section 4.1). A request ends by an answer with its number (section 5.2.7). An
-    /// association that ends tells it once. While an INIT ACK or a COOKIE ACK is awaited, T1 runs. Time before
-    /// the next deadline moves the clock alone, but for a socket that awaits a COOKIE ACK. No packet is longer
-    /// than the `mtu` of its side, rounded down to a multiple of 4, and no flush sends more than `max_burst` of
-    /// them.
+    /// The rest holds whatever comes from outside. In one lifetime an association connects at most once, and
+    /// the numbers of requests to reset streams go up by one. Each request that was accepted is performed at
+    /// most once (RFC 6525, section 4.1). A request ends by an answer with its number (section 5.2.7). Events
+    /// tell each connection, end and reset, in order, and no other. An association that ends tells it once.
+    /// While an INIT ACK or a COOKIE ACK is awaited, T1 runs. Time before the next deadline moves the clock
+    /// alone, but for a socket that awaits a COOKIE ACK. No packet is longer than the `mtu` of its side, rounded
+    /// down to a multiple of 4, and no flush sends more than `max_burst` of them.
     pub fn run(&mut self, steps: &[Step]) -> Result<(), SocketFault>
         ensures call { Runs (recorded_stream R.stream) (map step_content steps.now) self.old result self.new }
         ensures agreement { OnOk result (Agrees (options_of self.old) self.new) }
