@@ -14,7 +14,6 @@ use Rattle.dcsctp_machine.specs.Endpoint.{Endpoint}
 use Rattle.dcsctp_machine.specs.CallTurns.{Turned, events_of}
 use Rattle.dcsctp_machine.specs.declared.schedule.Side.{Side}
 use Rattle.dcsctp_machine.specs.Sockets.{Worked, Both, of_side, turns_after, acts_of}
-use Rattle.dcsctp_machine_refinement.specs.Agreement.{HasDistinctTags}
 use Rattle.dcsctp_machine_refinement.specs.Deadlines.{RunsT1}
 use Rattle.dcsctp_machine_refinement.specs.Handshake.{ConnectThroughout, handshake_acts, connections, IsConnected, AreConnected, FittingSocketsConnect}
 use Rattle.dcsctp_machine_refinement.specs.Laws.{SocketLaws}
@@ -26,7 +25,8 @@ use Rattle.dcsctp_world.specs.Run.{SideRuns, IsRun}
 use Rattle.dcsctp_api.specs.declared.errors.SocketFault.{SocketFault}
 use Rattle.dcsctp_api.specs.declared.errors.SocketFault.TheVariants.{OutOfMemory, Failed}
 use Rattle.dcsctp_world.specs.Acts.{Applies, Ran, Runs}
-use Rattle.dcsctp_world.specs.Drawing.{DrawOn}
+use Rattle.dcsctp_world.specs.Drawing.{DrawOn, AreWhole}
+use Rattle.dcsctp_world.specs.Recording.{Recording, recorded_stream}
 use Rattle.dcsctp_world.proofs.Honest.{honest_run}
 use Rattle.dcsctp_world.specs.Agreement.{Agrees, ShowsConnected, BothConnected, HandshakeConnects}
 
@@ -106,10 +106,10 @@ split_at (x ∷ xs) zero default within = refl
 split_at (x ∷ xs) (suc i) default within = ap (λ (l : List Step). x ∷ l) (split_at xs i default (omega (arith, within)))
 
 -- the steps before the one that was refused ran
-refused_at : {R : Type 0} (stream : R → Stream) → SocketLaws → (steps : List Step) (i : ℕ) (default : Step) (fault : SocketFault) (old now new : WorldView R) → i < length steps
-    → Ran (map step_content (take i steps)) old now → DrawOn stream old.sides now.sides → Applies (step_act (step_content (get_or steps i default))) now (Err fault) new
+refused_at : {R : Type 0} (stream : R → Stream) → SocketLaws → (steps : List Step) (i : ℕ) (default : Step) (fault : SocketFault) (old now new : WorldView (Recording R)) → i < length steps
+    → Ran (map step_content (take i steps)) old now → DrawOn (recorded_stream stream) old.sides now.sides → AreWhole now.sides → Applies (step_act (step_content (get_or steps i default))) now (Err fault) new
     → Runs stream (map step_content steps) old (Err fault) new
-refused_at stream law steps i default OutOfMemory old now new within ran drawn out =
+refused_at stream law steps i default OutOfMemory old now new within ran drawn whole out =
     record {
       done = map step_content (take i steps);
       refused = step_content (get_or steps i default);
@@ -121,16 +121,17 @@ refused_at stream law steps i default OutOfMemory old now new within ran drawn o
       agrees = world_agrees law (options_of old) now ran.is_run;
       connects = handshake_connects law.connect (options_of old) now ran.is_run;
       drawn = drawn;
+      whole = whole;
       ran_out = out;
     }
-refused_at stream law steps i default Failed old now new within ran drawn out =
+refused_at stream law steps i default Failed old now new within ran drawn whole out =
     let goes_on : now.failed ≡ false = ran.goes_on in
     let had_failed : now.failed ≡ true = out.had_failed in
     absurd (cc)
 
-pub ran_out_among : {R : Type 0} (stream : R → Stream) → SocketLaws → (steps : List Step) (i : ℕ) (default : Step) (fault : SocketFault) (old now new : WorldView R) → i < length steps
-    → Ran (map step_content (take i steps)) old now → DrawOn stream old.sides now.sides → Applies (step_act (step_content (get_or steps i default))) now (Err fault) new
+pub ran_out_among : {R : Type 0} (stream : R → Stream) → SocketLaws → (steps : List Step) (i : ℕ) (default : Step) (fault : SocketFault) (old now new : WorldView (Recording R)) → i < length steps
+    → Ran (map step_content (take i steps)) old now → DrawOn (recorded_stream stream) old.sides now.sides → AreWhole now.sides → Applies (step_act (step_content (get_or steps i default))) now (Err fault) new
     → (result : Result (Unit {0}) SocketFault) → IsErrAnd result (λ given. given ≡ fault) → Runs stream (map step_content steps) old result new
-ran_out_among stream law steps i default fault old now new within ran drawn out (Ok done) is = absurd is
-ran_out_among stream law steps i default fault old now new within ran drawn out (Err given) is =
-    subst (λ (f : SocketFault). Runs stream (map step_content steps) old (Err f) new) (sym is) (refused_at stream law steps i default fault old now new within ran drawn out)
+ran_out_among stream law steps i default fault old now new within ran drawn whole out (Ok done) is = absurd is
+ran_out_among stream law steps i default fault old now new within ran drawn whole out (Err given) is =
+    subst (λ (f : SocketFault). Runs stream (map step_content steps) old (Err f) new) (sym is) (refused_at stream law steps i default fault old now new within ran drawn whole out)

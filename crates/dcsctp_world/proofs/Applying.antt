@@ -21,7 +21,7 @@ use Rattle.dcsctp_world.specs.declared.watched_socket.WatchedSocket.{WatchedSock
 use Rattle.dcsctp_world.specs.Shown.{SideShown, WorldView, options_of}
 use Rattle.dcsctp_world.specs.Growth.{Grows, SideExtends, with_association}
 use Rattle.dcsctp_world.specs.Run.{IsRun}
-use Rattle.dcsctp_world.specs.Acts.{ActMoves, BothExtend, with_associations, Applied, WorksAct, WorldExtends, RanOut, Ran}
+use Rattle.dcsctp_world.specs.Acts.{ActMoves, AppliedAll, BothExtend, with_associations, Applied, WorksAct, WorldExtends, RanOut, Ran}
 use Rattle.dcsctp_world.specs.Parts.{world_of}
 use Rattle.dcsctp_world.proofs.Keeping.{extends_itself, extends_by, extends_further}
 use Rattle.dcsctp_world.proofs.Running.{is_run_next}
@@ -132,12 +132,36 @@ ran_out_in act Failed a b new_a new_b made new_made failed is invariant stays =
 
 -- ---- several steps
 
+-- no step yet
+pub ran_none : {R : Type 0} (old : WorldView R) → old.failed ≡ false → IsRun (options_of old) old → Ran [] old old
+unfolding AppliedAll
+ran_none old runs is_run =
+    record {
+      runs = runs;
+      goes_on = runs;
+      applied = refl;
+      acts = sym (append-nil old.acts);
+      extends = record { sides = record { a = side_extends_itself old.sides.a; b = side_extends_itself old.sides.b }; acts = extends_itself old.acts };
+      options = refl;
+      is_run = is_run;
+    }
+
+-- one step more
+applied_after : {R : Type 0} (steps : List StepContent) (step : StepContent) (reply : Reply) (old now new : WorldView R) → AppliedAll steps old now → Applied (step_act step) reply now new
+    → AppliedAll (steps ++ step ∷ []) old new
+unfolding AppliedAll
+applied_after {R = R} [] step reply old now new same applied =
+    record { reply = reply; between = new; applied = subst (λ (w : WorldView R). Applied (step_act step) reply w new) same applied; others = refl }
+applied_after (first ∷ steps) step reply old now new all applied =
+    record { reply = all.reply; between = all.between; applied = all.applied; others = applied_after steps step reply all.between now new all.others applied }
+
 ran_more : {R : Type 0} (steps : List StepContent) (step : StepContent) (reply : Reply) (old now new : WorldView R) → Ran steps old now → Applied (step_act step) reply now new
     → IsRun (options_of now) new → options_of new ≡ options_of now → Ran (steps ++ step ∷ []) old new
 ran_more {R = R} steps step reply old now new ran applied is_run options =
     record {
       runs = ran.runs;
       goes_on = applied.goes_on;
+      applied = applied_after steps step reply old now new ran.applied applied;
       acts = applied.acts ∙ ap (λ (l : List ActContent). l ++ step_act step ∷ []) ran.acts ∙ append_assoc old.acts (map step_act steps) (step_act step ∷ [])
           ∙ ap (λ (l : List ActContent). old.acts ++ l) (sym (map-append step_act steps (step ∷ [])));
       extends = world_extends_further old now new ran.extends (applied_extends (step_act step) reply now new applied);

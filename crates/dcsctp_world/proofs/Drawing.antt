@@ -9,7 +9,7 @@ use Rattle.dcsctp_machine.specs.Sockets.{Both, of_side, of_other}
 use Rattle.dcsctp_core.specs.View.{Drawn}
 use Rattle.dcsctp_core.proofs.Moving.{Drawn-append}
 use Rattle.dcsctp_socket.specs.SocketView.{SocketView}
-use Rattle.dcsctp_world.specs.Growth.{Collects, with_association}
+use Rattle.dcsctp_world.specs.Growth.{Collects}
 use Rattle.dcsctp_world.specs.Acts.{with_associations}
 use Rattle.dcsctp_world.specs.Drawing.{CallDraws, SideDraws, DrewFrom, DrawOn}
 use Rattle.dcsctp_world.specs.Shown.{SideShown}

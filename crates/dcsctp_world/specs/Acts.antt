@@ -10,7 +10,8 @@ use Rattle.dcsctp_world.specs.Shown.{SideShown, WorldView, options_of}
 use Rattle.dcsctp_world.specs.Growth.{Extends, Fails, Grows, ShowsFront, Stops, SideExtends, with_association, IsReply}
 use Rattle.dcsctp_world.specs.Run.{IsRun}
 use Rattle.dcsctp_world.specs.Agreement.{Agrees, HandshakeConnects}
-use Rattle.dcsctp_world.specs.Drawing.{DrawOn}
+use Rattle.dcsctp_world.specs.Drawing.{DrawOn, AreWhole}
+use Rattle.dcsctp_world.specs.Recording.{Recording, recorded_stream}
 
 -- An act moved its own side, and left the other. No association was noted yet.
 pub record ActMoves {R : Type 0} (act : ActContent) (answer : Reply) (old new : Both (SideShown R)) : Type 0 where
@@ -81,11 +82,24 @@ Applies act old (Ok reply) new = Applied act reply old new
 Applies act old (Err OutOfMemory) new = RanOut act old new
 Applies act old (Err Failed) new = StaysFailed old new
 
+-- A step was applied, and the others to what it left.
+pub record AppliedFirst {R : Type 0} (step : StepContent) (Others : WorldView R → Type 0) (old : WorldView R) : Type 0 where
+  pub reply : Reply
+  pub between : WorldView R
+  pub applied : Applied (step_act step) reply old between
+  pub others : Others between
+
+-- Each step was applied to what the one before it left.
+unfoldable pub AppliedAll : {R : Type 0} → List StepContent → WorldView R → WorldView R → Type 0
+AppliedAll [] old new = new ≡ old
+AppliedAll (step ∷ steps) old new = AppliedFirst step (λ between. AppliedAll steps between new) old
+
 -- These steps were applied, one after another: all that the world shows is what a run shows, of the steps from its
 -- making on.
 pub record Ran {R : Type 0} (steps : List StepContent) (old new : WorldView R) : Type 0 where
   pub runs : old.failed ≡ false
   pub goes_on : new.failed ≡ false
+  pub applied : AppliedAll steps old new
   pub acts : new.acts ≡ old.acts ++ map step_act steps
   pub extends : WorldExtends old new
   pub options : options_of new ≡ options_of old
@@ -93,19 +107,20 @@ pub record Ran {R : Type 0} (steps : List StepContent) (old new : WorldView R) :
 
 -- An allocation failed at one of these steps: those before it were applied, one after another. What is promised of applied steps
 -- holds of them. The world has failed at this one, and those after it weren't tried.
-pub record RanOutAmong {R : Type 0} (stream : R → Stream) (steps : List StepContent) (old new : WorldView R) : Type 0 where
+pub record RanOutAmong {R : Type 0} (stream : R → Stream) (steps : List StepContent) (old new : WorldView (Recording R)) : Type 0 where
   pub done : List StepContent
   pub refused : StepContent
   pub rest : List StepContent
   pub all : steps ≡ done ++ refused ∷ rest
-  pub before : WorldView R
+  pub before : WorldView (Recording R)
   pub ran : Ran done old before
   pub agrees : Agrees (options_of old) before
   pub connects : HandshakeConnects (options_of old) before
-  pub drawn : DrawOn stream old.sides before.sides
+  pub drawn : DrawOn (recorded_stream stream) old.sides before.sides
+  pub whole : AreWhole before.sides
   pub ran_out : RanOut (step_act refused) before new
 
-abbrev pub Runs : {R : Type 0} → (R → Stream) → List StepContent → WorldView R → Result (Unit {0}) SocketFault → WorldView R → Type 0
+abbrev pub Runs : {R : Type 0} → (R → Stream) → List StepContent → WorldView (Recording R) → Result (Unit {0}) SocketFault → WorldView (Recording R) → Type 0
 Runs stream steps old (Ok done) new = Ran steps old new
 Runs stream steps old (Err OutOfMemory) new = RanOutAmong stream steps old new
 Runs stream steps old (Err Failed) new = StaysFailed old new

@@ -5,7 +5,6 @@ use Rattle.dcsctp_machine.specs.Event.{Event, packets_in}
 use Rattle.dcsctp_machine.specs.Endpoint.{Endpoint, Core, association_of}
 use Rattle.dcsctp_machine.specs.Handover.{readiness_of}
 use Rattle.dcsctp_machine.specs.Snapshot.{is_valid_snapshot}
-use Rattle.dcsctp_machine.specs.SocketSnapshot.{snapshot_of}
 use Rattle.dcsctp_machine.specs.Settings.{ports_of}
 use Rattle.dcsctp_machine.specs.CallTurns.{Turned, after_all, words_of, events_of, pairs_of}
 use Rattle.dcsctp_machine.specs.Sockets.{numbered}

@@ -247,7 +247,7 @@ impl<R: Rng + Drop> World<R> {
     /// alone, but for a socket that awaits a COOKIE ACK. No packet is longer than the `mtu` of its side, rounded
     /// down to a multiple of 4, and no flush sends more than `max_burst` of them.
     pub fn run(&mut self, steps: &[Step]) -> Result<(), SocketFault>
-        ensures call { Runs (recorded_stream R.stream) (map step_content steps.now) self.old result self.new }
+        ensures call { Runs R.stream (map step_content steps.now) self.old result self.new }
         ensures agreement { OnOk result (Agrees (options_of self.old) self.new) }
         ensures handshake { OnOk result (HandshakeConnects (options_of self.old) self.new) }
         ensures drawn { OnOk result (DrawOn (recorded_stream R.stream) self.old.sides self.new.sides) }

@@ -1,13 +1,22 @@
-use Rattle.std.proofs.Common.{Err, subst}
+use Rattle.std.proofs.Common.{Err, [], subst}
 use Rattle.dcsctp_machine.specs.declared.schedule.Step.{Step}
 use Rattle.dcsctp_machine.specs.Schedule.{step_content, step_act}
-use Rattle.dcsctp_world.specs.Acts.{Applied, Applies}
-use Rattle.dcsctp_world.specs.Shown.{options_of}
+use Rattle.dcsctp_world.specs.Acts.{Applied, Applies, Ran}
+use Rattle.dcsctp_world.specs.Drawing.{DrawOn, AreWhole}
+use Rattle.dcsctp_world.specs.Parts.{world_of}
+use Rattle.dcsctp_world.specs.Shown.{WorldView, options_of}
 use Rattle.dcsctp_world.proofs.Agreeing.{world_agrees, ran_out_among, handshake_connects}
-use Rattle.dcsctp_world.specs.Recording.{recorded_stream}
-use Rattle.dcsctp_world.proofs.Applying.{ran_next}
+use Rattle.dcsctp_world.specs.Recording.{Recording, recorded_stream}
+use Rattle.dcsctp_world.proofs.Applying.{ran_none, ran_next}
 use Rattle.dcsctp_world.proofs.Drawing.{draw_on_further}
 use Rattle.dcsctp_world.proofs.world.World.run.Goals as goal
+
+pub loop-step-init : goal.loop-step-init
+loop-step-init g c =
+    let inside = world_of c.self.inside.a c.self.inside.b c.self.inside.acts.items c.self.inside.failed in
+    let well = c.self.invariant c.if-self.false in
+    subst (λ (w : WorldView (Recording g.row.R.Denot)). Ran [] w w × DrawOn (recorded_stream g.R.Rng.stream) w.sides w.sides × AreWhole w.sides) c.self.view_is
+    (ran_none inside c.if-self.false well.is_run, λ side start drew. drew, well.whole)
 
 pub loop-step-preserved : goal.loop-step-preserved
 loop-step-preserved g c = (
@@ -27,6 +36,6 @@ returns-clause-handshake g c =
 
 pub returns-in_err-apply-clause-call : goal.returns-in_err-apply-clause-call
 returns-in_err-apply-clause-call g c =
-    ran_out_among (recorded_stream g.R.Rng.stream) c.socket_laws.ensures c.args.steps.now c.loop-step.step-index c.step-item.result c.in_err-apply.field-0.0 c.args.self.now c.loop-step.self c.apply.new.self
-    c.loop-step-test.true c.loop-step.invariant.0 c.loop-step.invariant.1
+    ran_out_among g.R.Rng.stream c.socket_laws.ensures c.args.steps.now c.loop-step.step-index c.step-item.result c.in_err-apply.field-0.0 c.args.self.now c.loop-step.self c.apply.new.self
+    c.loop-step-test.true c.loop-step.invariant.0 c.loop-step.invariant.1 c.loop-step.invariant.2
     (subst (λ (s : Step). Applies (step_act (step_content s)) c.loop-step.self (Err c.in_err-apply.field-0.0) c.apply.new.self) c.step-item.is c.in_err-apply.ensures.call) c.from_residual.result c.from_residual.ensures.1
