@@ -6,8 +6,8 @@ use dcsctp_world::{Call, Side, Step, World};
 use std::alloc::Global;
 use std::process::Abort;
 
-// A connects, and four packets go back and forth.
-const HANDSHAKE: [Step; 5] = [
+/// A connects, and four packets go back and forth.
+pub const HANDSHAKE: [Step; 5] = [
     Step::Call(Side::A, Call::Connect),
     Step::Deliver(Side::B, 1),
     Step::Deliver(Side::A, 1),
