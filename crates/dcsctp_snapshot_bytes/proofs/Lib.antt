@@ -1,0 +1,9 @@
+pub mod FieldLaws
+pub mod Lists
+pub mod OutstandingLaws
+pub mod PartLaws
+pub mod QueuedLaws
+pub mod SnapshotLaws
+pub mod StandardFacts
+pub mod StreamLaws
+pub mod ValueLaws
