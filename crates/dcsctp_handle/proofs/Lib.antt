@@ -1,0 +1,3 @@
+mod CallLemmas
+mod SlotRows
+mod TwoWords

@@ -1,0 +1,11 @@
+//! A session in the hands of a C or Rust caller.
+//!
+//! Such a caller has a `Handle`: two words in memory of its own, which it hands to each call. A handle owns
+//! a session, in a box, or none. A crate above exports the calls.
+#![tactic(auto)]
+
+mod handle;
+mod slot;
+mod words;
+
+pub use handle::{Handle, with_session};

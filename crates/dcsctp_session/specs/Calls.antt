@@ -1,0 +1,145 @@
+-- What the calls of a session do: the call of its socket takes place, what was taken is kept, and the status says how it ended.
+use Rattle.std.specs.Prelude.{◌≡◌, ◌⊎◌, ◌<◌, ℕ, true, false, IsOk, List, Option, Some, None, Result, Ok, Err, OnOk, option_map}
+use Rattle.rand_chacha.specs.ChaCha.{of_seed}
+use Rattle.dcsctp_machine.specs.Settings.{IsValid}
+use Rattle.dcsctp_machine.specs.declared.options.Options.{Options}
+use Rattle.dcsctp_machine.specs.declared.message.SendOptions.{SendOptions}
+use Rattle.dcsctp_machine.specs.transfer.Messages.{MessageContent}
+use Rattle.dcsctp_machine.specs.turns.SettingOutcomes.{Setting, longest_message}
+use Rattle.dcsctp_api.specs.declared.errors.SocketFault.{SocketFault}
+use Rattle.dcsctp_api.specs.declared.metrics.Metrics.{Metrics}
+use Rattle.dcsctp_api.specs.Calls.{UserView, Connects, Closes, ShutsDown, HandlesInput, PollsEvent, Sets, with_setting, is_closed, takes_shutdown}
+use Rattle.dcsctp_api.specs.Messages.{Sends, TakesNext}
+use Rattle.dcsctp_api.specs.Metrics.{ShowsMetrics}
+use Rattle.dcsctp_api.specs.Resets.{ResetsOwn}
+use Rattle.dcsctp_api.specs.Time.{Advances, OnlyMovesClock}
+use Rattle.dcsctp_machine.specs.TimeTurns.{Waits}
+use Rattle.dcsctp_core.specs.View.{Drawn}
+use Rattle.dcsctp_socket.specs.SocketView.{user_view_of, fresh_socket}
+use Rattle.dcsctp_session.specs.declared.session.Session.{Session}
+use Rattle.dcsctp_session.specs.declared.status.Status.{Status}
+use Rattle.dcsctp_session.specs.declared.status.Status.TheVariants as statuses
+use Rattle.dcsctp_session.specs.declared.options.OptionsRecord.{OptionsRecord}
+use Rattle.dcsctp_session.specs.declared.options.SendOptionsRecord.{SendOptionsRecord}
+use Rattle.dcsctp_session.specs.declared.records.EventRecord.{EventRecord}
+use Rattle.dcsctp_session.specs.declared.records.MessageRecord.{MessageRecord}
+use Rattle.dcsctp_session.specs.declared.records.MetricsRecord.{MetricsRecord}
+use Rattle.dcsctp_session.specs.Options.{SaysOptions, SaysSendOptions}
+use Rattle.dcsctp_session.specs.Records.{event_record, message_record, SaysMetrics}
+use Rattle.dcsctp_session.specs.Status.{done_status, send_status, reset_status}
+use Rattle.dcsctp_session.specs.Views.{view, words_ahead, ahead, nothing_taken}
+
+-- ---- the first call
+
+-- A closed socket with these options, whose random words come from the seed. Its clock was set to a moment, and nothing was taken.
+pub record IsCreated (numbers : OptionsRecord) (seed : List ℕ) (moment : ℕ) (session : Session) : Type 0 where
+  pub options : Options
+  pub says : SaysOptions numbers options
+  pub moves : Advances (user_view_of (fresh_socket options (of_seed seed))) moment (Ok tt) (view session)
+  pub draws : Drawn (words_ahead (of_seed seed)) (view session).words (ahead session)
+  pub taken : session.taken ≡ nothing_taken
+
+-- No socket can be made with these options.
+pub record IsRefused (numbers : OptionsRecord) : Type 0 where
+  pub options : Options
+  pub says : SaysOptions numbers options
+  pub refused : IsValid options → ⊥
+
+-- A session is made; or the options are refused; or an allocation failed.
+abbrev pub Creates : OptionsRecord → List ℕ → ℕ → Result Session Status → Type 0
+Creates numbers seed moment (Ok session) = IsCreated numbers seed moment session
+Creates numbers seed moment (Err status) = (status ≡ statuses.InvalidOptions) × IsRefused numbers ⊎ (status ≡ statuses.OutOfMemory)
+
+-- ---- calls that the socket may refuse
+
+-- The socket's call takes place, and the status says its outcome. The words that were drawn are those that came next.
+pub record Settled {A : Type 0} (status_of : Result A SocketFault → Status) (Call : UserView → Result A SocketFault → UserView → Type 0)
+    (old : Session) (status : Status) (new : Session) : Type 0 where
+  pub outcome : Result A SocketFault
+  pub call : Call (view old) outcome (view new)
+  pub draws : OnOk outcome (Drawn (ahead old) (view new).words (ahead new))
+  pub told : status ≡ status_of outcome
+  pub taken : new.taken ≡ old.taken
+
+-- The clauses of `connect`: on a socket that isn't closed it succeeds.
+abbrev pub ConnectCall : UserView → Result (Unit {0}) SocketFault → UserView → Type 0
+ConnectCall old outcome new = Connects old outcome new × (old.failed ≡ false → is_closed old.endpoint.core ≡ false → IsOk outcome)
+
+abbrev pub Connected : Session → Status → Session → Type 0
+Connected = Settled done_status ConnectCall
+
+-- Those of `shutdown`: where there is nothing to shut down it succeeds.
+abbrev pub ShutdownCall : UserView → Result (Unit {0}) SocketFault → UserView → Type 0
+ShutdownCall old outcome new = ShutsDown old outcome new × (old.failed ≡ false → takes_shutdown old.endpoint.core ≡ false → IsOk outcome)
+
+abbrev pub ShutDown : Session → Status → Session → Type 0
+ShutDown = Settled done_status ShutdownCall
+
+-- Those of `close`: on a closed socket it succeeds.
+abbrev pub CloseCall : UserView → Result (Unit {0}) SocketFault → UserView → Type 0
+CloseCall old outcome new = Closes old outcome new × (old.failed ≡ false → is_closed old.endpoint.core ≡ true → IsOk outcome)
+
+abbrev pub Closed : Session → Status → Session → Type 0
+Closed = Settled done_status CloseCall
+
+abbrev pub InputHandled : List ℕ → Session → Status → Session → Type 0
+InputHandled packet = Settled done_status (λ old outcome new. HandlesInput old packet outcome new)
+
+-- Those of `advance_time`: an earlier moment succeeds, and one before the next deadline only moves the clock.
+pub record AdvanceCall (moment : ℕ) (old : UserView) (outcome : Result (Unit {0}) SocketFault) (new : UserView) : Type 0 where
+  pub call : Advances old moment outcome new
+  pub earlier : old.failed ≡ false → moment < old.endpoint.moment → IsOk outcome
+  pub waits : old.failed ≡ false → Waits old.endpoint moment → OnlyMovesClock old moment outcome new
+
+abbrev pub Advanced : ℕ → Session → Status → Session → Type 0
+Advanced moment = Settled done_status (AdvanceCall moment)
+
+abbrev pub SettingMade : Setting → Session → Status → Session → Type 0
+SettingMade setting = Settled done_status (Sets setting)
+
+-- A copy of what the caller gave found no memory. Nothing has changed, and the socket hasn't failed.
+pub record CopyFailed (old : Session) (status : Status) (new : Session) : Type 0 where
+  pub told : status ≡ statuses.OutOfMemory
+  pub same : new ≡ old
+
+-- The message is sent by the options that the numbers say.
+abbrev pub MessageSent : MessageContent → SendOptionsRecord → Session → Status → Session → Type 0
+MessageSent message numbers old status new =
+    CopyFailed old status new
+    ⊎ (options : SendOptions) × SaysSendOptions numbers options × Settled send_status (Sends message options) old status new
+
+abbrev pub StreamsReset : List ℕ → Session → Status → Session → Type 0
+StreamsReset ids old status new = CopyFailed old status new ⊎ Settled reset_status (ResetsOwn ids) old status new
+
+-- ---- calls that the socket never refuses
+
+-- A message may have so many bytes from now on.
+pub record SizeLimited (bytes : ℕ) (old : Session) (status : Status) (new : Session) : Type 0 where
+  pub told : status ≡ statuses.Done
+  pub call : view new ≡ with_setting (longest_message bytes) (view old)
+  pub generator : ahead new ≡ ahead old
+  pub taken : new.taken ≡ old.taken
+
+-- The next event is taken and kept, and the record says it.
+pub record EventTaken (old : Session) (told : Option EventRecord) (new : Session) : Type 0 where
+  pub call : PollsEvent (view old) new.taken.event (view new)
+  pub generator : ahead new ≡ ahead old
+  pub says : told ≡ option_map event_record new.taken.event
+  pub message : new.taken.message ≡ old.taken.message
+  pub snapshot : new.taken.snapshot ≡ old.taken.snapshot
+
+-- The next message is taken and kept, and the record says it.
+pub record MessageTaken (old : Session) (told : Option MessageRecord) (new : Session) : Type 0 where
+  pub call : TakesNext (view old) new.taken.message (view new)
+  pub generator : ahead new ≡ ahead old
+  pub says : told ≡ option_map message_record new.taken.message
+  pub event : new.taken.event ≡ old.taken.event
+  pub snapshot : new.taken.snapshot ≡ old.taken.snapshot
+
+-- The record says the metrics of the socket, if there are any.
+abbrev pub SaysShown : Option Metrics → Option MetricsRecord → Type 0
+SaysShown None told = told ≡ None
+SaysShown (Some metrics) told = (numbers : MetricsRecord) × SaysMetrics numbers metrics × (told ≡ Some numbers)
+
+abbrev pub MetricsShown : Session → Option MetricsRecord → Type 0
+MetricsShown session told = (metrics : Option Metrics) × ShowsMetrics (view session).endpoint metrics × SaysShown metrics told

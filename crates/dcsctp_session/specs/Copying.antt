@@ -1,0 +1,16 @@
+-- Copying to a buffer of the caller's.
+use Rattle.std.specs.Prelude.{◌≡◌, ◌<◌, ◌≤◌, ◌⊎◌, ◌++◌, ℕ, length, drop, List, Option, Some, None}
+use Rattle.dcsctp_session.specs.declared.status.Status.{Status}
+use Rattle.dcsctp_session.specs.declared.status.Status.TheVariants as statuses
+
+-- Numbers are copied to the front of a buffer; or it is too small and stays as it is. How many there are is told.
+abbrev pub Copies : List ℕ → List ℕ → Status → List ℕ → ℕ → Type 0
+Copies numbers old status new told =
+    (told ≡ length numbers)
+    × ((status ≡ statuses.Done) × (length numbers ≤ length old) × (new ≡ numbers ++ drop (length numbers) old)
+    ⊎ (status ≡ statuses.BufferTooSmall) × (length old < length numbers) × (new ≡ old))
+
+-- The same of what was taken, if it has anything to copy.
+abbrev pub CopiesTaken : Option (List ℕ) → List ℕ → Status → List ℕ → ℕ → Type 0
+CopiesTaken None old status new told = (status ≡ statuses.NothingToCopy) × (told ≡ 0) × (new ≡ old)
+CopiesTaken (Some numbers) old status new told = Copies numbers old status new told

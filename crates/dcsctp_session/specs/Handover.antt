@@ -1,0 +1,69 @@
+-- What the calls of a session do that hand its socket over and restore it.
+use Rattle.std.specs.Prelude.{◌≡◌, ◌≢◌, ◌⊎◌, ℕ, List, [], IsOk, Bool, true, false, Option, Some, None, Result, Ok, Err, OnOk}
+use Rattle.dcsctp_machine.specs.Handover.{readiness_of}
+use Rattle.dcsctp_machine.specs.Sockets.{inputs_of_restore}
+use Rattle.dcsctp_machine.specs.Snapshot.{Snapshot, snapshot, is_valid_snapshot}
+use Rattle.dcsctp_machine.specs.declared.snapshot.SocketHandoverState.{SocketHandoverState}
+use Rattle.dcsctp_snapshot_bytes.specs.Spelling.{snapshot_bytes}
+use Rattle.dcsctp_snapshot_bytes.specs.Reading.{read_snapshot}
+use Rattle.dcsctp_api.specs.declared.errors.SocketFault.{SocketFault}
+use Rattle.dcsctp_api.specs.declared.errors.HandoverError.{HandoverError}
+use Rattle.dcsctp_api.specs.declared.errors.RestoreError.{RestoreError}
+use Rattle.dcsctp_api.specs.Calls.{UserView}
+use Rattle.dcsctp_api.specs.Handover.{HandsOver, Restores}
+use Rattle.dcsctp_core.specs.View.{Drawn}
+use Rattle.dcsctp_session.specs.declared.session.Session.{Session}
+use Rattle.dcsctp_session.specs.declared.session.Taken.{Taken}
+use Rattle.dcsctp_session.specs.declared.status.Status.{Status}
+use Rattle.dcsctp_session.specs.declared.status.Status.TheVariants as statuses
+use Rattle.dcsctp_session.specs.Calls.{Settled, CopyFailed}
+use Rattle.dcsctp_session.specs.Copying.{Copies}
+use Rattle.dcsctp_session.specs.Status.{handover_status, restore_status}
+use Rattle.dcsctp_session.specs.Views.{view, ahead}
+
+-- The snapshot that was answered is kept in the place of an earlier one.
+abbrev pub taken_after : Result (Result SocketHandoverState HandoverError) SocketFault → Taken → Taken
+taken_after (Ok (Ok state)) taken = record taken { snapshot = Some state }
+taken_after (Ok (Err error)) taken = taken
+taken_after (Err fault) taken = taken
+
+-- The clauses of the call: one that isn't ready is refused, and that needs no memory.
+abbrev pub HandoverCall : UserView → Result (Result SocketHandoverState HandoverError) SocketFault → UserView → Type 0
+HandoverCall old outcome new = HandsOver old outcome new × (old.failed ≡ false → readiness_of old.endpoint ≢ 0 → IsOk outcome)
+
+-- Those of a restore: one that changes nothing succeeds.
+abbrev pub RestoreCall : Snapshot → UserView → Result (Result (Unit {0}) RestoreError) SocketFault → UserView → Type 0
+RestoreCall state old outcome new = Restores state old outcome new × (old.failed ≡ false → inputs_of_restore old.endpoint.core state ≡ [] → IsOk outcome)
+
+-- The socket is handed over, and the status says the outcome.
+pub record HandedOver (old : Session) (status : Status) (new : Session) : Type 0 where
+  pub outcome : Result (Result SocketHandoverState HandoverError) SocketFault
+  pub call : HandoverCall (view old) outcome (view new)
+  pub draws : OnOk outcome (Drawn (ahead old) (view new).words (ahead new))
+  pub told : status ≡ handover_status outcome
+  pub taken : new.taken ≡ taken_after outcome old.taken
+
+-- The bytes of the snapshot that was taken are copied; or an allocation failed, and nothing has changed.
+abbrev pub CopiesSnapshot : Option SocketHandoverState → List ℕ → ℕ → Status → List ℕ → ℕ → Type 0
+CopiesSnapshot None old before status new told = (status ≡ statuses.NothingToCopy) × (told ≡ 0) × (new ≡ old)
+CopiesSnapshot (Some state) old before status new told =
+    Copies (snapshot_bytes (snapshot state)) old status new told
+    ⊎ (status ≡ statuses.OutOfMemory) × (told ≡ before) × (new ≡ old)
+
+-- The bytes are refused, and nothing has changed.
+pub record SnapshotRefused (old : Session) (status : Status) (new : Session) : Type 0 where
+  pub told : status ≡ statuses.InvalidSnapshot
+  pub same : new ≡ old
+
+-- What is done by what the bytes say, and by whether that is valid.
+abbrev pub RestoredIf : Snapshot → Bool → Session → Status → Session → Type 0
+RestoredIf state false old status new = SnapshotRefused old status new
+RestoredIf state true old status new = Settled restore_status (RestoreCall state) old status new
+
+abbrev pub RestoredBy : Option Snapshot → Session → Status → Session → Type 0
+RestoredBy None old status new = SnapshotRefused old status new
+RestoredBy (Some state) old status new = RestoredIf state (is_valid_snapshot (view old).endpoint.options state) old status new
+
+-- The socket is restored from what the bytes say; or there was no memory to read them.
+abbrev pub Restored : List ℕ → Session → Status → Session → Type 0
+Restored bytes old status new = CopyFailed old status new ⊎ RestoredBy (read_snapshot bytes) old status new

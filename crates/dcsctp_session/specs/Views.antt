@@ -1,0 +1,55 @@
+-- What a session shows: its socket, and what was taken from it last.
+use Rattle.std.specs.Prelude.{string_bytes, ℕ, List, Option, Some, None}
+use Rattle.rand_core.specs.Stream.{Stream}
+use Rattle.rand_core.specs.Steps.{stream_of, steps_u32}
+use Rattle.rand_chacha.specs.ChaCha.{ChaCha, next_word}
+use Rattle.dcsctp_machine.specs.Ids.{stream_numbers}
+use Rattle.dcsctp_machine.specs.declared.message.Message.{Message}
+use Rattle.dcsctp_api.specs.declared.events.SocketEvent.{SocketEvent}
+use Rattle.dcsctp_api.specs.declared.events.SocketEvent.TheVariants as events
+use Rattle.dcsctp_api.specs.Calls.{UserView}
+use Rattle.dcsctp_socket.specs.SocketView.{user_view_of}
+use Rattle.dcsctp_session.specs.declared.session.Session.{Session}
+use Rattle.dcsctp_session.specs.declared.session.Taken.{Taken}
+
+-- what the socket of a session is to its user
+abbrev pub view : Session → UserView
+view session = user_view_of session.socket
+
+-- all random words that ChaCha20 still gives
+abbrev pub words_ahead : ChaCha → Stream
+words_ahead generator = stream_of (steps_u32 (next_word 10)) generator
+
+-- all random words that the socket of a session will draw
+abbrev pub ahead : Session → Stream
+ahead session = words_ahead session.socket.view.generator
+
+abbrev pub nothing_taken : Taken
+nothing_taken = record { event = None; message = None; snapshot = None }
+
+-- the packet or the text of an event
+abbrev pub bytes_of : SocketEvent → Option (List ℕ)
+bytes_of (events.SendPacket packet) = Some packet.items
+bytes_of (events.OnAborted kind text) = Some (string_bytes text)
+bytes_of (events.OnError kind text) = Some (string_bytes text)
+bytes_of event = None
+
+abbrev pub bytes_in : Option SocketEvent → Option (List ℕ)
+bytes_in None = None
+bytes_in (Some event) = bytes_of event
+
+-- the streams of an event
+abbrev pub streams_of : SocketEvent → Option (List ℕ)
+streams_of (events.OnStreamsResetFailed ids) = Some (stream_numbers ids.items)
+streams_of (events.OnStreamsResetPerformed ids) = Some (stream_numbers ids.items)
+streams_of (events.OnIncomingStreamReset ids) = Some (stream_numbers ids.items)
+streams_of event = None
+
+abbrev pub streams_in : Option SocketEvent → Option (List ℕ)
+streams_in None = None
+streams_in (Some event) = streams_of event
+
+-- the payload of a message
+abbrev pub payload_in : Option Message → Option (List ℕ)
+payload_in None = None
+payload_in (Some message) = Some message.payload.items

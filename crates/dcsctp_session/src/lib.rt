@@ -1,0 +1,20 @@
+//! A socket for callers in other languages: numbers and bytes come in and go out, and buffers are the
+//! caller's.
+//!
+//! A session is a socket and what was taken from it last. `dcsctp_handle` puts it into the hands of such a
+//! caller, and `dcsctp_c` exports its calls.
+#![tactic(auto)]
+
+mod copying;
+mod handover;
+mod options;
+mod records;
+mod session;
+mod status;
+mod taking;
+
+pub use dcsctp_socket::SocketState;
+pub use options::{OptionsRecord, SendOptionsRecord};
+pub use records::{EventRecord, MessageRecord, MetricsRecord};
+pub use session::{Session, Taken};
+pub use status::Status;

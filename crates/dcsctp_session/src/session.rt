@@ -1,0 +1,256 @@
+//! A session: a socket, and what was taken from it last.
+
+ghost use Rattle.std.specs.Prelude.{◌≡◌, min, length, Some};
+ghost use Rattle.dcsctp_machine.specs.TimeTurns.{next_moment};
+ghost use Rattle.dcsctp_machine.specs.transfer.SendQueue.{IsWellFormed};
+ghost use Rattle.dcsctp_machine.specs.turns.SettingOutcomes.{stream_priority, stream_low_threshold};
+ghost use Rattle.dcsctp_api.specs.Calls.{stream_shown, socket_state_of};
+ghost use Rattle.dcsctp_api.specs.Messages.{ready_messages};
+ghost use Rattle.dcsctp_session.specs.Options.{ShowsOptions, never};
+ghost use Rattle.dcsctp_session.specs.Views.{view};
+ghost use Rattle.dcsctp_session.specs.Calls.{Creates, Connected, ShutDown, Closed, InputHandled, Advanced, SettingMade, SizeLimited, MessageSent, StreamsReset};
+
+use crate::copying::stream_ids;
+use crate::options::{OptionsRecord, SendOptionsRecord};
+use crate::status::Status;
+use dcsctp_api::handover::SocketHandoverState;
+use dcsctp_socket::{
+    DcSctpSocket, Message, PpId, SendError, Socket, SocketEvent, SocketFault, SocketState,
+    SocketTime, StreamId,
+};
+use rand_chacha::ChaCha20Rng;
+use rand_core::SeedableRng;
+use std::alloc::Global;
+use std::time::Duration;
+
+/// What was taken from a socket last. It can be copied until the next of its kind is taken.
+#[derive(Drop)]
+pub struct Taken {
+    /// The last event.
+    pub event: Option<SocketEvent>,
+
+    /// The last message.
+    pub message: Option<Message>,
+
+    /// The snapshot of the last handover.
+    pub snapshot: Option<SocketHandoverState>,
+}
+
+/// A socket, and what was taken from it last.
+pub struct Session {
+    pub alloc: Global,
+    pub socket: Socket<ChaCha20Rng>,
+    pub taken: Taken,
+}
+
+// Written out, so that the drop is proved here once.
+impl Drop for Session {
+    fn drop(self) {
+        let Session {
+            alloc: _,
+            socket: _,
+            taken: _,
+        } = self;
+    }
+}
+
+// The moment of so many nanoseconds.
+fn moment(nanos: u64) -> SocketTime
+    ensures { result ≡ nanos }
+{
+    SocketTime::zero() + Duration::from_nanos(nanos)
+}
+
+impl Session {
+    /// A closed socket, whose clock stands at `now`, in nanoseconds. Its random words come from ChaCha20 with
+    /// this seed.
+    ///
+    /// `Status::InvalidOptions`: no socket can be made with these options. `Status::OutOfMemory`: an allocation
+    /// failed.
+    pub fn new(
+        alloc: Global,
+        options: &OptionsRecord,
+        seed: [u8; 32],
+        now: u64,
+    ) -> Result<Session, Status>
+        ensures { Creates options.now seed now result }
+    {
+        let options = options.options();
+        if !options.is_valid() {
+            return Err(Status::InvalidOptions);
+        }
+        let rng = ChaCha20Rng::from_seed(seed);
+        let Ok(mut socket) = Socket::new(alloc, "", &options, rng) else {
+            return Err(Status::OutOfMemory);
+        };
+        if socket.advance_time(moment(now)).is_err() {
+            return Err(Status::OutOfMemory);
+        }
+        Ok(Session {
+            alloc,
+            socket,
+            taken: Taken {
+                event: None,
+                message: None,
+                snapshot: None,
+            },
+        })
+    }
+
+    /// Begins an association.
+    pub fn connect(&mut self) -> Status
+        ensures { Connected self.old result self.new }
+    {
+        Status::of_call(self.socket.connect())
+    }
+
+    /// Shuts the association down.
+    pub fn shutdown(&mut self) -> Status
+        ensures { ShutDown self.old result self.new }
+    {
+        Status::of_call(self.socket.shutdown())
+    }
+
+    /// Ends the association at once.
+    pub fn close(&mut self) -> Status
+        ensures { Closed self.old result self.new }
+    {
+        Status::of_call(self.socket.close())
+    }
+
+    /// Handles a packet from the peer.
+    pub fn handle_input(&mut self, packet: &[u8]) -> Status
+        ensures { InputHandled packet.now self.old result self.new }
+    {
+        Status::of_call(self.socket.handle_input(packet))
+    }
+
+    /// Sets the clock to `now`, in nanoseconds, and handles what is due.
+    pub fn advance_time(&mut self, now: u64) -> Status
+        ensures { Advanced now self.old result self.new }
+    {
+        Status::of_call(self.socket.advance_time(moment(now)))
+    }
+
+    /// The socket's next deadline in nanoseconds; the greatest number if there is none.
+    pub fn poll_timeout(&self) -> u64
+        ensures { result ≡ min (next_moment (view self.now).endpoint) never }
+    {
+        match u64::try_from(self.socket.poll_timeout().as_nanos()) {
+            Ok(nanos) => nanos,
+            Err(_) => 0xffff_ffff_ffff_ffff,
+        }
+    }
+
+    /// Sends a message, whose payload is copied.
+    ///
+    /// `Status::OutOfMemory` if the copy failed, too: then nothing has changed, and the socket hasn't failed.
+    pub fn send(
+        &mut self,
+        stream_id: u16,
+        ppid: u32,
+        payload: &[u8],
+        options: &SendOptionsRecord,
+    ) -> Status
+        ensures { MessageSent (record { stream = stream_id; ppid = ppid; payload = payload.now }) options.now
+            self.old result self.new }
+    {
+        let Ok(payload) = Vec::from_slice(self.alloc, payload) else {
+            return Status::OutOfMemory;
+        };
+        let message = Message::new(StreamId(stream_id), PpId(ppid), payload);
+        Status::of_send(self.socket.send(message, &options.options()))
+    }
+
+    /// Resets streams.
+    ///
+    /// `Status::OutOfMemory` if the list couldn't be copied, too: then nothing has changed, and the socket
+    /// hasn't failed.
+    pub fn reset_streams(&mut self, numbers: &[u16]) -> Status
+        ensures { StreamsReset numbers.now self.old result self.new }
+    {
+        let Ok(ids) = stream_ids(self.alloc, numbers) else {
+            return Status::OutOfMemory;
+        };
+        Status::of_reset(self.socket.reset_streams(ids.as_slice()))
+    }
+
+    /// Sets the priority of a stream.
+    pub fn set_stream_priority(&mut self, stream_id: u16, priority: u16) -> Status
+        ensures { SettingMade (stream_priority stream_id priority) self.old result self.new }
+    {
+        Status::of_call(
+            self.socket
+                .set_stream_priority(StreamId(stream_id), priority),
+        )
+    }
+
+    /// Sets the low threshold of a stream, in bytes.
+    pub fn set_buffered_amount_low_threshold(&mut self, stream_id: u16, bytes: usize) -> Status
+        ensures { SettingMade (stream_low_threshold stream_id bytes) self.old result self.new }
+    {
+        Status::of_call(
+            self.socket
+                .set_buffered_amount_low_threshold(StreamId(stream_id), bytes),
+        )
+    }
+
+    /// Sets how many bytes a message may have from now on.
+    pub fn set_max_message_size(&mut self, bytes: usize) -> Status
+        ensures { SizeLimited bytes self.old result self.new }
+    {
+        self.socket.set_max_message_size(bytes);
+        Status::Done
+    }
+
+    /// The state of the association.
+    pub fn state(&self) -> SocketState
+        ensures { result ≡ socket_state_of (view self.now).endpoint.core }
+    {
+        self.socket.state()
+    }
+
+    /// Did an allocation fail in an earlier call?
+    pub fn has_failed(&self) -> bool
+        ensures { result ≡ (view self.now).failed }
+    {
+        self.socket.has_failed()
+    }
+
+    /// The options of the socket.
+    pub fn options(&self) -> OptionsRecord
+        ensures { ShowsOptions result (view self.now).endpoint.options }
+    {
+        OptionsRecord::of(&self.socket.options())
+    }
+
+    /// The payload bytes that wait to be sent on a stream.
+    pub fn buffered_amount(&self, stream_id: u16) -> usize
+        ensures amount { result ≡ (stream_shown (view self.now) stream_id).amount }
+        ensures queue { IsWellFormed (view self.now).endpoint.below.queue }
+    {
+        self.socket.buffered_amount(StreamId(stream_id))
+    }
+
+    /// The low threshold of a stream, in bytes.
+    pub fn buffered_amount_low_threshold(&self, stream_id: u16) -> usize
+        ensures { result ≡ (stream_shown (view self.now) stream_id).threshold }
+    {
+        self.socket
+            .buffered_amount_low_threshold(StreamId(stream_id))
+    }
+
+    /// The priority of a stream.
+    pub fn stream_priority(&self, stream_id: u16) -> u16
+        ensures { result ≡ (stream_shown (view self.now) stream_id).priority }
+    {
+        self.socket.get_stream_priority(StreamId(stream_id))
+    }
+
+    /// How many messages are ready to be taken.
+    pub fn messages_ready_count(&self) -> usize
+        ensures { result ≡ length (ready_messages (view self.now).endpoint) }
+    {
+        self.socket.messages_ready_count()
+    }
+}

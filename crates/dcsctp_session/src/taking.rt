@@ -1,0 +1,93 @@
+//! Taking events, messages and metrics from a session, and copying what they hold.
+
+ghost use Rattle.dcsctp_session.specs.Views.{bytes_in, streams_in, payload_in};
+ghost use Rattle.dcsctp_session.specs.Calls.{EventTaken, MessageTaken, MetricsShown};
+ghost use Rattle.dcsctp_session.specs.Copying.{CopiesTaken};
+
+use crate::copying::{copy_bytes, copy_streams};
+use crate::records::{EventRecord, MessageRecord, MetricsRecord};
+use crate::session::Session;
+use crate::status::Status;
+use dcsctp_socket::{DcSctpSocket, SocketEvent};
+
+impl Session {
+    /// Takes the event that was added first; none if no event waits. The one that was taken before is
+    /// dropped.
+    pub fn poll_event(&mut self) -> Option<EventRecord>
+        ensures { EventTaken self.old result self.new }
+    {
+        self.taken.event = self.socket.poll_event();
+        let event = self.taken.event.as_ref()?;
+        Some(EventRecord::of(event))
+    }
+
+    /// Copies the packet or the text of the event that was taken last, and says how many bytes it has. A
+    /// buffer that is too small is unchanged.
+    pub fn event_bytes(&self, buffer: &mut [u8], length: &mut usize) -> Status
+        ensures { CopiesTaken (bytes_in self.now.taken.event) buffer.old result buffer.new length.new }
+    {
+        match &self.taken.event {
+            Some(SocketEvent::SendPacket(packet)) => copy_bytes(packet.as_slice(), buffer, length),
+            Some(SocketEvent::OnAborted(_, text)) => copy_bytes(text.as_bytes(), buffer, length),
+            Some(SocketEvent::OnError(_, text)) => copy_bytes(text.as_bytes(), buffer, length),
+            _ => {
+                *length = 0;
+                Status::NothingToCopy
+            }
+        }
+    }
+
+    /// Copies the streams of the event that was taken last, and says how many there are. A buffer that is too
+    /// small is unchanged.
+    pub fn event_streams(&self, buffer: &mut [u16], count: &mut usize) -> Status
+        ensures { CopiesTaken (streams_in self.now.taken.event) buffer.old result buffer.new count.new }
+    {
+        match &self.taken.event {
+            Some(SocketEvent::OnStreamsResetFailed(ids)) => {
+                copy_streams(ids.as_slice(), buffer, count)
+            }
+            Some(SocketEvent::OnStreamsResetPerformed(ids)) => {
+                copy_streams(ids.as_slice(), buffer, count)
+            }
+            Some(SocketEvent::OnIncomingStreamReset(ids)) => {
+                copy_streams(ids.as_slice(), buffer, count)
+            }
+            _ => {
+                *count = 0;
+                Status::NothingToCopy
+            }
+        }
+    }
+
+    /// Takes the message that became ready first; none if none is ready. The one that was taken before is
+    /// dropped.
+    pub fn get_next_message(&mut self) -> Option<MessageRecord>
+        ensures { MessageTaken self.old result self.new }
+    {
+        self.taken.message = self.socket.get_next_message();
+        let message = self.taken.message.as_ref()?;
+        Some(MessageRecord::of(message))
+    }
+
+    /// Copies the payload of the message that was taken last, and says how many bytes it has. A buffer that
+    /// is too small is unchanged.
+    pub fn message_bytes(&self, buffer: &mut [u8], length: &mut usize) -> Status
+        ensures { CopiesTaken (payload_in self.now.taken.message) buffer.old result buffer.new length.new }
+    {
+        match &self.taken.message {
+            Some(message) => copy_bytes(message.payload.as_slice(), buffer, length),
+            None => {
+                *length = 0;
+                Status::NothingToCopy
+            }
+        }
+    }
+
+    /// The metrics; none where the peer isn't known.
+    pub fn metrics(&self) -> Option<MetricsRecord>
+        ensures { MetricsShown self.now result }
+    {
+        let metrics = self.socket.get_metrics()?;
+        Some(MetricsRecord::of(&metrics))
+    }
+}
