@@ -1,5 +1,5 @@
 #!/usr/bin/env bash
-# Fails on a row of docs/PROMISES.md, docs/LAWS.md or docs/WRONG_BODIES.md that names no clause, or a wrong body that isn't there.
+# Fails on a row of docs/PROMISES.md, docs/LAWS.md, docs/WRONG_BODIES.md or docs/C.md that names no clause, or a wrong body that isn't there.
 #
 # In a table with a column Clause, Contract or Function that column names at least one thing of the code, in backticks. In a
 # column Refuses, Wrong body or Wrong bodies each name in backticks is that of an edit in crates/*/must-fail or attacks/*.
@@ -37,7 +37,7 @@ done < <(
                 if (columns[i] ~ /^(Clause|Contract|Function|Refuses|Wrong body|Wrong bodies)$/)
                     print FILENAME ":" FNR "\t" columns[i] "\t" cells[i]
         }
-    ' docs/PROMISES.md docs/LAWS.md docs/WRONG_BODIES.md
+    ' docs/PROMISES.md docs/LAWS.md docs/WRONG_BODIES.md docs/C.md
 )
 echo "promises: $rows cells, $bad bad"
 [ "$rows" -gt 0 ] && [ "$bad" = 0 ]

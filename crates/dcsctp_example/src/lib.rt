@@ -1,4 +1,4 @@
-//! How a user drives a socket. README quotes `serve` and `say`. The page of `dcsctp_socket` has the body of
+//! How a user drives a socket. README names `serve`. The page of `dcsctp_socket` has the body of
 //! `serve`, with that of `drain` in it.
 #![tactic(auto)]
 

@@ -1,0 +1,170 @@
+# The C library. docs/C.md says how to use it.
+#
+#     make            builds out/libdcsctp.a: rt proves crates/dcsctp_c and all below it
+#     make check      checks it, by what is installed here: valgrind, sanitizers, cargo, cmake
+#     make install    copies it to PREFIX (/usr/local) below DESTDIR
+#     make clean
+#
+# ARCHIVE=FILE takes an archive that rt has built, and KIT=FOLDER the kit's folder.
+
+PREFIX ?= /usr/local
+OUT ?= out
+CC ?= cc
+CXX ?= c++
+OBJCOPY ?= objcopy
+NM ?= nm
+CFLAGS ?= -O2 -g
+KIT ?= $(shell dirname "$$(dirname "$$(readlink -f "$$(command -v rt)")")")
+
+BUILT = crates/dcsctp_c/out/libdcsctp_c.a
+ARCHIVE ?= $(BUILT)
+LIBRARY = $(OUT)/libdcsctp.a
+PACKAGE = $(OUT)/dcsctp.pc $(OUT)/dcsctpConfig.cmake $(OUT)/dcsctpConfigVersion.cmake
+VERSION := $(shell awk '/define DCSCTP_VERSION_/ { v = v s $$3; s = "." } END { print v }' \
+    include/dcsctp.h)
+
+TESTS = calls options events handover refusals threads
+EXAMPLES = two_sockets file_transfer
+WARNINGS = -Wall -Wextra -Wshadow -pedantic -Werror
+COMPILE = $(CC) -std=c11 $(WARNINGS) $(CFLAGS) -Iinclude
+
+all: $(LIBRARY) $(PACKAGE)
+
+# ---- The archive ------------------------------------------------------------------------------
+
+$(BUILT): $(shell find crates -name out -prune -o -name '*.rt' -print)
+	cd crates/dcsctp_c && rt lib
+	touch $@
+
+# One object: what rt built, the kit's three functions over malloc, and what libgcc has of 128 bits.
+# Only dcsctp_* can be seen from outside.
+$(LIBRARY): $(ARCHIVE) Makefile
+	@mkdir -p $(OUT)
+	$(LD) -r -o $(OUT)/dcsctp.o --whole-archive $(ARCHIVE) --no-whole-archive \
+	    $(KIT)/c/liblibc_c.a "$$($(CC) -print-libgcc-file-name)"
+	$(OBJCOPY) --strip-debug --wildcard --keep-global-symbol='dcsctp_*' $(OUT)/dcsctp.o
+	rm -f $@
+	$(AR) rcD $@ $(OUT)/dcsctp.o
+	$(AR) sD $@
+
+# (always anew, since PREFIX may be another one)
+$(OUT)/%: packaging/%.in include/dcsctp.h FORCE
+	@mkdir -p $(OUT)
+	@sed -e 's|@PREFIX@|$(PREFIX)|' -e 's|@VERSION@|$(VERSION)|' $< >$@
+
+install: all
+	install -d $(DESTDIR)$(PREFIX)/include $(DESTDIR)$(PREFIX)/lib/pkgconfig \
+	    $(DESTDIR)$(PREFIX)/lib/cmake/dcsctp
+	install -m 644 include/dcsctp.h $(DESTDIR)$(PREFIX)/include/
+	install -m 644 $(LIBRARY) $(DESTDIR)$(PREFIX)/lib/
+	install -m 644 $(OUT)/dcsctp.pc $(DESTDIR)$(PREFIX)/lib/pkgconfig/
+	install -m 644 $(OUT)/dcsctpConfig.cmake $(OUT)/dcsctpConfigVersion.cmake \
+	    $(DESTDIR)$(PREFIX)/lib/cmake/dcsctp/
+
+clean:
+	rm -rf $(OUT)
+
+# ---- Programs ---------------------------------------------------------------------------------
+
+# The tests refuse allocations, and count what isn't given back.
+WRAP = -Wl,--wrap=malloc,--wrap=realloc,--wrap=free
+
+$(OUT)/tests/%: tests/c/%.c tests/c/pair.h include/dcsctp.h $(LIBRARY)
+	@mkdir -p $(OUT)/tests
+	$(COMPILE) $< $(LIBRARY) $(if $(filter refusals costs,$*),$(WRAP)) \
+	    -pthread -o $@
+
+$(OUT)/examples/%: examples/c/%.c include/dcsctp.h $(LIBRARY)
+	@mkdir -p $(OUT)/examples
+	$(COMPILE) $< $(LIBRARY) -o $@
+
+# ---- Checks -----------------------------------------------------------------------------------
+
+check: check-header check-symbols check-tests check-examples check-install check-valgrind \
+    check-sanitizers check-rust
+
+# The header alone, in C and C++.
+check-header:
+	$(CC) -std=c11 $(WARNINGS) -fsyntax-only -x c include/dcsctp.h
+	@if command -v $(CXX) >/dev/null; \
+	then $(CXX) -std=c++11 $(WARNINGS) -fsyntax-only -x c++ include/dcsctp.h; \
+	else echo "check: no C++ compiler, so the header isn't checked in C++"; fi
+	! grep -n '.\{101\}' include/dcsctp.h
+
+# What is exported is what is declared, and nothing is needed but these functions of the C library. It
+# fits into a shared library, too.
+NEEDED = _GLOBAL_OFFSET_TABLE_|malloc|realloc|free|memcpy|memmove|memset
+check-symbols: $(LIBRARY)
+	$(NM) -g --defined-only $(LIBRARY) | awk 'NF == 3 { print $$3 }' | sort >$(OUT)/exported
+	grep -o '^[a-z0-9_]* dcsctp_[a-z_]*(' include/dcsctp.h | sed 's/.* //; s/(//' | sort \
+	    >$(OUT)/declared
+	diff $(OUT)/declared $(OUT)/exported
+	$(NM) -u $(LIBRARY) | awk 'NF == 2 { print $$2 }' | sort -u >$(OUT)/needed
+	! grep -vxE '$(NEEDED)' $(OUT)/needed
+	$(CC) -shared -Wl,--whole-archive $(LIBRARY) -Wl,--no-whole-archive -Wl,-z,defs \
+	    -Wl,--fatal-warnings -o $(OUT)/all.so
+
+check-tests: $(TESTS:%=$(OUT)/tests/%)
+	for it in $^; do $$it || exit 1; done
+
+# The examples, and the file transfer with 20 of 1,000 packets lost in each direction. The first stands in
+# README or docs/C.md as a whole.
+check-examples: $(EXAMPLES:%=$(OUT)/examples/%)
+	cat README.md docs/C.md | sed -n '/^```c$$/,/^```$$/p' | sed '1d; $$d' | diff - examples/c/two_sockets.c
+	$(OUT)/examples/two_sockets | diff examples/c/two_sockets.stdout -
+	@if command -v $(CXX) >/dev/null; then set -e; \
+	$(CXX) -std=c++11 $(WARNINGS) $(CFLAGS) -Iinclude -x c++ examples/c/two_sockets.c -x none \
+	    $(LIBRARY) -o $(OUT)/examples/in_cpp; \
+	$(OUT)/examples/in_cpp | diff examples/c/two_sockets.stdout -; \
+	else echo "check: no C++ compiler, so nothing is linked in C++"; fi
+	timeout 120 $(OUT)/examples/file_transfer 2>/dev/null
+	timeout 120 $(OUT)/examples/file_transfer --loss 20 2>/dev/null
+
+# A caller finds what was installed, by pkg-config and by CMake.
+STAGE = $(abspath $(OUT)/stage)
+check-install: all
+	rm -rf $(STAGE)
+	$(MAKE) -s install DESTDIR=$(STAGE)
+	@if command -v pkg-config >/dev/null; then set -e; echo "check: pkg-config"; \
+	export PKG_CONFIG_LIBDIR=$(STAGE)$(PREFIX)/lib/pkgconfig PKG_CONFIG_SYSROOT_DIR=$(STAGE); \
+	pkg-config --exact-version $(VERSION) dcsctp; \
+	$(CC) examples/c/two_sockets.c $$(pkg-config --cflags --libs dcsctp) -o $(STAGE)/by_pkg_config; \
+	$(STAGE)/by_pkg_config | diff examples/c/two_sockets.stdout -; \
+	else echo "check: no pkg-config, so dcsctp.pc isn't tried"; fi
+	@if command -v cmake >/dev/null; then set -e; echo "check: cmake"; \
+	cmake -S tests/c/cmake -B $(STAGE)/cmake -DCMAKE_PREFIX_PATH=$(STAGE)$(PREFIX) \
+	    -DWANTED=$(VERSION) >/dev/null; \
+	cmake --build $(STAGE)/cmake >/dev/null; \
+	$(STAGE)/cmake/by_cmake | diff examples/c/two_sockets.stdout -; \
+	else echo "check: no cmake, so dcsctpConfig.cmake isn't tried"; fi
+
+# Leaks count. A child ends by _exit, so what can still be reached there doesn't.
+VALGRIND = valgrind -q --leak-check=full --errors-for-leak-kinds=definite,possible \
+    --error-exitcode=9
+check-valgrind: $(TESTS:%=$(OUT)/tests/%) $(EXAMPLES:%=$(OUT)/examples/%)
+	@if command -v valgrind >/dev/null; then set -e; \
+	for it in $(TESTS:%=$(OUT)/tests/%) $(OUT)/examples/two_sockets; \
+	do echo "check: valgrind $$it"; $(VALGRIND) $$it >/dev/null; done; \
+	echo "check: helgrind $(OUT)/tests/threads"; \
+	valgrind -q --tool=helgrind --error-exitcode=9 $(OUT)/tests/threads >/dev/null; \
+	echo "check: valgrind $(OUT)/examples/file_transfer"; timeout 300 $(VALGRIND) \
+	    --trace-children=yes $(OUT)/examples/file_transfer --loss 20 include/dcsctp.h >/dev/null; \
+	else echo "check: no valgrind, so nothing is run under it"; fi
+
+SANITIZE = -fsanitize=address,undefined -fno-sanitize-recover=all
+check-sanitizers: $(LIBRARY)
+	@mkdir -p $(OUT)/sanitize
+	@if echo 'int main(void) { return 0; }' | $(CC) $(SANITIZE) -x c - \
+	    -o $(OUT)/sanitize/try 2>/dev/null && $(OUT)/sanitize/try; \
+	then echo "check: $(SANITIZE)"; $(MAKE) -s OUT=$(OUT)/sanitize LIBRARY=$(LIBRARY) \
+	    CFLAGS='-O1 -g $(SANITIZE)' check-tests check-examples; \
+	else echo "check: no sanitizers, so nothing is run under them"; fi
+
+check-rust: $(LIBRARY)
+	@if command -v cargo >/dev/null; then set -e; cd examples/rust; echo "check: cargo"; \
+	export DCSCTP_LIB_DIR=$(abspath $(OUT)) CARGO_TARGET_DIR=$(abspath $(OUT)/cargo); \
+	cargo test --offline --quiet >/dev/null; cargo run --offline --quiet --release; \
+	else echo "check: no cargo, so the Rust example isn't tried"; fi
+
+.PHONY: FORCE all install clean check check-header check-symbols check-tests check-examples \
+    check-install check-valgrind check-sanitizers check-rust

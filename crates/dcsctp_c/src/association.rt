@@ -1,0 +1,116 @@
+//! Inputs and commands.
+
+ghost use Rattle.std.specs.Prelude.{◌≡◌, map};
+ghost use Rattle.dcsctp_machine.specs.turns.SettingOutcomes.{stream_priority, stream_low_threshold};
+ghost use Rattle.dcsctp_session.specs.Calls.{Connected, ShutDown, Closed, InputHandled, Advanced, SettingMade, SizeLimited, MessageSent, StreamsReset};
+ghost use Rattle.dcsctp_c.specs.Exports.{Exported};
+
+use crate::answers::number;
+use dcsctp_handle::{Handle, with_session};
+use dcsctp_session::SendOptionsRecord;
+
+/// Begins an association.
+#[unsafe(no_mangle)]
+pub extern "C" fn dcsctp_connect(handle: &mut Handle) -> i32
+    ensures { Exported Connected handle.old.slot.value result handle.new.slot.value }
+{
+    number(with_session(handle, |session| session.connect()))
+}
+
+/// Shuts the association down.
+#[unsafe(no_mangle)]
+pub extern "C" fn dcsctp_shutdown(handle: &mut Handle) -> i32
+    ensures { Exported ShutDown handle.old.slot.value result handle.new.slot.value }
+{
+    number(with_session(handle, |session| session.shutdown()))
+}
+
+/// Ends the association at once.
+#[unsafe(no_mangle)]
+pub extern "C" fn dcsctp_close(handle: &mut Handle) -> i32
+    ensures { Exported Closed handle.old.slot.value result handle.new.slot.value }
+{
+    number(with_session(handle, |session| session.close()))
+}
+
+/// Handles a packet from the peer.
+#[unsafe(no_mangle)]
+pub extern "C" fn dcsctp_handle_input(handle: &mut Handle, packet: &[u8]) -> i32
+    ensures { Exported (InputHandled packet.now) handle.old.slot.value result handle.new.slot.value }
+{
+    number(with_session(handle, |session| session.handle_input(packet)))
+}
+
+/// Sets the clock, and handles what is due.
+#[unsafe(no_mangle)]
+pub extern "C" fn dcsctp_advance_time(handle: &mut Handle, now: u64) -> i32
+    ensures { Exported (Advanced now) handle.old.slot.value result handle.new.slot.value }
+{
+    number(with_session(handle, |session| session.advance_time(now)))
+}
+
+/// Sends a message.
+#[unsafe(no_mangle)]
+pub extern "C" fn dcsctp_send(
+    handle: &mut Handle,
+    stream_id: u16,
+    ppid: u32,
+    payload: &[u8],
+    options: &SendOptionsRecord,
+) -> i32
+    ensures { Exported (MessageSent (record { stream = stream_id; ppid = ppid; payload = payload.now }) options.now)
+        handle.old.slot.value result handle.new.slot.value }
+{
+    number(with_session(
+        handle,
+        |session| session.send(stream_id, ppid, payload, options),
+    ))
+}
+
+/// Resets streams.
+#[unsafe(no_mangle)]
+pub extern "C" fn dcsctp_reset_streams(handle: &mut Handle, stream_ids: &[u16]) -> i32
+    ensures { Exported (StreamsReset stream_ids.now) handle.old.slot.value result handle.new.slot.value }
+{
+    number(with_session(handle, |session| session.reset_streams(stream_ids)))
+}
+
+/// Sets the priority of a stream.
+#[unsafe(no_mangle)]
+pub extern "C" fn dcsctp_set_stream_priority(
+    handle: &mut Handle,
+    stream_id: u16,
+    priority: u16,
+) -> i32
+    ensures { Exported (SettingMade (stream_priority stream_id priority)) handle.old.slot.value result
+        handle.new.slot.value }
+{
+    number(with_session(
+        handle,
+        |session| session.set_stream_priority(stream_id, priority),
+    ))
+}
+
+/// Sets the low threshold of a stream.
+#[unsafe(no_mangle)]
+pub extern "C" fn dcsctp_set_buffered_amount_low_threshold(
+    handle: &mut Handle,
+    stream_id: u16,
+    bytes: usize,
+) -> i32
+    ensures { Exported (SettingMade (stream_low_threshold stream_id bytes)) handle.old.slot.value result
+        handle.new.slot.value }
+{
+    number(with_session(
+        handle,
+        |session| session.set_buffered_amount_low_threshold(stream_id, bytes),
+    ))
+}
+
+/// Sets how many bytes a message may have from now on.
+#[unsafe(no_mangle)]
+pub extern "C" fn dcsctp_set_max_message_size(handle: &mut Handle, bytes: usize) -> i32
+    ensures { Exported (SizeLimited bytes) handle.old.slot.value result handle.new.slot.value }
+{
+    number(with_session(handle, |session| session.set_max_message_size(bytes)))
+}

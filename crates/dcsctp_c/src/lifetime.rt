@@ -1,0 +1,53 @@
+//! Making a socket, and letting it go.
+
+ghost use Rattle.std.specs.Prelude.{◌≡◌, None};
+ghost use Rattle.dcsctp_session.specs.Options.{ShowsDefault};
+ghost use Rattle.dcsctp_c.specs.Exports.{CreatedIn};
+
+use dcsctp_handle::Handle;
+use dcsctp_session::{OptionsRecord, Session, Status};
+use std::alloc::Global;
+
+/// Writes the default options.
+#[unsafe(no_mangle)]
+pub extern "C" fn dcsctp_options_init(options: &mut OptionsRecord)
+    ensures { ShowsDefault options.new }
+{
+    *options = OptionsRecord::standard();
+}
+
+/// Gives a handle a closed socket, whose clock stands at `now`.
+#[tactic(auto, using(crate::proofs::ExportLemmas::not_created))]
+#[unsafe(no_mangle)]
+pub extern "C" fn dcsctp_create(
+    alloc: Global,
+    handle: &mut Handle,
+    options: &OptionsRecord,
+    seed: &[u8; 32],
+    now: u64,
+) -> i32
+    ensures { CreatedIn options.now seed.now now handle.old.slot.value result handle.new.slot.value }
+{
+    if handle.is_open() {
+        return Status::AlreadyCreated.number();
+    }
+    let session = match Session::new(alloc, options, *seed, now) {
+        Ok(session) => session,
+        Err(status) => return status.number(),
+    };
+    match Handle::of(alloc, session) {
+        Ok(made) => {
+            *handle = made;
+            Status::Done.number()
+        }
+        Err(_) => Status::OutOfMemory.number(),
+    }
+}
+
+/// Frees what a handle has. It can be given a socket again.
+#[unsafe(no_mangle)]
+pub extern "C" fn dcsctp_destroy(alloc: Global, handle: &mut Handle)
+    ensures { handle.new.slot.value ≡ None }
+{
+    *handle = Handle::closed(alloc);
+}

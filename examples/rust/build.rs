@@ -1,0 +1,13 @@
+//! Finds libdcsctp.a: in the folder DCSCTP_LIB_DIR, or where `make` at the top has put it.
+use std::path::PathBuf;
+
+fn main() {
+    let made = PathBuf::from(env!("CARGO_MANIFEST_DIR")).join("../../out");
+    let folder = std::env::var_os("DCSCTP_LIB_DIR").map_or(made, PathBuf::from);
+    let library = folder.join("libdcsctp.a");
+    assert!(library.exists(), "{library:?} isn't there: run make, or set DCSCTP_LIB_DIR");
+    println!("cargo:rustc-link-search=native={}", folder.display());
+    println!("cargo:rustc-link-lib=static=dcsctp");
+    println!("cargo:rerun-if-env-changed=DCSCTP_LIB_DIR");
+    println!("cargo:rerun-if-changed={}", library.display());
+}

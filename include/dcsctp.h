@@ -1,0 +1,501 @@
+/*
+ * dcsctp.h: an SCTP association (RFC 9260) for WebRTC data channels, without system calls.
+ *
+ * You hand a socket the packets that arrive, and the time. It hands you the packets to send, the
+ * messages that have arrived, and events. It reads no clock, opens no file and starts no thread.
+ *
+ * The library is written and proved in Rattle: whatever bytes a peer sends, each call returns, and
+ * touches no memory but what it was given and its own. That needs a caller who keeps the rules
+ * below. No call can check them. docs/C.md says what is proved of each call.
+ *
+ *
+ * THE LOOP
+ *
+ *     dcsctp_socket s = DCSCTP_SOCKET_INIT;
+ *     dcsctp_options_init(&options);
+ *     getrandom(seed, sizeof seed, 0);
+ *     dcsctp_create(&s, &options, seed, now());
+ *     dcsctp_connect(&s);                                          // one end, or both
+ *     for (;;) {
+ *         while (dcsctp_poll_event(&s, &event) == 1)
+ *             if (event.kind == DCSCTP_EVENT_SEND_PACKET &&
+ *                     dcsctp_event_bytes(&s, packet, sizeof packet, &length) == DCSCTP_OK)
+ *                 send(fd, packet, length, 0);
+ *         while (dcsctp_get_next_message(&s, &message) == 1)
+ *             if (dcsctp_message_bytes(&s, buffer, sizeof buffer, &length) == DCSCTP_OK)
+ *                 use(message.stream_id, message.ppid, buffer, length);
+ *         dcsctp_poll_timeout(&s, &deadline);
+ *         wait_until_readable(fd, deadline);                       // poll(2), or an event loop
+ *         if (dcsctp_advance_time(&s, now()) != DCSCTP_OK)
+ *             break;                                               // out of memory
+ *         if ((n = recv(fd, packet, sizeof packet, MSG_DONTWAIT)) >= 0)
+ *             dcsctp_handle_input(&s, packet, n);
+ *     }
+ *     dcsctp_destroy(&s);
+ *
+ * A call that hands something in, be it a packet, the time or a command, may add events and
+ * messages, and move the deadline. So take all of them, and ask for the deadline, before you wait.
+ * `packet` has room for `mtu` bytes, and `buffer` for the longest message. Check what
+ * dcsctp_create returns.
+ *
+ *
+ * RULES
+ *
+ * Ownership. You own each dcsctp_socket and each buffer. The library owns what `at` points to, and
+ *   dcsctp_destroy gives it back. When a call has returned, the library keeps no pointer of yours.
+ *
+ * Sockets. A dcsctp_socket begins as zero bytes (DCSCTP_SOCKET_INIT), and only these functions
+ *   change it. You may move it in memory between calls. Never use two copies of it. After fork one
+ *   of the two processes goes on with it: the parent, if it has threads.
+ *
+ * Pointers. Each is valid, aligned, and not NULL, not even with a length of 0. Each points to as
+ *   many elements as the number after it says, and a number may be 0. What a call writes to
+ *   overlaps nothing else that it is given; a call writes to the socket, too. What is only written
+ *   need not be initialised.
+ *
+ * Threads. A socket belongs to one call at a time, and a query is a call, too (a lock for readers
+ *   isn't enough): use a mutex, or keep the socket on one thread. Calls on different sockets may
+ *   run at the same time, for there is no global state. No call blocks or calls back. None may be
+ *   made in a signal handler.
+ *
+ * Memory. It comes from malloc, realloc and free, of one allocator, whose blocks are aligned to 16.
+ *   When an allocation fails that a call needs, it returns DCSCTP_ERROR_OUT_OF_MEMORY, and your
+ *   process goes on.
+ *
+ * Time. A moment is a number of nanoseconds, by a clock that never goes back: CLOCK_MONOTONIC. All
+ *   moments of a socket are by the same clock. Tell the time before you hand in a packet.
+ *
+ * Seed. All random numbers of a socket come from its 32 bytes of seed. Take them from the system's
+ *   generator, for each socket anew: who knows them can forge packets.
+ *
+ * Results. A call returns DCSCTP_OK or a number that its description names. An error is negative.
+ *   Errors are listed at each call, without DCSCTP_ERROR_. Unless the error or the call says more,
+ *   an error changes nothing and writes nothing.
+ */
+#ifndef DCSCTP_H
+#define DCSCTP_H
+
+#include <stddef.h>
+#include <stdint.h>
+
+#if SIZE_MAX != UINT64_MAX
+#error "dcsctp needs 64 bits"
+#endif
+
+#ifdef __cplusplus
+extern "C" {
+#endif
+
+#if defined(__GNUC__) || defined(__clang__)
+#define DCSCTP_CALL __attribute__((nonnull))
+#define DCSCTP_CHECKED_CALL __attribute__((nonnull, warn_unused_result))
+#else
+#define DCSCTP_CALL
+#define DCSCTP_CHECKED_CALL
+#endif
+
+#define DCSCTP_VERSION_MAJOR 0
+#define DCSCTP_VERSION_MINOR 1
+#define DCSCTP_VERSION_PATCH 0
+
+/* ---- Results -------------------------------------------------------------------------------- */
+
+#define DCSCTP_OK 0
+
+/* An allocation failed in this call. The socket has failed now, unless the call says that it may be
+ * tried again; dcsctp_has_failed tells. Events that waited can still be taken, and the first of
+ * those that the call would have added. Messages that were ready may be lost. */
+#define DCSCTP_ERROR_OUT_OF_MEMORY (-1)
+
+/* An allocation failed in an earlier call. Queries still answer, and events can be taken. There is
+ * nothing else left to do but dcsctp_destroy. */
+#define DCSCTP_ERROR_FAILED (-2)
+
+/* There is no socket: none was created, or it was destroyed. */
+#define DCSCTP_ERROR_NO_SOCKET (-3)
+
+/* There is a socket already. */
+#define DCSCTP_ERROR_ALREADY_CREATED (-4)
+
+/* No socket can be made with these options: see dcsctp_options. */
+#define DCSCTP_ERROR_INVALID_OPTIONS (-5)
+
+/* The buffer is too small. How many elements it needs was written. Call again with a larger one. */
+#define DCSCTP_ERROR_BUFFER_TOO_SMALL (-6)
+
+/* What was taken last has nothing of this kind, or nothing was taken. A length of 0 was written. */
+#define DCSCTP_ERROR_NOTHING_TO_COPY (-7)
+
+/* The message has no bytes. */
+#define DCSCTP_ERROR_EMPTY_PAYLOAD (-8)
+
+/* The message is longer than `max_message_size`. */
+#define DCSCTP_ERROR_MESSAGE_TOO_LARGE (-9)
+
+/* The send buffer is full, in all or for this stream. Try again when less waits:
+ * DCSCTP_EVENT_BUFFERED_AMOUNT_LOW and DCSCTP_EVENT_TOTAL_BUFFERED_AMOUNT_LOW tell. */
+#define DCSCTP_ERROR_RESOURCE_EXHAUSTION (-10)
+
+/* The association is being shut down, and takes no message. */
+#define DCSCTP_ERROR_SHUTTING_DOWN (-11)
+
+/* There is no association, or the peer hasn't answered yet. */
+#define DCSCTP_ERROR_NOT_CONNECTED (-12)
+
+/* The peer doesn't reset streams (RFC 6525). */
+#define DCSCTP_ERROR_NOT_SUPPORTED (-13)
+
+/* The socket can't be handed over now: dcsctp_get_handover_readiness says why. */
+#define DCSCTP_ERROR_NOT_READY (-14)
+
+/* These bytes are no snapshot, or the options of the socket don't fit it. */
+#define DCSCTP_ERROR_INVALID_SNAPSHOT (-15)
+
+/* The socket has an association, or begins one. */
+#define DCSCTP_ERROR_NOT_CLOSED (-16)
+
+/* ---- Sockets and options -------------------------------------------------------------------- */
+
+typedef struct dcsctp_socket {
+    void *at;      /* private */
+    uint32_t mark; /* private */
+} dcsctp_socket;
+
+/* No socket yet. Zero bytes, as of memset or calloc, are the same. */
+#define DCSCTP_SOCKET_INIT { NULL, 0 }
+
+/* No limit, in a time and in a count. */
+#define DCSCTP_NEVER UINT64_MAX
+#define DCSCTP_NO_LIMIT UINT32_MAX
+
+/* What can be set. Sizes are bytes, times nanoseconds. Each comment ends with the default. A switch
+ * is off at 0, and on at any other number. The options are valid if `mtu` is 32 to 65,535, and
+ * `max_receiver_window_buffer_size` and `max_send_buffer_size` are at most 4,294,967,295. */
+typedef struct dcsctp_options {
+    size_t mtu;                                          /* longest packet that is sent: 1,191 */
+    size_t max_message_size;                             /* longest message to send: 262,144 */
+    size_t max_receiver_window_buffer_size;              /* received, not taken yet: 5,242,880 */
+    size_t max_send_buffer_size;                         /* send refuses at this: 2,000,000 */
+    size_t per_stream_send_queue_limit;                  /* the same of a stream: 2,000,000 */
+    size_t total_buffered_amount_low_threshold;          /* of all streams: 1,800,000 */
+    size_t default_stream_buffered_amount_low_threshold; /* of a stream: 0 */
+    size_t cwnd_mtus_initial;                            /* first congestion window, in MTUs: 10 */
+    size_t cwnd_mtus_min;                                /* least one after a loss, in MTUs: 4 */
+    uint64_t rtt_max;                                    /* no longer round trip counts: 60 s */
+    uint64_t rto_initial;                                /* first retransmission timeout: 500 ms */
+    uint64_t rto_max;                                    /* its greatest value: 60 s */
+    uint64_t rto_min;                                    /* its least value: 400 ms */
+    uint64_t t1_init_timeout;                            /* first wait for an INIT ACK: 1 s */
+    uint64_t t1_cookie_timeout;                          /* first wait for a COOKIE ACK: 1 s */
+    uint64_t max_timer_backoff_duration;                 /* limit of backoff: DCSCTP_NEVER */
+    uint64_t heartbeat_interval;                         /* 0: none are sent; 30 s */
+    uint64_t delayed_ack_max_timeout;                    /* for acknowledgements: 200 ms */
+    uint64_t min_rtt_variance;                           /* least four variances: 220 ms */
+    int32_t max_burst;                                   /* packets that one flush sends: 4 */
+    uint32_t max_retransmissions;                        /* of data; or DCSCTP_NO_LIMIT: 10 */
+    uint32_t max_init_retransmits;                       /* of INIT, COOKIE ECHO; or no limit: 8 */
+    uint32_t zero_checksum_method;                       /* RFC 9653; 0 none, 1 DTLS: 0 */
+    uint32_t enable_partial_reliability;                 /* switch, RFC 3758: 1 */
+    uint32_t enable_message_interleaving;                /* switch, RFC 8260: 0 */
+    uint32_t disable_checksum_verification;              /* switch, for tests: 0 */
+    uint32_t enable_handover_with_outstanding_data;      /* switch: 0 */
+    uint16_t local_port;                                 /* 5,000 */
+    uint16_t remote_port;                                /* 5,000 */
+    uint16_t announced_maximum_incoming_streams;         /* 65,535 */
+    uint16_t announced_maximum_outgoing_streams;         /* 65,535 */
+    uint16_t default_stream_priority;                    /* 256 */
+    uint16_t reserved;                                   /* write 0; not read yet */
+    uint32_t reserved_word;                              /* the same */
+} dcsctp_options;
+
+/* Writes the default options. */
+void dcsctp_options_init(dcsctp_options *options) DCSCTP_CALL;
+
+/* Creates a closed socket whose clock stands at `now`. Nothing is sent before dcsctp_connect, or
+ * before a peer connects.
+ *
+ * Errors: ALREADY_CREATED, INVALID_OPTIONS, OUT_OF_MEMORY. In each case `socket` is as before. */
+int32_t dcsctp_create(dcsctp_socket *socket, const dcsctp_options *options, const uint8_t seed[32],
+                      uint64_t now) DCSCTP_CHECKED_CALL;
+
+/* Frees a socket, whatever it is doing. The peer is told nothing: dcsctp_close does that, or
+ * dcsctp_shutdown. One can be created again. Where there is none, nothing happens. */
+void dcsctp_destroy(dcsctp_socket *socket) DCSCTP_CALL;
+
+/* ---- Commands ------------------------------------------------------------------------------- */
+
+/* Begins an association: DCSCTP_EVENT_CONNECTED or DCSCTP_EVENT_ABORTED follows. On a socket that
+ * isn't closed it changes nothing. Errors: NO_SOCKET, FAILED, OUT_OF_MEMORY. */
+int32_t dcsctp_connect(dcsctp_socket *socket) DCSCTP_CALL;
+
+/* Ends the association in an orderly way: all that was sent is acknowledged first. From now on no
+ * message is taken, and those that still wait may be lost. DCSCTP_EVENT_CLOSED follows when the
+ * peer has answered. If it hasn't answered the first INIT, the association ends at once, and while
+ * the handshake isn't over it never connects. On a closed socket it changes nothing. To lose
+ * nothing, first wait until dcsctp_buffered_amount is 0.
+ * Errors: NO_SOCKET, FAILED, OUT_OF_MEMORY. */
+int32_t dcsctp_shutdown(dcsctp_socket *socket) DCSCTP_CALL;
+
+/* Ends the association at once: an ABORT goes to the peer if it is known, and the last event is
+ * DCSCTP_EVENT_CLOSED. On a closed socket it changes nothing.
+ * Errors: NO_SOCKET, FAILED, OUT_OF_MEMORY. */
+int32_t dcsctp_close(dcsctp_socket *socket) DCSCTP_CALL;
+
+/* ---- Packets and time ----------------------------------------------------------------------- */
+
+/* Handles a packet from the peer, of any bytes. One that can't be read, or has a wrong verification
+ * tag, adds a DCSCTP_EVENT_ERROR. It is counted, and changes nothing else.
+ * Errors: NO_SOCKET, FAILED, OUT_OF_MEMORY. */
+int32_t dcsctp_handle_input(dcsctp_socket *socket, const uint8_t *packet, size_t length)
+    DCSCTP_CALL;
+
+/* Tells the time, and handles what is due. A moment before the last one changes nothing.
+ * Errors: NO_SOCKET, FAILED, OUT_OF_MEMORY. */
+int32_t dcsctp_advance_time(dcsctp_socket *socket, uint64_t now) DCSCTP_CALL;
+
+/* Writes the next deadline, by which dcsctp_advance_time has to be called: a moment that is never
+ * before the last one told, or DCSCTP_NEVER. Error: NO_SOCKET. */
+int32_t dcsctp_poll_timeout(dcsctp_socket *socket, uint64_t *moment) DCSCTP_CALL;
+
+/* ---- Events --------------------------------------------------------------------------------- */
+
+#define DCSCTP_EVENT_NONE 0u
+#define DCSCTP_EVENT_SEND_PACKET 1u              /* bytes: a packet for the peer, at most `mtu` */
+#define DCSCTP_EVENT_CONNECTED 2u                /* an association was made, by either end */
+#define DCSCTP_EVENT_CLOSED 3u                   /* it has ended, not by an abort of the peer */
+#define DCSCTP_EVENT_CONNECTION_RESTARTED 4u     /* the peer began anew: then CONNECTED comes */
+#define DCSCTP_EVENT_ABORTED 5u                  /* it was cut off: error_kind; bytes: a text */
+#define DCSCTP_EVENT_ERROR 6u                    /* it goes on: error_kind; bytes: a text */
+#define DCSCTP_EVENT_BUFFERED_AMOUNT_LOW 7u      /* stream_id */
+#define DCSCTP_EVENT_TOTAL_BUFFERED_AMOUNT_LOW 8u
+#define DCSCTP_EVENT_STREAMS_RESET_FAILED 9u     /* streams of this end that weren't reset */
+#define DCSCTP_EVENT_STREAMS_RESET_PERFORMED 10u /* streams of this end that were reset */
+#define DCSCTP_EVENT_INCOMING_STREAM_RESET 11u   /* streams of the peer; none: all of them */
+#define DCSCTP_EVENT_LIFECYCLE_FULLY_SENT 12u    /* lifecycle_id: the whole message was sent */
+#define DCSCTP_EVENT_LIFECYCLE_MAYBE_EXPIRED 13u /* lifecycle_id: abandoned after that */
+#define DCSCTP_EVENT_LIFECYCLE_EXPIRED 14u       /* lifecycle_id: abandoned before that */
+#define DCSCTP_EVENT_LIFECYCLE_DELIVERED 15u     /* lifecycle_id: the peer acknowledged it */
+#define DCSCTP_EVENT_LIFECYCLE_END 16u           /* lifecycle_id: no event names it again */
+
+#define DCSCTP_KIND_NO_ERROR 0u
+#define DCSCTP_KIND_TOO_MANY_RETRIES 1u      /* something was sent too often without an answer */
+#define DCSCTP_KIND_NOT_CONNECTED 2u         /* it needs an association, and there is none */
+#define DCSCTP_KIND_PARSE_FAILED 3u          /* it can't be read, or isn't for this association */
+#define DCSCTP_KIND_WRONG_SEQUENCE 4u        /* it can't be handled in this state */
+#define DCSCTP_KIND_PEER_REPORTED 5u         /* the peer reported an error, or aborted */
+#define DCSCTP_KIND_PROTOCOL_VIOLATION 6u    /* the peer, or the caller, broke a rule */
+#define DCSCTP_KIND_RESOURCE_EXHAUSTION 7u   /* a buffer is full */
+#define DCSCTP_KIND_UNSUPPORTED_OPERATION 8u /* it isn't supported */
+
+/* Fields that a kind doesn't name are 0. Later versions may have more kinds: ignore them. */
+typedef struct dcsctp_event {
+    uint64_t lifecycle_id;
+    size_t length;       /* how many bytes or streams there are to copy */
+    uint32_t kind;       /* DCSCTP_EVENT_.. */
+    uint32_t error_kind; /* DCSCTP_KIND_.. */
+    uint32_t stream_id;
+    uint32_t reserved;
+} dcsctp_event;
+
+/* Takes the oldest event and writes it: 1. Where none waits: 0, and the event is
+ * DCSCTP_EVENT_NONE. Its bytes or streams can be copied until the next call of dcsctp_poll_event.
+ * It allocates nothing. Error: NO_SOCKET. */
+int32_t dcsctp_poll_event(dcsctp_socket *socket, dcsctp_event *event) DCSCTP_CALL;
+
+/* Copies the packet or the text of the event that was taken last, and writes its length. A text is
+ * UTF-8, has no zero at its end, and may be empty.
+ * Errors: NO_SOCKET, BUFFER_TOO_SMALL, NOTHING_TO_COPY. */
+int32_t dcsctp_event_bytes(dcsctp_socket *socket, uint8_t *buffer, size_t capacity,
+                           size_t *length) DCSCTP_CHECKED_CALL;
+
+/* Copies the streams of the event that was taken last, and writes how many there are. `capacity`
+ * counts streams, too. Errors: NO_SOCKET, BUFFER_TOO_SMALL, NOTHING_TO_COPY. */
+int32_t dcsctp_event_streams(dcsctp_socket *socket, uint16_t *buffer, size_t capacity,
+                             size_t *count) DCSCTP_CHECKED_CALL;
+
+/* ---- Messages ------------------------------------------------------------------------------- */
+
+typedef struct dcsctp_message {
+    size_t length; /* how many bytes there are to copy, at least 1 */
+    uint32_t ppid; /* the payload protocol identifier (RFC 8831, section 8) */
+    uint16_t stream_id;
+    uint16_t reserved;
+} dcsctp_message;
+
+/* Writes how many messages are ready to be taken. Error: NO_SOCKET. */
+int32_t dcsctp_messages_ready_count(dcsctp_socket *socket, size_t *count) DCSCTP_CALL;
+
+/* Takes the message that became ready first and writes what it is: 1. Where none is ready: 0, and
+ * its length is 0. Its bytes leave the receive window. They can be copied until the next call of
+ * dcsctp_get_next_message. Messages that weren't taken are lost when the next association begins.
+ * It allocates nothing. Error: NO_SOCKET. */
+int32_t dcsctp_get_next_message(dcsctp_socket *socket, dcsctp_message *message) DCSCTP_CALL;
+
+/* Copies the bytes of the message that was taken last, and writes its length.
+ * Errors: NO_SOCKET, BUFFER_TOO_SMALL, NOTHING_TO_COPY. */
+int32_t dcsctp_message_bytes(dcsctp_socket *socket, uint8_t *buffer, size_t capacity,
+                             size_t *length) DCSCTP_CHECKED_CALL;
+
+/* The peer may be given the message out of order. */
+#define DCSCTP_SEND_UNORDERED 1u
+/* `lifetime` counts: a message that isn't acknowledged by then is abandoned. It needs partial
+ * reliability (RFC 3758) at both ends, as the next one does. */
+#define DCSCTP_SEND_LIFETIME 2u
+/* `max_retransmissions` counts: a message that would be sent again more often is abandoned. */
+#define DCSCTP_SEND_MAX_RETRANSMISSIONS 4u
+
+/* How a message is sent. Zero, as by DCSCTP_SEND_INIT: in order, until it is acknowledged. */
+typedef struct dcsctp_send_options {
+    uint64_t lifecycle_id;        /* the name in DCSCTP_EVENT_LIFECYCLE_..; 0: no such events */
+    uint64_t lifetime;            /* nanoseconds */
+    uint32_t flags;               /* DCSCTP_SEND_.., added up; other bits: 0 */
+    uint16_t max_retransmissions;
+    uint16_t reserved;            /* 0 */
+} dcsctp_send_options;
+
+#define DCSCTP_SEND_INIT { 0, 0, 0, 0, 0 }
+
+/* Sends a message, whose bytes are copied. It waits after the others of its stream, and before an
+ * association is made, too. EMPTY_PAYLOAD, MESSAGE_TOO_LARGE, SHUTTING_DOWN and RESOURCE_EXHAUSTION
+ * refuse it: the first of them in this order that holds. Then a DCSCTP_EVENT_ERROR says the same,
+ * after a DCSCTP_EVENT_LIFECYCLE_END where the message has a name. If there is no memory for the
+ * copy, it is OUT_OF_MEMORY, nothing has changed, and the call may be tried again.
+ *
+ * Errors: NO_SOCKET, EMPTY_PAYLOAD, MESSAGE_TOO_LARGE, SHUTTING_DOWN, RESOURCE_EXHAUSTION, FAILED,
+ * OUT_OF_MEMORY. */
+int32_t dcsctp_send(dcsctp_socket *socket, uint16_t stream_id, uint32_t ppid,
+                    const uint8_t *payload, size_t length, const dcsctp_send_options *options)
+    DCSCTP_CHECKED_CALL;
+
+/* ---- Streams -------------------------------------------------------------------------------- */
+
+/* Resets streams of this end (RFC 6525), which closes data channels. A `count` of 0 names none.
+ * Messages on them that weren't begun are dropped. None is begun until
+ * DCSCTP_EVENT_STREAMS_RESET_PERFORMED or .._FAILED. The peer gets
+ * DCSCTP_EVENT_INCOMING_STREAM_RESET.
+ *
+ * Errors: NO_SOCKET, NOT_CONNECTED, NOT_SUPPORTED, FAILED, OUT_OF_MEMORY. If there is no memory for
+ * a copy of the numbers, nothing has changed, and the call may be tried again. */
+int32_t dcsctp_reset_streams(dcsctp_socket *socket, const uint16_t *stream_ids, size_t count)
+    DCSCTP_CHECKED_CALL;
+
+/* Writes how many bytes wait to be sent on a stream. Error: NO_SOCKET. */
+int32_t dcsctp_buffered_amount(dcsctp_socket *socket, uint16_t stream_id, size_t *bytes)
+    DCSCTP_CALL;
+
+/* The low threshold of a stream: DCSCTP_EVENT_BUFFERED_AMOUNT_LOW comes when what waits on it falls
+ * from above the threshold to it or below. It outlasts an association.
+ * Errors: NO_SOCKET, and where it is set FAILED and OUT_OF_MEMORY, too. */
+int32_t dcsctp_buffered_amount_low_threshold(dcsctp_socket *socket, uint16_t stream_id,
+                                             size_t *bytes) DCSCTP_CALL;
+int32_t dcsctp_set_buffered_amount_low_threshold(dcsctp_socket *socket, uint16_t stream_id,
+                                                 size_t bytes) DCSCTP_CALL;
+
+/* The priority of a stream: one of the greatest priority is sent first. It outlasts an association.
+ * Errors: NO_SOCKET, and where it is set FAILED and OUT_OF_MEMORY, too. */
+int32_t dcsctp_get_stream_priority(dcsctp_socket *socket, uint16_t stream_id, uint16_t *priority)
+    DCSCTP_CALL;
+int32_t dcsctp_set_stream_priority(dcsctp_socket *socket, uint16_t stream_id, uint16_t priority)
+    DCSCTP_CALL;
+
+/* ---- Queries -------------------------------------------------------------------------------- */
+
+#define DCSCTP_STATE_CLOSED 0
+#define DCSCTP_STATE_CONNECTING 1
+#define DCSCTP_STATE_CONNECTED 2
+#define DCSCTP_STATE_SHUTTING_DOWN 3
+
+/* The state: DCSCTP_STATE_.. Error: NO_SOCKET. */
+int32_t dcsctp_state(dcsctp_socket *socket) DCSCTP_CALL;
+
+/* Has an allocation failed, so that the socket is of no more use? 1 or 0. Error: NO_SOCKET. */
+int32_t dcsctp_has_failed(dcsctp_socket *socket) DCSCTP_CALL;
+
+/* Sets how long a message may be from now on. Error: NO_SOCKET. */
+int32_t dcsctp_set_max_message_size(dcsctp_socket *socket, size_t bytes) DCSCTP_CALL;
+
+/* Writes the options of the socket, with `max_message_size` as it was set last. A switch is 0 or 1,
+ * and `reserved` is 0. Error: NO_SOCKET. */
+int32_t dcsctp_get_options(dcsctp_socket *socket, dcsctp_options *options) DCSCTP_CALL;
+
+#define DCSCTP_PEER_UNKNOWN 0u   /* its cookie doesn't tell, or it sent no INIT ACK */
+#define DCSCTP_PEER_DCSCTP_RS 1u /* this library, or dcSCTP in Rust */
+#define DCSCTP_PEER_DCSCTP_CC 2u /* dcSCTP in C++ */
+#define DCSCTP_PEER_USRSCTP 3u
+#define DCSCTP_PEER_OTHER 4u     /* not in use */
+
+/* Counts of the socket's whole life, and how the association is now. */
+typedef struct dcsctp_metrics {
+    uint64_t rtx_bytes_count;            /* bytes of chunks sent again, with headers and padding */
+    uint64_t srtt;                       /* smoothed round trip time, in nanoseconds */
+    size_t tx_packets_count;             /* packets sent */
+    size_t tx_messages_count;            /* messages that dcsctp_send took */
+    size_t rtx_packets_count;            /* packets with chunks that were sent again */
+    size_t cwnd_bytes;                   /* congestion window */
+    size_t unack_data_count;             /* chunks in flight, and those of messages that wait */
+    size_t rx_packets_count;             /* packets handed in, readable or not */
+    size_t rx_messages_count;            /* messages that became ready */
+    uint32_t peer_rwnd_bytes;            /* window of the peer, without what is in flight */
+    uint32_t peer_implementation;        /* DCSCTP_PEER_.. */
+    uint32_t uses_message_interleaving;  /* 0 or 1 */
+    uint32_t uses_zero_checksum;         /* 0 or 1 */
+    uint16_t negotiated_maximum_incoming_streams;
+    uint16_t negotiated_maximum_outgoing_streams;
+    uint32_t reserved;
+} dcsctp_metrics;
+
+/* Writes the metrics: 1. Where the peer isn't known: 0, and nothing is written.
+ * Error: NO_SOCKET. */
+int32_t dcsctp_get_metrics(dcsctp_socket *socket, dcsctp_metrics *metrics) DCSCTP_CALL;
+
+/* ---- Handover to another process ------------------------------------------------------------ */
+
+/* Why a socket can't be handed over. */
+#define DCSCTP_HANDOVER_WRONG_CONNECTION_STATE 1u           /* it is being set up or shut down */
+#define DCSCTP_HANDOVER_SEND_QUEUE_NOT_EMPTY 2u             /* messages wait to be sent */
+#define DCSCTP_HANDOVER_PENDING_STREAM_RESET_REQUEST 4u     /* an own request isn't answered */
+#define DCSCTP_HANDOVER_DATA_TRACKER_TSN_BLOCKS_PENDING 8u  /* received data has a gap */
+#define DCSCTP_HANDOVER_PENDING_STREAM_RESET 16u            /* an own stream is to be reset */
+#define DCSCTP_HANDOVER_STREAM_RESET_DEFERRED 64u           /* a reset by the peer is deferred */
+#define DCSCTP_HANDOVER_STREAM_HAS_UNASSEMBLED_CHUNKS 128u  /* messages aren't whole, or wait */
+#define DCSCTP_HANDOVER_RETRANSMISSION_QUEUE_OUTSTANDING_DATA 512u /* data isn't acknowledged */
+#define DCSCTP_HANDOVER_RETRANSMISSION_QUEUE_FAST_RECOVERY 1024u /* it is under way */
+#define DCSCTP_HANDOVER_RETRANSMISSION_QUEUE_NOT_EMPTY 2048u /* data is to be sent again */
+
+/* Writes the reasons why the socket can't be handed over now, added up; 0: it can. A closed socket
+ * can. With `enable_handover_with_outstanding_data`, data that is sent may be unfinished. Messages
+ * that are ready are no reason, but a handover loses them: take them first. Error: NO_SOCKET. */
+int32_t dcsctp_get_handover_readiness(dcsctp_socket *socket, uint32_t *reasons) DCSCTP_CALL;
+
+/* Takes a snapshot of the socket, from which dcsctp_restore_from_state goes on in another process,
+ * and ends the association here. The peer isn't told, and the last event is DCSCTP_EVENT_CLOSED.
+ * Copy the snapshot by dcsctp_handover_bytes before another call of this one, which takes the place
+ * of the snapshot, and then destroy this socket.
+ *
+ * Errors: NO_SOCKET, NOT_READY, FAILED, OUT_OF_MEMORY. */
+int32_t dcsctp_get_handover_state_and_close(dcsctp_socket *socket) DCSCTP_CHECKED_CALL;
+
+/* Copies the snapshot that was taken last, and writes its length. Its bytes are for a socket of the
+ * same version of this library. Keep them as secret as the messages.
+ *
+ * Errors: NO_SOCKET, BUFFER_TOO_SMALL, NOTHING_TO_COPY, OUT_OF_MEMORY. After OUT_OF_MEMORY nothing
+ * has changed, and the call may be tried again. */
+int32_t dcsctp_handover_bytes(dcsctp_socket *socket, uint8_t *buffer, size_t capacity,
+                              size_t *length) DCSCTP_CHECKED_CALL;
+
+/* Goes on from a snapshot that another socket with these options gave: DCSCTP_EVENT_CONNECTED
+ * follows. What waited to be sent here is dropped. The snapshot of a closed socket changes nothing.
+ * Use a snapshot once: two sockets that go on from it confuse the peer. Let the clock of the socket
+ * be past a minute, since older times count as moment 0. Restore only what you trust: a forged
+ * snapshot can make an association, and can take long to check.
+ *
+ * Errors: NO_SOCKET, NOT_CLOSED, INVALID_SNAPSHOT, FAILED, OUT_OF_MEMORY. If there is no memory to
+ * read the bytes, nothing has changed, and the call may be tried again. */
+int32_t dcsctp_restore_from_state(dcsctp_socket *socket, const uint8_t *bytes, size_t length)
+    DCSCTP_CHECKED_CALL;
+
+#ifdef __cplusplus
+}
+#endif
+
+#endif

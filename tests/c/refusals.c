@@ -1,0 +1,204 @@
+/* An exchange with each of its allocations refused in turn. The call that needs it returns
+ * DCSCTP_ERROR_OUT_OF_MEMORY, and the rest is as dcsctp.h says. In the end all memory is freed.
+ * It is linked with --wrap=malloc,--wrap=realloc,--wrap=free. */
+#include "pair.h"
+
+/* ---- Memory --------------------------------------------------------------------------------- */
+
+static long allocations; /* how many were asked for */
+static long refused;     /* the number of the one that is refused, from 1; 0: none */
+static long blocks;      /* how many aren't given back */
+
+void *__real_malloc(size_t size);
+void *__real_realloc(void *block, size_t size);
+void __real_free(void *block);
+void *__wrap_malloc(size_t size);
+void *__wrap_realloc(void *block, size_t size);
+void __wrap_free(void *block);
+
+void *__wrap_malloc(size_t size) {
+    void *block = ++allocations == refused ? NULL : __real_malloc(size);
+    blocks += block != NULL;
+    return block;
+}
+
+void *__wrap_realloc(void *block, size_t size) {
+    return ++allocations == refused ? NULL : __real_realloc(block, size);
+}
+
+void __wrap_free(void *block) {
+    blocks -= block != NULL;
+    __real_free(block);
+}
+
+/* ---- A socket that has failed --------------------------------------------------------------- */
+
+/* Commands and inputs return DCSCTP_ERROR_FAILED. Queries answer, and what waits can be taken. */
+static void check_failed(struct end *end) {
+    dcsctp_socket *socket = &end->socket;
+    const uint16_t streams[] = {1};
+    uint8_t bytes[12] = {0};
+    uint64_t moment;
+    size_t size;
+    uint16_t priority;
+    dcsctp_options options;
+    const int32_t commands[] = {
+        dcsctp_connect(socket),
+        dcsctp_shutdown(socket),
+        dcsctp_close(socket),
+        dcsctp_handle_input(socket, bytes, sizeof bytes),
+        dcsctp_advance_time(socket, DCSCTP_NEVER - 1),
+        send_bytes(end, 1, 10),
+        dcsctp_reset_streams(socket, streams, 1),
+        dcsctp_set_stream_priority(socket, 1, 5),
+        dcsctp_set_buffered_amount_low_threshold(socket, 1, 5),
+        dcsctp_get_handover_state_and_close(socket),
+    };
+    for (size_t i = 0; i < sizeof commands / sizeof commands[0]; i++)
+        EQUAL("a command", commands[i], DCSCTP_ERROR_FAILED);
+    const long before = allocations;
+    EQUAL("has_failed", dcsctp_has_failed(socket), 1);
+    EQUAL("state", dcsctp_state(socket) >= DCSCTP_STATE_CLOSED, 1);
+    EQUAL("deadline", dcsctp_poll_timeout(socket, &moment), DCSCTP_OK);
+    EQUAL("amount", dcsctp_buffered_amount(socket, 1, &size), DCSCTP_OK);
+    EQUAL("threshold", dcsctp_buffered_amount_low_threshold(socket, 1, &size), DCSCTP_OK);
+    EQUAL("priority", dcsctp_get_stream_priority(socket, 1, &priority), DCSCTP_OK);
+    EQUAL("ready", dcsctp_messages_ready_count(socket, &size), DCSCTP_OK);
+    EQUAL("options", dcsctp_get_options(socket, &options), DCSCTP_OK);
+    EQUAL("a new limit", dcsctp_set_max_message_size(socket, 5), DCSCTP_OK);
+    carry(end, NULL);
+    dcsctp_message message;
+    while (dcsctp_get_next_message(socket, &message) == 1)
+        ;
+    EQUAL("none of these allocates", allocations, before);
+}
+
+/* ---- The exchange --------------------------------------------------------------------------- */
+
+static struct end a, b, a_again;
+
+/* Where a call without memory may be tried again, it is, and has to succeed. Where it may not, or
+ * another error comes, the exchange ends. */
+#define TRY(end, call, again)                                                                    \
+    do {                                                                                         \
+        int32_t result_ = (call);                                                                \
+        if (result_ == DCSCTP_ERROR_OUT_OF_MEMORY) {                                             \
+            tellings++;                                                                          \
+            if (dcsctp_has_failed(&(end)->socket) == 1) {                                        \
+                check_failed(end);                                                               \
+                return 0;                                                                        \
+            }                                                                                    \
+            EQUAL(#call " may be tried again", again, 1);                                        \
+            result_ = (call);                                                                    \
+        }                                                                                        \
+        EQUAL(#call, result_, DCSCTP_OK);                                                        \
+    } while (0)
+
+/* How many calls returned that memory ran out. */
+static int tellings;
+
+/* Takes all events of an end, and hands its packets to the other end. Taking allocates nothing. */
+static int deliver(struct end *from, struct end *to, size_t *packets) {
+    for (;;) {
+        const long before = allocations;
+        uint32_t kind = take(from);
+        EQUAL("nothing is allocated", allocations, before);
+        if (kind == DCSCTP_EVENT_NONE)
+            return 1;
+        if (kind == DCSCTP_EVENT_SEND_PACKET) {
+            TRY(to, dcsctp_handle_input(&to->socket, from->packet, from->length), 0);
+            ++*packets;
+        }
+    }
+}
+
+static int exchange_all(struct end *one, struct end *other) {
+    size_t packets;
+    do {
+        packets = 0;
+        if (!deliver(one, other, &packets) || !deliver(other, one, &packets))
+            return 0;
+    } while (packets > 0);
+    return 1;
+}
+
+static int advance(struct end *end, uint64_t now) {
+    TRY(end, dcsctp_advance_time(&end->socket, now), 0);
+    return 1;
+}
+
+/* Two sockets are made and connected; messages go, and streams are reset. */
+static int first_part(const dcsctp_options *options) {
+    const uint16_t streams[] = {3, 4};
+    TRY(&a, create(&a, options, 1, BEGIN), 1);
+    TRY(&b, create(&b, options, 2, BEGIN), 1);
+    TRY(&a, dcsctp_set_stream_priority(&a.socket, 3, 9), 0);
+    TRY(&a, dcsctp_set_buffered_amount_low_threshold(&a.socket, 3, 100), 0);
+    TRY(&a, dcsctp_connect(&a.socket), 0);
+    TRY(&a, send_bytes(&a, 3, 40000), 1);
+    if (!exchange_all(&a, &b))
+        return 0;
+    EQUAL("A", dcsctp_state(&a.socket), DCSCTP_STATE_CONNECTED);
+    EQUAL("delivered", take_messages(&b, 40000), 1);
+    TRY(&a, dcsctp_reset_streams(&a.socket, streams, 2), 1);
+    if (!exchange_all(&a, &b) || !advance(&b, BEGIN + 1 * SECONDS) || !exchange_all(&b, &a))
+        return 0;
+    EQUAL("reset", a.seen[DCSCTP_EVENT_STREAMS_RESET_PERFORMED], 1);
+    return 1;
+}
+
+/* A is handed over with a message in flight and one that waits, and goes on in another socket. */
+static int second_part(const dcsctp_options *options) {
+    static uint8_t snapshot[1 << 17];
+    size_t length = 0;
+    TRY(&a, send_bytes(&a, 5, 30000), 1);
+    TRY(&a, dcsctp_get_handover_state_and_close(&a.socket), 0);
+    TRY(&a, dcsctp_handover_bytes(&a.socket, snapshot, sizeof snapshot, &length), 1);
+    TRY(&a_again, create(&a_again, options, 3, BEGIN + 2 * SECONDS), 1);
+    TRY(&a_again, dcsctp_restore_from_state(&a_again.socket, snapshot, length), 1);
+    for (uint64_t i = 3; i < 30; i++)
+        if (!exchange_all(&a_again, &b) || !advance(&a_again, BEGIN + i * SECONDS) ||
+            !advance(&b, BEGIN + i * SECONDS))
+            return 0;
+    EQUAL("delivered", take_messages(&b, 30000), 1);
+    TRY(&b, dcsctp_shutdown(&b.socket), 0);
+    if (!exchange_all(&b, &a_again))
+        return 0;
+    EQUAL("B", dcsctp_state(&b.socket), DCSCTP_STATE_CLOSED);
+    return 1;
+}
+
+/* Returns whether it came to its end. All memory is given back. */
+static int exchange(const dcsctp_options *options) {
+    memset(&a, 0, sizeof a);
+    memset(&b, 0, sizeof b);
+    memset(&a_again, 0, sizeof a_again);
+    allocations = tellings = 0;
+    int whole = first_part(options) && second_part(options);
+    dcsctp_destroy(&a.socket);
+    dcsctp_destroy(&b.socket);
+    dcsctp_destroy(&a_again.socket);
+    EQUAL("all memory is given back", blocks, 0);
+    return whole;
+}
+
+int main(void) {
+    dcsctp_options options;
+    long all, retried = 0, untold = 0;
+    dcsctp_options_init(&options);
+    options.enable_handover_with_outstanding_data = 1;
+    EQUAL("none is refused", exchange(&options), 1);
+    EQUAL("none is told", tellings, 0);
+    all = allocations;
+    EQUAL("there are some", all > 0, 1);
+    for (long i = 1; i <= all; i++) {
+        refused = i;
+        int whole = exchange(&options);
+        EQUAL("it is told once, or nothing needs it", tellings == 1 || (tellings == 0 && whole), 1);
+        retried += whole && tellings;
+        untold += !tellings;
+    }
+    printf("refusals: %ld in turn; %ld calls were tried again, and %ld did without\n", all, retried,
+           untold);
+    return 0;
+}
