@@ -23,7 +23,7 @@ PACKAGE = $(OUT)/dcsctp.pc $(OUT)/dcsctpConfig.cmake $(OUT)/dcsctpConfigVersion.
 VERSION := $(shell awk '/define DCSCTP_VERSION_/ { v = v s $$3; s = "." } END { print v }' \
     include/dcsctp.h)
 
-TESTS = calls options events handover refusals threads
+TESTS = calls options events handover refusals random threads
 EXAMPLES = two_sockets file_transfer
 WARNINGS = -Wall -Wextra -Wshadow -pedantic -Werror
 COMPILE = $(CC) -std=c11 $(WARNINGS) $(CFLAGS) -Iinclude
@@ -71,7 +71,7 @@ WRAP = -Wl,--wrap=malloc,--wrap=realloc,--wrap=free
 
 $(OUT)/tests/%: tests/c/%.c tests/c/pair.h include/dcsctp.h $(LIBRARY)
 	@mkdir -p $(OUT)/tests
-	$(COMPILE) $< $(LIBRARY) $(if $(filter refusals costs,$*),$(WRAP)) \
+	$(COMPILE) $< $(LIBRARY) $(if $(filter refusals random costs,$*),$(WRAP)) \
 	    -pthread -o $@
 
 $(OUT)/examples/%: examples/c/%.c include/dcsctp.h $(LIBRARY)

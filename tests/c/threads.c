@@ -1,5 +1,6 @@
-/* Sockets in several threads at the same time: the library has no state outside of its sockets. And a
- * socket that is made in one thread and used in another. Under valgrind it is helgrind that looks. */
+/* Sockets in several threads at the same time: the library has no state outside of its sockets. And
+ * a socket that is made in one thread and used in another. Under valgrind it is helgrind that
+ * looks. */
 #include "pair.h"
 
 #include <pthread.h>
