@@ -163,7 +163,9 @@ check-sanitizers: $(LIBRARY)
 check-rust: $(LIBRARY)
 	@if command -v cargo >/dev/null; then set -e; cd examples/rust; echo "check: cargo"; \
 	export DCSCTP_LIB_DIR=$(abspath $(OUT)) CARGO_TARGET_DIR=$(abspath $(OUT)/cargo); \
-	cargo test --offline --quiet >/dev/null; cargo run --offline --quiet --release; \
+	cargo test --offline --quiet >/dev/null; \
+	cargo run --offline --quiet --release 2>/dev/null; \
+	cargo run --offline --quiet --release -- --loss 20 2>/dev/null; \
 	else echo "check: no cargo, so the Rust example isn't tried"; fi
 
 .PHONY: FORCE all install clean check check-header check-symbols check-tests check-examples \

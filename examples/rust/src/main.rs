@@ -1,12 +1,14 @@
-//! Sends bytes from one thread to another over SCTP, by UDP on loopback: `cargo run -- [BYTES]`, 10 MB where it
-//! isn't said. Each thread has a socket. In the end the main thread compares what has arrived.
+//! Sends bytes from one process to another over SCTP, by UDP on loopback:
+//! `cargo run -- [--loss PERMILLE] [BYTES]`, 10 MB where it isn't said. So many of 1,000 packets are lost at
+//! each end. This process starts the one that receives, which compares what has arrived.
 
 use dcsctp_example::{default_options, Event, Socket};
 use std::error::Error;
-use std::io::{ErrorKind, Read};
+use std::io::{BufRead, BufReader, ErrorKind, Read, Write};
 use std::net::UdpSocket;
+use std::process::{Command, ExitCode, Stdio};
 use std::time::{Duration, Instant};
-use std::{env, fs::File, process::ExitCode, thread};
+use std::{env, fs::File, io};
 
 const CHUNK: usize = 65536;
 const WAITING: usize = 8 * CHUNK;
@@ -20,6 +22,10 @@ struct End {
     socket: Socket,
     udp: UdpSocket,
     epoch: Instant,
+    loss: u64,
+    random: u64,
+    sent: usize,
+    lost: usize,
     received: Vec<u8>,
     connected: bool,
     delivered: bool,
@@ -29,21 +35,41 @@ struct End {
 type Failure = Box<dyn Error + Send + Sync>;
 
 impl End {
-    fn new(udp: UdpSocket) -> Result<End, Failure> {
+    fn new(udp: UdpSocket, loss: u64) -> Result<End, Failure> {
         let mut seed = [0; 32];
         File::open("/dev/urandom")?.read_exact(&mut seed)?;
-        let socket = Socket::new(&default_options(), &seed, Duration::ZERO)?;
-        let epoch = Instant::now();
-        let received = Vec::new();
-        Ok(End { socket, udp, epoch, received, connected: false, delivered: false, ended: false })
+        Ok(End {
+            socket: Socket::new(&default_options(), &seed, Duration::ZERO)?,
+            udp,
+            epoch: Instant::now(),
+            loss,
+            random: 1,
+            sent: 0,
+            lost: 0,
+            received: Vec::new(),
+            connected: false,
+            delivered: false,
+            ended: false,
+        })
+    }
+
+    /// Sends a packet, or loses it. What the system doesn't send is lost, too, and sent again.
+    fn emit(&mut self, packet: &[u8]) {
+        self.sent += 1;
+        self.random =
+            self.random.wrapping_mul(6364136223846793005).wrapping_add(1442695040888963407);
+        if (self.random >> 33) % 1000 < self.loss {
+            self.lost += 1;
+        } else {
+            drop(self.udp.send(packet));
+        }
     }
 
     /// Takes all events and messages. It follows each call that may add some.
     fn drain(&mut self) {
         while let Some(event) = self.socket.poll_event() {
             match event {
-                // what the system doesn't send is lost, and sent again
-                Event::SendPacket(packet) => drop(self.udp.send(&packet)),
+                Event::SendPacket(packet) => self.emit(&packet),
                 Event::Connected => self.connected = true,
                 Event::Closed => self.ended = true,
                 Event::Aborted(kind, text) => {
@@ -85,19 +111,37 @@ impl End {
     }
 }
 
-/// Receives until the association has ended.
-fn receive(udp: UdpSocket) -> Result<Vec<u8>, Failure> {
-    let mut end = End::new(udp)?;
+/// The bytes that are sent.
+fn sample(count: usize) -> Vec<u8> {
+    (0..count).map(|at| ((at * 31) >> 3) as u8).collect()
+}
+
+/// Says on one line of standard error how far it is, twice a second.
+fn progress(end: &End, done: usize, count: usize, shown: &mut Instant) {
+    if shown.elapsed() > Duration::from_millis(500) {
+        *shown = Instant::now();
+        let time = end.epoch.elapsed().as_secs_f64();
+        eprint!("\r  {:.1} of {:.1} MB, {time:.1} s", done as f64 / 1e6, count as f64 / 1e6);
+    }
+}
+
+/// The other process: receives until the association has ended. It tells its port first.
+fn receive(peer: u16, loss: u64, count: usize) -> Result<bool, Failure> {
+    let udp = UdpSocket::bind("127.0.0.1:0")?;
+    udp.connect(("127.0.0.1", peer))?;
+    println!("{}", udp.local_addr()?.port());
+    io::stdout().flush()?;
+    let mut end = End::new(udp, loss)?;
     while !end.ended {
         end.turn()?;
     }
-    Ok(end.received)
+    Ok(end.received == sample(count))
 }
 
 /// Sends bytes until they are delivered, and ends the association. Returns how long that took.
-fn send(udp: UdpSocket, bytes: &[u8]) -> Result<Duration, Failure> {
-    let mut end = End::new(udp)?;
+fn send(end: &mut End, bytes: &[u8]) -> Result<Duration, Failure> {
     let mut chunks = bytes.chunks(CHUNK).peekable();
+    let (mut taken, mut shown) = (0, Instant::now());
     end.socket.connect()?;
     end.drain();
     while !end.delivered && !end.ended {
@@ -105,42 +149,70 @@ fn send(udp: UdpSocket, bytes: &[u8]) -> Result<Duration, Failure> {
             let Some(chunk) = chunks.next() else { break };
             let name = if chunks.peek().is_none() { LAST } else { 0 };
             end.socket.send(STREAM, BINARY, chunk, name)?;
+            taken += chunk.len();
             end.drain();
         }
+        let done = taken - end.socket.buffered_amount(STREAM);
+        progress(end, done, bytes.len(), &mut shown);
         end.turn()?;
     }
     let time = end.epoch.elapsed();
     end.socket.shutdown()?;
+    end.drain();
     while !end.ended {
-        end.drain();
         end.turn()?;
     }
     Ok(time)
 }
 
-fn run(count: usize) -> Result<bool, Failure> {
-    let bytes: Vec<u8> = (0..count).map(|at| ((at * 31) >> 3) as u8).collect();
-    let (a, b) = (UdpSocket::bind("127.0.0.1:0")?, UdpSocket::bind("127.0.0.1:0")?);
-    a.connect(b.local_addr()?)?;
-    b.connect(a.local_addr()?)?;
-    let receiver = thread::spawn(|| receive(b));
-    let time = send(a, &bytes)?.as_secs_f64();
-    let same = receiver.join().expect("the thread ends")? == bytes;
-    println!("{count} bytes in {time:.3} s, {:.1} MB/s", count as f64 / 1e6 / time);
+/// Starts the other process, sends, and tells how it went.
+fn run(loss: u64, count: usize) -> Result<bool, Failure> {
+    let udp = UdpSocket::bind("127.0.0.1:0")?;
+    let words = [udp.local_addr()?.port().to_string(), loss.to_string(), count.to_string()];
+    let mut other = Command::new(env::current_exe()?)
+        .arg("--receive")
+        .args(words)
+        .stdout(Stdio::piped())
+        .spawn()?;
+    let mut port = String::new();
+    BufReader::new(other.stdout.take().ok_or("no output")?).read_line(&mut port)?;
+    udp.connect(("127.0.0.1", port.trim().parse::<u16>()?))?;
+    let mut end = End::new(udp, loss)?;
+    let time = send(&mut end, &sample(count))?.as_secs_f64();
+    let same = other.wait()?.success();
+    let rate = count as f64 / 1e6 / time;
+    let (sent, lost) = (end.sent, end.lost);
+    println!(
+        "{count} bytes in {time:.3} s, {rate:.1} MB/s; {sent} packets sent, {lost} of them lost"
+    );
     println!("{}", if same { "received as it was sent" } else { "the bytes differ" });
     Ok(same)
 }
 
+/// What the words of the command line ask for; `None`: they are wrong.
+fn obey(words: &[&str]) -> Option<Result<bool, Failure>> {
+    Some(match words {
+        [] => run(0, 10_000_000),
+        [count] => run(0, count.parse().ok()?),
+        ["--loss", loss] => run(loss.parse().ok()?, 10_000_000),
+        ["--loss", loss, count] => run(loss.parse().ok()?, count.parse().ok()?),
+        ["--receive", peer, loss, count] => {
+            receive(peer.parse().ok()?, loss.parse().ok()?, count.parse().ok()?)
+        }
+        _ => return None,
+    })
+}
+
 fn main() -> ExitCode {
-    let count = env::args().nth(1).map_or(Ok(10_000_000), |word| word.parse());
-    match count.map(run) {
-        Ok(Ok(same)) => ExitCode::from(!same as u8),
-        Ok(Err(failure)) => {
+    let words: Vec<String> = env::args().skip(1).collect();
+    match obey(&words.iter().map(String::as_str).collect::<Vec<_>>()) {
+        Some(Ok(same)) => ExitCode::from(!same as u8),
+        Some(Err(failure)) => {
             eprintln!("{failure}");
             ExitCode::FAILURE
         }
-        Err(error) => {
-            eprintln!("usage: cargo run -- [BYTES]: {error}");
+        None => {
+            eprintln!("usage: cargo run -- [--loss PERMILLE] [BYTES]");
             ExitCode::from(2)
         }
     }
