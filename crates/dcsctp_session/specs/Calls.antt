@@ -97,7 +97,7 @@ Advanced moment = Settled done_status (AdvanceCall moment)
 abbrev pub SettingMade : Setting → Session → Status → Session → Type 0
 SettingMade setting = Settled done_status (Sets setting)
 
--- A copy of what the caller gave found no memory. Nothing has changed, and the socket hasn't failed.
+-- A copy of what the caller gave found no memory. Nothing has changed, so the socket hasn't failed by it.
 pub record CopyFailed (old : Session) (status : Status) (new : Session) : Type 0 where
   pub told : status ≡ statuses.OutOfMemory
   pub same : new ≡ old

@@ -43,11 +43,16 @@ pub record HandedOver (old : Session) (status : Status) (new : Session) : Type 0
   pub told : status ≡ handover_status outcome
   pub taken : new.taken ≡ taken_after outcome old.taken
 
--- The bytes of the snapshot that was taken are copied; or an allocation failed, and nothing has changed.
+-- The bytes of the snapshot are read as that snapshot.
+abbrev pub IsReadBack : SocketHandoverState → Type 0
+IsReadBack state = read_snapshot (snapshot_bytes (snapshot state)) ≡ Some (snapshot state)
+
+-- The bytes of the snapshot that was taken are copied, from which it can be restored; or an allocation failed, and nothing has
+-- changed.
 abbrev pub CopiesSnapshot : Option SocketHandoverState → List ℕ → ℕ → Status → List ℕ → ℕ → Type 0
 CopiesSnapshot None old before status new told = (status ≡ statuses.NothingToCopy) × (told ≡ 0) × (new ≡ old)
 CopiesSnapshot (Some state) old before status new told =
-    Copies (snapshot_bytes (snapshot state)) old status new told
+    Copies (snapshot_bytes (snapshot state)) old status new told × IsReadBack state
     ⊎ (status ≡ statuses.OutOfMemory) × (told ≡ before) × (new ≡ old)
 
 -- The bytes are refused, and nothing has changed.

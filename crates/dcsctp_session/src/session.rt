@@ -144,7 +144,8 @@ impl Session {
 
     /// Sends a message, whose payload is copied.
     ///
-    /// `Status::OutOfMemory` if the copy failed, too: then nothing has changed, and the socket hasn't failed.
+    /// `Status::OutOfMemory` if the copy failed, too: then nothing has changed, on a socket that has failed as
+    /// well.
     pub fn send(
         &mut self,
         stream_id: u16,
@@ -164,8 +165,8 @@ impl Session {
 
     /// Resets streams.
     ///
-    /// `Status::OutOfMemory` if the list couldn't be copied, too: then nothing has changed, and the socket
-    /// hasn't failed.
+    /// `Status::OutOfMemory` if the list couldn't be copied, too: then nothing has changed, on a socket that has
+    /// failed as well.
     pub fn reset_streams(&mut self, numbers: &[u16]) -> Status
         ensures { StreamsReset numbers.now self.old result self.new }
     {

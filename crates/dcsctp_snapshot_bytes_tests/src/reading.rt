@@ -2,8 +2,8 @@
 
 use crate::bytes::{EMPTY, FULL};
 use crate::states::full;
-use dcsctp_machine::SocketHandoverState;
-use dcsctp_snapshot_bytes::{from_bytes, snapshot_bytes_read_back, to_bytes};
+use dcsctp_machine::{HandoverCapabilities, SocketHandoverState};
+use dcsctp_snapshot_bytes::{from_bytes, to_bytes};
 use std::alloc::Global;
 use std::process::Abort;
 
@@ -42,7 +42,52 @@ fn snapshots_have_the_bytes_of_the_examples(rt: HostRuntime) {
     goes_both_ways(&rt, alloc, "empty", &closed, &EMPTY);
     let state = full(alloc).expect(&rt, "memory");
     goes_both_ways(&rt, alloc, "full", &state, &FULL);
-    snapshot_bytes_read_back();
+}
+
+#[test]
+fn each_capability_has_its_byte(rt: HostRuntime) {
+    let none = HandoverCapabilities::default();
+    let rows = [
+        (
+            "partial_reliability",
+            31,
+            HandoverCapabilities {
+                partial_reliability: true,
+                ..none
+            },
+        ),
+        (
+            "message_interleaving",
+            32,
+            HandoverCapabilities {
+                message_interleaving: true,
+                ..none
+            },
+        ),
+        (
+            "reconfig",
+            33,
+            HandoverCapabilities {
+                reconfig: true,
+                ..none
+            },
+        ),
+        (
+            "zero_checksum",
+            34,
+            HandoverCapabilities {
+                zero_checksum: true,
+                ..none
+            },
+        ),
+    ];
+    for (name, at, capabilities) in rows {
+        let mut state = SocketHandoverState::empty(rt.alloc());
+        state.capabilities = capabilities;
+        let mut bytes = EMPTY;
+        bytes[at] = 1;
+        goes_both_ways(&rt, rt.alloc(), name, &state, &bytes);
+    }
 }
 
 #[test]
