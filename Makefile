@@ -69,7 +69,7 @@ clean:
 # The tests refuse allocations, and count what isn't given back.
 WRAP = -Wl,--wrap=malloc,--wrap=realloc,--wrap=free
 
-$(OUT)/tests/%: tests/c/%.c tests/c/pair.h include/dcsctp.h $(LIBRARY)
+$(OUT)/tests/%: tests/c/%.c $(wildcard tests/c/*.h) include/dcsctp.h $(LIBRARY)
 	@mkdir -p $(OUT)/tests
 	$(COMPILE) $< $(LIBRARY) $(if $(filter refusals random costs,$*),$(WRAP)) \
 	    -pthread -o $@
@@ -164,8 +164,8 @@ check-rust: $(LIBRARY)
 	@if command -v cargo >/dev/null; then set -e; cd examples/rust; echo "check: cargo"; \
 	export DCSCTP_LIB_DIR=$(abspath $(OUT)) CARGO_TARGET_DIR=$(abspath $(OUT)/cargo); \
 	cargo test --offline --quiet >/dev/null; \
-	cargo run --offline --quiet --release 2>/dev/null; \
-	cargo run --offline --quiet --release -- --loss 20 2>/dev/null; \
+	timeout 120 cargo run --offline --quiet --release 2>/dev/null; \
+	timeout 120 cargo run --offline --quiet --release -- --loss 20 2>/dev/null; \
 	else echo "check: no cargo, so the Rust example isn't tried"; fi
 
 .PHONY: FORCE all install clean check check-header check-symbols check-tests check-examples \

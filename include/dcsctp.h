@@ -35,8 +35,9 @@
  *
  * A call that hands something in, be it a packet, the time or a command, may add events and
  * messages, and move the deadline. So take all of them, and ask for the deadline, before you wait.
- * `packet` has room for `mtu` bytes, and `buffer` for the longest message. Check what
- * dcsctp_create returns.
+ * `packet` has room for the longest packet of either end (the greater `mtu`), and `buffer` for
+ * `message.length` bytes: the peer says how long a message is. Check what dcsctp_create
+ * returns.
  *
  *
  * RULES
@@ -103,12 +104,12 @@ extern "C" {
 #define DCSCTP_OK 0
 
 /* An allocation failed in this call. The socket has failed now, unless the call says that it may be
- * tried again; dcsctp_has_failed tells. Events that waited can still be taken, and the first of
- * those that the call would have added. Messages that were ready may be lost. */
+ * tried again; dcsctp_has_failed tells. Events that waited can still be taken, and perhaps some of
+ * the call's own, its first ones. Messages that were ready may be lost. */
 #define DCSCTP_ERROR_OUT_OF_MEMORY (-1)
 
-/* An allocation failed in an earlier call. Queries still answer, and events can be taken. There is
- * nothing else left to do but dcsctp_destroy. */
+/* An allocation failed in an earlier call. Events can be taken. Queries still return, but what they
+ * say of the association is no longer promised. All that is left to do is dcsctp_destroy. */
 #define DCSCTP_ERROR_FAILED (-2)
 
 /* There is no socket: none was created, or it was destroyed. */
@@ -214,7 +215,8 @@ void dcsctp_options_init(dcsctp_options *options) DCSCTP_CALL;
 /* Creates a closed socket whose clock stands at `now`. Nothing is sent before dcsctp_connect, or
  * before a peer connects.
  *
- * Errors: ALREADY_CREATED, INVALID_OPTIONS, OUT_OF_MEMORY. In each case `socket` is as before. */
+ * Errors: ALREADY_CREATED, INVALID_OPTIONS, OUT_OF_MEMORY. In each case `socket` is as before, and
+ * the call may be tried again. */
 int32_t dcsctp_create(dcsctp_socket *socket, const dcsctp_options *options, const uint8_t seed[32],
                       uint64_t now) DCSCTP_CHECKED_CALL;
 
@@ -468,9 +470,9 @@ int32_t dcsctp_get_metrics(dcsctp_socket *socket, dcsctp_metrics *metrics) DCSCT
 int32_t dcsctp_get_handover_readiness(dcsctp_socket *socket, uint32_t *reasons) DCSCTP_CALL;
 
 /* Takes a snapshot of the socket, from which dcsctp_restore_from_state goes on in another process,
- * and ends the association here. The peer isn't told, and the last event is DCSCTP_EVENT_CLOSED.
- * Copy the snapshot by dcsctp_handover_bytes before another call of this one, which takes the place
- * of the snapshot, and then destroy this socket.
+ * and ends the association here. The peer isn't told, and the last event is DCSCTP_EVENT_CLOSED; on
+ * a closed socket there is none. Copy the snapshot by dcsctp_handover_bytes, and then destroy this
+ * socket. A second call would replace the snapshot.
  *
  * Errors: NO_SOCKET, NOT_READY, FAILED, OUT_OF_MEMORY. */
 int32_t dcsctp_get_handover_state_and_close(dcsctp_socket *socket) DCSCTP_CHECKED_CALL;

@@ -6,7 +6,7 @@
 static void calls_without_socket(const char *name, dcsctp_socket *socket) {
     const dcsctp_send_options how = DCSCTP_SEND_INIT;
     const uint16_t one_stream = 1;
-    uint8_t bytes[64], before[64];
+    uint8_t bytes[64], before[sizeof(dcsctp_options)];
     uint16_t streams[2] = {77, 77};
     dcsctp_event event;
     dcsctp_message message;
@@ -61,11 +61,12 @@ static void calls_without_socket(const char *name, dcsctp_socket *socket) {
     EQUAL(name, priority, 77);
     EQUAL(name, reasons, 77);
     EQUAL(name, streams[0], 77);
+    EQUAL(name, streams[1], 77);
     EQUAL(name, memcmp(bytes, before, sizeof bytes), 0);
     EQUAL(name, memcmp(&event, before, sizeof event), 0);
     EQUAL(name, memcmp(&message, before, sizeof message), 0);
-    EQUAL(name, memcmp(&options, before, 64) | memcmp((uint8_t *)&options + 64, before, 64), 0);
-    EQUAL(name, memcmp(&metrics, before, 64), 0);
+    EQUAL(name, memcmp(&options, before, sizeof options), 0);
+    EQUAL(name, memcmp(&metrics, before, sizeof metrics), 0);
     dcsctp_destroy(socket);
 }
 
@@ -279,7 +280,7 @@ static void wrong_times(void) {
     const dcsctp_options options = quiet_options();
     const uint16_t streams[] = {1, 2};
     struct end end;
-    uint8_t bytes[64];
+    uint8_t bytes[sizeof(dcsctp_metrics)];
     uint64_t moment = 0;
     size_t length;
     dcsctp_metrics metrics;

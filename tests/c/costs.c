@@ -6,19 +6,13 @@
  *
  * It is linked with --wrap=malloc,--wrap=realloc,--wrap=free. */
 #include "pair.h"
+#include "wrapped.h"
 
 /* ---- Heap: each block has its length in front of it ----------------------------------------- */
 
 enum { FRONT = 16 };
 
 static size_t bytes, blocks;
-
-void *__real_malloc(size_t size);
-void *__real_realloc(void *block, size_t size);
-void __real_free(void *block);
-void *__wrap_malloc(size_t size);
-void *__wrap_realloc(void *block, size_t size);
-void __wrap_free(void *block);
 
 static void *noted(uint8_t *block, size_t size) {
     if (!block)

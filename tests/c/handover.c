@@ -38,6 +38,13 @@ static size_t hand_over(struct end *end) {
     return length;
 }
 
+/* Another socket takes A's place, and goes on from the snapshot. */
+static void replace_a(const dcsctp_options *options, size_t length) {
+    dcsctp_destroy(&pair.a.socket);
+    EQUAL("another A", create(&pair.a, options, 9, pair.now), DCSCTP_OK);
+    EQUAL("restore", dcsctp_restore_from_state(&pair.a.socket, snapshot, length), DCSCTP_OK);
+}
+
 /* Sends messages that differ. */
 static void send_numbered(struct end *end, int from, int to) {
     const dcsctp_send_options how = DCSCTP_SEND_INIT;
@@ -79,10 +86,7 @@ static void with_outstanding_data(void) {
     EQUAL("ready", reasons, 0);
     size_t length = hand_over(&pair.a);
     EQUAL("A's last event", pair.a.seen[DCSCTP_EVENT_CLOSED], 1);
-    dcsctp_destroy(&pair.a.socket);
-
-    EQUAL("another A", create(&pair.a, &options, 9, pair.now), DCSCTP_OK);
-    EQUAL("restore", dcsctp_restore_from_state(&pair.a.socket, snapshot, length), DCSCTP_OK);
+    replace_a(&options, length);
     EQUAL("state", dcsctp_state(&pair.a.socket), DCSCTP_STATE_CONNECTED);
     EQUAL("twice", dcsctp_restore_from_state(&pair.a.socket, snapshot, length),
           DCSCTP_ERROR_NOT_CLOSED);
@@ -123,10 +127,7 @@ static void name_of_a_message(size_t bytes, size_t told_count) {
         EQUAL("told so far", pair.a.fates[i], all[i]);
     size_t length = hand_over(&pair.a);
     EQUAL("a handover tells nothing of it", pair.a.fate_count, told_count);
-    dcsctp_destroy(&pair.a.socket);
-
-    EQUAL("another A", create(&pair.a, &options, 9, pair.now), DCSCTP_OK);
-    EQUAL("restore", dcsctp_restore_from_state(&pair.a.socket, snapshot, length), DCSCTP_OK);
+    replace_a(&options, length);
     for (int i = 0; i < 100 && pair.a.seen[DCSCTP_EVENT_LIFECYCLE_END] == 0; i++) {
         settle(&pair);
         pass(&pair, 1 * SECONDS);

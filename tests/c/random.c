@@ -1,8 +1,8 @@
 /* Calls at random on two sockets and on none, with packets that are lost, repeated and changed, and
  * with allocations that are refused. After each call what dcsctp.h says of every call has to hold.
- * `random FIRST COUNT` makes COUNT runs; each is the same for the same number.
- * It is linked with --wrap=malloc,--wrap=realloc,--wrap=free. */
+ * `random FIRST COUNT` makes COUNT runs; each is the same for the same number. */
 #include "pair.h"
+#include "refusing.h"
 
 enum { CALLS = 400, FLIGHT = 64, ROOM = 3000, GUARD = 171 };
 
@@ -10,7 +10,7 @@ enum { CALLS = 400, FLIGHT = 64, ROOM = 3000, GUARD = 171 };
 
 static uint64_t state;        /* of the random numbers */
 static unsigned refuse_every; /* one of so many allocations is refused; 0: none */
-static long refusals, blocks;
+static long refusals;
 
 /* A number below `limit` (splitmix64). */
 static uint64_t below(uint64_t limit) {
@@ -20,32 +20,10 @@ static uint64_t below(uint64_t limit) {
     return (z ^ (z >> 31)) % limit;
 }
 
-void *__real_malloc(size_t size);
-void *__real_realloc(void *block, size_t size);
-void __real_free(void *block);
-void *__wrap_malloc(size_t size);
-void *__wrap_realloc(void *block, size_t size);
-void __wrap_free(void *block);
-
 static int is_refused(void) {
     int refused = refuse_every > 0 && below(refuse_every) == 0;
     refusals += refused;
     return refused;
-}
-
-void *__wrap_malloc(size_t size) {
-    void *block = is_refused() ? NULL : __real_malloc(size);
-    blocks += block != NULL;
-    return block;
-}
-
-void *__wrap_realloc(void *block, size_t size) {
-    return is_refused() ? NULL : __real_realloc(block, size);
-}
-
-void __wrap_free(void *block) {
-    blocks -= block != NULL;
-    __real_free(block);
 }
 
 /* ---- Two sockets and what is under way ------------------------------------------------------ */
@@ -132,8 +110,10 @@ static void copy(struct side *side, int32_t (*call)(dcsctp_socket *, uint8_t *, 
 static void take_event(struct side *side, int which) {
     dcsctp_event event;
     memset(&event, GUARD, sizeof event);
+    const long before = refusals;
     int32_t result = dcsctp_poll_event(&side->socket, &event);
-    check(side, "poll_event", result, 1, 0, refusals);
+    check(side, "poll_event", result, 1, 0, before);
+    EQUAL("taking allocates nothing", refusals, before);
     if (!side->exists)
         return;
     EQUAL("a kind", result == 1, event.kind != DCSCTP_EVENT_NONE);
@@ -214,14 +194,15 @@ static void query(struct side *side) {
     dcsctp_metrics metrics;
     dcsctp_options options;
     dcsctp_message message = {0, 0, 0, 0};
-    check(side, "poll_timeout", dcsctp_poll_timeout(&side->socket, &moment), 0, 0, refusals);
-    check(side, "state", dcsctp_state(&side->socket), 3, 0, refusals);
-    check(side, "ready", dcsctp_messages_ready_count(&side->socket, &size), 0, 0, refusals);
-    check(side, "metrics", dcsctp_get_metrics(&side->socket, &metrics), 1, 0, refusals);
-    check(side, "options", dcsctp_get_options(&side->socket, &options), 0, 0, refusals);
-    check(side, "readiness", dcsctp_get_handover_readiness(&side->socket, &reasons), 0, 0,
-          refusals);
-    check(side, "message", dcsctp_get_next_message(&side->socket, &message), 1, 0, refusals);
+    const long before = refusals;
+    check(side, "poll_timeout", dcsctp_poll_timeout(&side->socket, &moment), 0, 0, before);
+    check(side, "state", dcsctp_state(&side->socket), 3, 0, before);
+    check(side, "ready", dcsctp_messages_ready_count(&side->socket, &size), 0, 0, before);
+    check(side, "metrics", dcsctp_get_metrics(&side->socket, &metrics), 1, 0, before);
+    check(side, "options", dcsctp_get_options(&side->socket, &options), 0, 0, before);
+    check(side, "readiness", dcsctp_get_handover_readiness(&side->socket, &reasons), 0, 0, before);
+    check(side, "message", dcsctp_get_next_message(&side->socket, &message), 1, 0, before);
+    EQUAL("no query allocates", refusals, before);
     if (side->exists)
         copy(side, dcsctp_message_bytes, "message_bytes", message.length);
 }

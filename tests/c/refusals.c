@@ -1,34 +1,15 @@
 /* An exchange with each of its allocations refused in turn. The call that needs it returns
- * DCSCTP_ERROR_OUT_OF_MEMORY, and the rest is as dcsctp.h says. In the end all memory is freed.
- * It is linked with --wrap=malloc,--wrap=realloc,--wrap=free. */
+ * DCSCTP_ERROR_OUT_OF_MEMORY, and the rest is as dcsctp.h says. In the end all memory is freed. */
 #include "pair.h"
+#include "refusing.h"
 
 /* ---- Memory --------------------------------------------------------------------------------- */
 
 static long allocations; /* how many were asked for */
 static long refused;     /* the number of the one that is refused, from 1; 0: none */
-static long blocks;      /* how many aren't given back */
 
-void *__real_malloc(size_t size);
-void *__real_realloc(void *block, size_t size);
-void __real_free(void *block);
-void *__wrap_malloc(size_t size);
-void *__wrap_realloc(void *block, size_t size);
-void __wrap_free(void *block);
-
-void *__wrap_malloc(size_t size) {
-    void *block = ++allocations == refused ? NULL : __real_malloc(size);
-    blocks += block != NULL;
-    return block;
-}
-
-void *__wrap_realloc(void *block, size_t size) {
-    return ++allocations == refused ? NULL : __real_realloc(block, size);
-}
-
-void __wrap_free(void *block) {
-    blocks -= block != NULL;
-    __real_free(block);
+static int is_refused(void) {
+    return ++allocations == refused;
 }
 
 /* ---- A socket that has failed --------------------------------------------------------------- */
@@ -41,7 +22,9 @@ static void check_failed(struct end *end) {
     uint64_t moment;
     size_t size;
     uint16_t priority;
+    uint32_t reasons;
     dcsctp_options options;
+    dcsctp_metrics metrics;
     const int32_t commands[] = {
         dcsctp_connect(socket),
         dcsctp_shutdown(socket),
@@ -66,10 +49,13 @@ static void check_failed(struct end *end) {
     EQUAL("ready", dcsctp_messages_ready_count(socket, &size), DCSCTP_OK);
     EQUAL("options", dcsctp_get_options(socket, &options), DCSCTP_OK);
     EQUAL("a new limit", dcsctp_set_max_message_size(socket, 5), DCSCTP_OK);
+    EQUAL("metrics", dcsctp_get_metrics(socket, &metrics) >= 0, 1);
+    EQUAL("readiness", dcsctp_get_handover_readiness(socket, &reasons), DCSCTP_OK);
     carry(end, NULL);
     dcsctp_message message;
     while (dcsctp_get_next_message(socket, &message) == 1)
-        ;
+        EQUAL("too long", dcsctp_message_bytes(socket, bytes, sizeof bytes, &size) == DCSCTP_OK,
+              message.length <= sizeof bytes);
     EQUAL("none of these allocates", allocations, before);
 }
 

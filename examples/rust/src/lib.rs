@@ -24,7 +24,7 @@ pub enum Event {
     SendPacket(Vec<u8>),
     /// An association was made.
     Connected,
-    /// It has ended in an orderly way.
+    /// It has ended, not by an abort of the peer.
     Closed,
     /// The peer began anew.
     ConnectionRestarted,

@@ -6,7 +6,7 @@ use dcsctp_example::{default_options, Event, Socket};
 use std::error::Error;
 use std::io::{BufRead, BufReader, ErrorKind, Read, Write};
 use std::net::UdpSocket;
-use std::process::{Command, ExitCode, Stdio};
+use std::process::{Child, Command, ExitCode, Stdio};
 use std::time::{Duration, Instant};
 use std::{env, fs::File, io};
 
@@ -16,6 +16,9 @@ const STREAM: u16 = 1;
 const BINARY: u32 = 53;
 const LAST: u64 = 1;
 const DELIVERED: u32 = 15;
+
+/// How long a process waits at most before it looks again.
+const LONGEST: Duration = Duration::from_secs(1);
 
 /// One end: a socket, the UDP socket below it, and what has happened.
 struct End {
@@ -29,6 +32,7 @@ struct End {
     received: Vec<u8>,
     connected: bool,
     delivered: bool,
+    closed: bool,
     ended: bool,
 }
 
@@ -49,6 +53,7 @@ impl End {
             received: Vec::new(),
             connected: false,
             delivered: false,
+            closed: false,
             ended: false,
         })
     }
@@ -71,7 +76,10 @@ impl End {
             match event {
                 Event::SendPacket(packet) => self.emit(&packet),
                 Event::Connected => self.connected = true,
-                Event::Closed => self.ended = true,
+                Event::Closed => {
+                    self.closed = true;
+                    self.ended = true;
+                }
                 Event::Aborted(kind, text) => {
                     eprintln!("aborted, kind {kind}: {text}");
                     self.ended = true;
@@ -87,12 +95,11 @@ impl End {
     }
 
     /// Waits for a packet or the deadline, and hands in what there is.
-    fn turn(&mut self) -> Result<(), Failure> {
+    fn turn(&mut self, longest: Duration) -> Result<(), Failure> {
         let deadline = self.socket.poll_timeout().unwrap_or(Duration::MAX);
         let wait = deadline.saturating_sub(self.epoch.elapsed());
         self.udp.set_nonblocking(false)?;
-        self.udp
-            .set_read_timeout(Some(wait.clamp(Duration::from_micros(1), Duration::from_secs(1))))?;
+        self.udp.set_read_timeout(Some(wait.clamp(Duration::from_micros(1), longest)))?;
         let mut packet = [0; 1500];
         let mut read = self.udp.recv(&mut packet);
         self.udp.set_nonblocking(true)?;
@@ -133,9 +140,9 @@ fn receive(peer: u16, loss: u64, count: usize) -> Result<bool, Failure> {
     io::stdout().flush()?;
     let mut end = End::new(udp, loss)?;
     while !end.ended {
-        end.turn()?;
+        end.turn(LONGEST)?;
     }
-    Ok(end.received == sample(count))
+    Ok(end.closed && end.received == sample(count))
 }
 
 /// Sends bytes until they are delivered, and ends the association. Returns how long that took.
@@ -154,18 +161,41 @@ fn send(end: &mut End, bytes: &[u8]) -> Result<Duration, Failure> {
         }
         let done = taken - end.socket.buffered_amount(STREAM);
         progress(end, done, bytes.len(), &mut shown);
-        end.turn()?;
+        end.turn(LONGEST)?;
     }
     let time = end.epoch.elapsed();
     end.socket.shutdown()?;
     end.drain();
     while !end.ended {
-        end.turn()?;
+        end.turn(LONGEST)?;
     }
     Ok(time)
 }
 
-/// Starts the other process, sends, and tells how it went.
+/// Reads the port of the other process, sends to it, and waits for its end. Returns whether all has arrived.
+fn exchange(other: &mut Child, udp: UdpSocket, loss: u64, count: usize) -> Result<bool, Failure> {
+    let mut port = String::new();
+    BufReader::new(other.stdout.take().ok_or("no output")?).read_line(&mut port)?;
+    udp.connect(("127.0.0.1", port.trim().parse::<u16>()?))?;
+    let mut end = End::new(udp, loss)?;
+    let time = send(&mut end, &sample(count))?.as_secs_f64();
+    // It answers until the other process has ended, too: the last packet may be lost.
+    let same = loop {
+        if let Some(status) = other.try_wait()? {
+            break status.success();
+        }
+        end.turn(Duration::from_millis(20))?;
+    };
+    let rate = count as f64 / 1e6 / time;
+    let (sent, lost) = (end.sent, end.lost);
+    println!(
+        "{count} bytes in {time:.3} s, {rate:.1} MB/s; {sent} packets sent, {lost} of them lost"
+    );
+    println!("{}", if same { "received as it was sent" } else { "the bytes differ" });
+    Ok(same)
+}
+
+/// Starts the other process, and sends. The other process ends with this one.
 fn run(loss: u64, count: usize) -> Result<bool, Failure> {
     let udp = UdpSocket::bind("127.0.0.1:0")?;
     let words = [udp.local_addr()?.port().to_string(), loss.to_string(), count.to_string()];
@@ -174,19 +204,12 @@ fn run(loss: u64, count: usize) -> Result<bool, Failure> {
         .args(words)
         .stdout(Stdio::piped())
         .spawn()?;
-    let mut port = String::new();
-    BufReader::new(other.stdout.take().ok_or("no output")?).read_line(&mut port)?;
-    udp.connect(("127.0.0.1", port.trim().parse::<u16>()?))?;
-    let mut end = End::new(udp, loss)?;
-    let time = send(&mut end, &sample(count))?.as_secs_f64();
-    let same = other.wait()?.success();
-    let rate = count as f64 / 1e6 / time;
-    let (sent, lost) = (end.sent, end.lost);
-    println!(
-        "{count} bytes in {time:.3} s, {rate:.1} MB/s; {sent} packets sent, {lost} of them lost"
-    );
-    println!("{}", if same { "received as it was sent" } else { "the bytes differ" });
-    Ok(same)
+    let outcome = exchange(&mut other, udp, loss, count);
+    if outcome.is_err() {
+        other.kill()?;
+        other.wait()?;
+    }
+    outcome
 }
 
 /// What the words of the command line ask for; `None`: they are wrong.
