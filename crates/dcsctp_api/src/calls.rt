@@ -1,6 +1,6 @@
 //! The calls of a socket.
 
-ghost use Rattle.std.specs.Prelude.{◌≡◌, ◌≢◌, [], true, false, IsOk, ◌<◌, map, length};
+ghost use Rattle.std.specs.Prelude.{◌≡◌, ◌≢◌, [], true, false, None, IsOk, ◌<◌, map, length};
 ghost use Rattle.dcsctp_api.specs.Calls.{UserView, PollsEvent, HandlesInput, Connects, Closes, ShutsDown, takes_shutdown, Sets, with_setting, stream_shown, is_closed, socket_state_of};
 ghost use Rattle.dcsctp_api.specs.Handover.{HandsOver, Restores};
 ghost use Rattle.dcsctp_api.specs.Messages.{Sends, SendsMany, TakesNext, ready_messages, incoming_streams};
@@ -13,6 +13,7 @@ ghost use Rattle.dcsctp_machine.specs.Ids.{stream_numbers};
 ghost use Rattle.dcsctp_machine.specs.Snapshot.{snapshot, is_valid_snapshot};
 ghost use Rattle.dcsctp_machine.specs.Sockets.{inputs_of_restore};
 ghost use Rattle.dcsctp_machine.specs.transfer.Messages.{message_content};
+ghost use Rattle.dcsctp_machine.specs.turns.PreparedResets.{reset_refusal};
 ghost use Rattle.dcsctp_machine.specs.turns.SettingOutcomes.{stream_priority, stream_low_threshold, longest_message};
 ghost use Rattle.dcsctp_machine.specs.TimeTurns.{Waits, next_moment};
 ghost use Rattle.dcsctp_api.specs.Time.{Advances, OnlyMovesClock};
@@ -35,8 +36,8 @@ use dcsctp_machine::{
 ///
 /// Where a call says that it allocates nothing, its contract says that it never returns
 /// `SocketFault::OutOfMemory`: it has no `Result`, or a clause makes that `Ok` unless the socket has failed.
-/// No clause says more. The tests in dcsctp_socket_refusal_tests refuse each allocation of an exchange in
-/// turn.
+/// No clause says more. The tests in dcsctp_socket_refusal_tests refuse each allocation of several exchanges
+/// in turn, and every allocation while such a call runs.
 pub trait DcSctpSocket {
     // What a socket is to its user.
     ghost user_view: { Self → UserView };
@@ -133,14 +134,16 @@ pub trait DcSctpSocket {
     /// which no message is under way. It names as many of them as fit into the packet; the others follow once
     /// that is answered.
     ///
-    /// It is refused if the peer isn't known, or if resets weren't negotiated. Then nothing changes, and no
-    /// event is added.
+    /// It is refused if the peer isn't known, or if resets weren't negotiated. Then nothing changes, no event is
+    /// added, and nothing is allocated.
     fn reset_streams(
         &mut self,
         stream_ids: &[StreamId],
     ) -> Result<Result<(), ResetStreamsError>, SocketFault>
-        ensures { ResetsOwn (stream_numbers stream_ids.now) (user_view self.old) result
-            (user_view self.new) };
+        ensures call { ResetsOwn (stream_numbers stream_ids.now) (user_view self.old) result
+            (user_view self.new) }
+        ensures refused { (user_view self.old).failed ≡ false
+            → reset_refusal (user_view self.old).endpoint ≢ None → IsOk result };
 
     /// Takes the message that became ready first, if one is ready, and gives its bytes back to the receive
     /// window. Allocates nothing, and works on a socket that has failed, too. A new association starts

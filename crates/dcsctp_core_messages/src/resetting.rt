@@ -1,6 +1,6 @@
 //! `reset_streams` (RFC 6525, section 5.1.2).
 
-ghost use Rattle.std.specs.Prelude.{◌≡◌};
+ghost use Rattle.std.specs.Prelude.{◌≡◌, ◌≢◌, None, IsOk};
 ghost use Rattle.std.specs.Option.{option_map};
 ghost use Rattle.dcsctp_machine.specs.Ids.{stream_numbers};
 ghost use Rattle.dcsctp_machine.specs.turns.PreparedResets.{reset_refusal};
@@ -15,14 +15,15 @@ use rand_core::Rng;
 use std::alloc::AllocError;
 
 /// Resets our own streams: each is prepared in turn, and then what waits is sent. If the peer isn't known, or
-/// resets weren't negotiated, this is refused, and nothing changes.
+/// resets weren't negotiated, this is refused, nothing changes, and nothing is allocated.
 ///
 /// `Err`: an allocation failed; the first of the call's events may already have been added.
 pub fn do_reset_streams<R: Rng>(
     context: &mut Context<R>,
     stream_ids: &[StreamId],
 ) -> Result<Result<(), ResetStreamsError>, AllocError>
-    ensures { ResetsAll R.stream (stream_numbers stream_ids.now) context.old result context.new }
+    ensures turn { ResetsAll R.stream (stream_numbers stream_ids.now) context.old result context.new }
+    ensures refused { reset_refusal (endpoint_of context.old) ≢ None → IsOk result }
 {
     match refusal(context) {
         Some(error) => Ok(Err(error)),

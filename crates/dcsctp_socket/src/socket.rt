@@ -139,8 +139,9 @@ impl<R: Rng + Drop> Socket<R> {
 }
 
 impl<R: Rng + Drop> DcSctpSocket for Socket<R> {
-    ghost use Rattle.std.specs.Prelude.{◌≡◌, ◌≢◌, ◌<◌, [], true, false, map, IsOk, OnOk, IsErrOf};
+    ghost use Rattle.std.specs.Prelude.{◌≡◌, ◌≢◌, ◌<◌, [], true, false, None, map, IsOk, OnOk, IsErrOf};
     ghost use Rattle.dcsctp_api.specs.Calls.{PollsEvent, HandlesInput, Connects, Closes, ShutsDown, takes_shutdown, Sets, with_setting, is_closed};
+    ghost use Rattle.dcsctp_machine.specs.turns.PreparedResets.{reset_refusal};
     ghost use Rattle.dcsctp_machine.specs.turns.SettingOutcomes.{stream_priority, stream_low_threshold, longest_message};
     ghost use Rattle.dcsctp_machine.specs.TimeTurns.{Waits, next_moment};
     ghost use Rattle.dcsctp_api.specs.Time.{Advances, OnlyMovesClock};
@@ -307,6 +308,8 @@ impl<R: Rng + Drop> DcSctpSocket for Socket<R> {
     ) -> Result<Result<(), ResetStreamsError>, SocketFault>
         ensures call { ResetsOwn (stream_numbers stream_ids.now) (user_view_of self.old) result
             (user_view_of self.new) }
+        ensures refused { self.old.failed ≡ false → reset_refusal self.old.view.endpoint ≢ None
+            → IsOk result }
         ensures drawn { OnOk result (Drawn (R.stream self.old.view.generator) self.new.view.words
             (R.stream self.new.view.generator)) }
         ensures failed { IsErrOf result SocketFault.Failed → self.new ≡ self.old }

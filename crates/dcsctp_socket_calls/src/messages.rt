@@ -1,9 +1,10 @@
 //! Messages that a user sends and takes, and streams that a user resets, over the parts of a socket.
 
-ghost use Rattle.std.specs.Prelude.{map};
+ghost use Rattle.std.specs.Prelude.{◌≢◌, None, IsOk, map};
 ghost use Rattle.dcsctp_machine.specs.Ids.{stream_numbers};
 ghost use Rattle.dcsctp_machine.specs.transfer.Messages.{message_content};
-ghost use Rattle.dcsctp_core.specs.View.{view_of};
+ghost use Rattle.dcsctp_machine.specs.turns.PreparedResets.{reset_refusal};
+ghost use Rattle.dcsctp_core.specs.View.{view_of, endpoint_of};
 ghost use Rattle.dcsctp_socket_calls.specs.MessageParts.{WorksSend, WorksSendMany, WorksTake};
 ghost use Rattle.dcsctp_socket_calls.specs.ResetParts.{WorksReset};
 
@@ -38,13 +39,14 @@ pub fn send_many<R: Rng>(
     do_send_many(context, messages, options)
 }
 
-/// Resets our own streams. `Err`: an allocation failed; the first of the call's events may already have been
-/// added.
+/// Resets our own streams. If that is refused, nothing is allocated. `Err`: an allocation failed; the first of
+/// the call's events may already have been added.
 pub fn reset_streams<R: Rng>(
     context: &mut Context<R>,
     stream_ids: &[StreamId],
 ) -> Result<Result<(), ResetStreamsError>, AllocError>
-    ensures { WorksReset R.stream (stream_numbers stream_ids.now) context.old result context.new }
+    ensures call { WorksReset R.stream (stream_numbers stream_ids.now) context.old result context.new }
+    ensures refused { reset_refusal (endpoint_of context.old) ≢ None → IsOk result }
 {
     context.begin_call();
     do_reset_streams(context, stream_ids)

@@ -15,11 +15,11 @@ returns-clause-call g c =
     c.self.view_is
     (resets g.R.Rng.stream (stream_numbers c.args.stream_ids.now) c.self.inside.context.value c.reset_streams-outcome.new.context c.self.inside.failed c.settled.new.failed c.reset_streams-outcome.result c.settled.result
     c.if-self.false
-    (subst (λ (x : Context g.row.R.Denot). WorksReset g.R.Rng.stream (stream_numbers c.args.stream_ids.now) x c.reset_streams-outcome.result c.reset_streams-outcome.new.context) c.deref_mut.ensures.value c.reset_streams-outcome.ensures)
+    (subst (λ (x : Context g.row.R.Denot). WorksReset g.R.Rng.stream (stream_numbers c.args.stream_ids.now) x c.reset_streams-outcome.result c.reset_streams-outcome.new.context) c.deref_mut.ensures.value c.reset_streams-outcome.ensures.call)
     c.settled.ensures)
 
 pub invariant_of-self : goal.invariant_of-self
 invariant_of-self g c = λ goes_on.
     reset_sound c.calls_keep_soundness.ensures g.R.Rng.stream c.self.inside.context.value c.reset_streams-outcome.new.context c.self.inside.failed c.settled.new.failed (c.self.invariant c.if-self.false) goes_on
     (stream_numbers c.args.stream_ids.now) c.reset_streams-outcome.result c.settled.result
-    (subst (λ (x : Context g.row.R.Denot). WorksReset g.R.Rng.stream (stream_numbers c.args.stream_ids.now) x c.reset_streams-outcome.result c.reset_streams-outcome.new.context) c.deref_mut.ensures.value c.reset_streams-outcome.ensures) c.settled.ensures
+    (subst (λ (x : Context g.row.R.Denot). WorksReset g.R.Rng.stream (stream_numbers c.args.stream_ids.now) x c.reset_streams-outcome.result c.reset_streams-outcome.new.context) c.deref_mut.ensures.value c.reset_streams-outcome.ensures.call) c.settled.ensures
