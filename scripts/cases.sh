@@ -10,12 +10,20 @@
 #
 # `{N zeros}` stands for the digits of N bytes of zeros. A last line of a script that ends in `\` has no
 # newline. Lines that begin with `#` are comments.
+#
+# With `--write FOLDER` nothing is run: FOLDER gets three files for each case and example, `.name` (status, place
+# and name), `.script` and `.wanted`.
 set -euo pipefail
-cd "$(dirname "$0")/.."
-program=${PROGRAM:-$PWD/crates/dcsctp_run/out/dcsctp_run}
-[ -x "$program" ] || { echo "cases: $program isn't built: run rt ci, or name another build by PROGRAM" >&2; exit 2; }
-folder=$(mktemp -d)
-trap 'rm -rf "$folder"' EXIT
+if [ "${1:-}" = --write ]; then
+    folder=$(cd "$2" && pwd)
+    cd "$(dirname "$0")/.."
+else
+    cd "$(dirname "$0")/.."
+    program=${PROGRAM:-$PWD/crates/dcsctp_run/out/dcsctp_run}
+    [ -x "$program" ] || { echo "cases: $program isn't built: run rt ci, or name another build by PROGRAM" >&2; exit 2; }
+    folder=$(mktemp -d)
+    trap 'rm -rf "$folder"' EXIT
+fi
 count=0
 failed=0
 
@@ -61,6 +69,10 @@ for script in examples/*.script; do
     cp "$script" "$folder/example.$name.script"
     cp "$script.stdout" "$folder/example.$name.wanted"
 done
+
+if [ "${1:-}" = --write ]; then
+    exit "$failed"
+fi
 
 # differs WANTED PRINTED: the first line that differs; of a long one the part round the difference.
 differs() {
