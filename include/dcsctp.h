@@ -188,6 +188,7 @@ typedef struct dcsctp_options {
     uint64_t rto_min;                                    /* its least value: 400 ms */
     uint64_t t1_init_timeout;                            /* first wait for an INIT ACK: 1 s */
     uint64_t t1_cookie_timeout;                          /* first wait for a COOKIE ACK: 1 s */
+    uint64_t cookie_lifetime;                            /* no association by an older one: 60 s */
     uint64_t max_timer_backoff_duration;                 /* limit of backoff: DCSCTP_NEVER */
     uint64_t heartbeat_interval;                         /* 0: none are sent; 30 s */
     uint64_t delayed_ack_max_timeout;                    /* for acknowledgements: 200 ms */
@@ -488,7 +489,8 @@ int32_t dcsctp_handover_bytes(dcsctp_socket *socket, uint8_t *buffer, size_t cap
 /* Goes on from a snapshot that another socket with these options gave: DCSCTP_EVENT_CONNECTED
  * follows. What waited to be sent here is dropped. The snapshot of a closed socket changes nothing.
  * Use a snapshot once: two sockets that go on from it confuse the peer. Let the clock of the socket
- * be past a minute, since older times count as moment 0. Restore only what you trust: a forged
+ * be past a minute, since older times count as moment 0. By another clock, cookies that were given
+ * before may be judged too young or too old. Restore only what you trust: a forged
  * snapshot can make an association, and can take long to check.
  *
  * Errors: NO_SOCKET, NOT_CLOSED, INVALID_SNAPSHOT, FAILED, OUT_OF_MEMORY. If there is no memory to

@@ -29,6 +29,7 @@ static void defaults(void) {
         {"rto_min", options.rto_min, 400 * MILLISECONDS},
         {"t1_init_timeout", options.t1_init_timeout, 1 * SECONDS},
         {"t1_cookie_timeout", options.t1_cookie_timeout, 1 * SECONDS},
+        {"cookie_lifetime", options.cookie_lifetime, 60 * SECONDS},
         {"max_timer_backoff_duration", options.max_timer_backoff_duration, DCSCTP_NEVER},
         {"heartbeat_interval", options.heartbeat_interval, 30 * SECONDS},
         {"delayed_ack_max_timeout", options.delayed_ack_max_timeout, 200 * MILLISECONDS},
@@ -71,6 +72,7 @@ static const dcsctp_options DIFFERENT = {
     .rto_min = 1013,
     .t1_init_timeout = 1014,
     .t1_cookie_timeout = 1015,
+    .cookie_lifetime = 1035,
     .max_timer_backoff_duration = 1016,
     .heartbeat_interval = 1017,
     .delayed_ack_max_timeout = 1018,
@@ -120,6 +122,7 @@ static void given_back(void) {
     SAME(rto_min);
     SAME(t1_init_timeout);
     SAME(t1_cookie_timeout);
+    SAME(cookie_lifetime);
     SAME(max_timer_backoff_duration);
     SAME(heartbeat_interval);
     SAME(delayed_ack_max_timeout);
@@ -405,6 +408,48 @@ static void handshake_timers(void) {
     destroy_pair(&pair);
 }
 
+/* B makes a cookie, and finds it that old when the COOKIE ECHO comes. */
+static void cookies(void) {
+    const struct {
+        const char *name;
+        uint64_t lifetime, age;
+        uint32_t connects;
+    } rows[] = {
+        {"as old as it may be", 300 * MILLISECONDS, 300 * MILLISECONDS, 1},
+        {"a nanosecond older", 300 * MILLISECONDS, 300 * MILLISECONDS + 1, 0},
+        {"no age, where none is allowed", 0, 0, 1},
+        {"a nanosecond, where none is allowed", 0, 1, 0},
+        {"longer than by default", 90 * SECONDS, 90 * SECONDS, 1},
+        {"never stale", DCSCTP_NEVER, DCSCTP_NEVER - BEGIN, 1},
+    };
+    dcsctp_options of_a = quiet_options(), of_b = quiet_options();
+    of_a.cookie_lifetime = 0; /* the peer's option doesn't count */
+    for (size_t i = 0; i < sizeof rows / sizeof rows[0]; i++) {
+        size_t length = 0;
+        of_b.cookie_lifetime = rows[i].lifetime;
+        create_pair(&pair, &of_a, &of_b);
+        EQUAL("connect", dcsctp_connect(&pair.a.socket), DCSCTP_OK);
+        EQUAL("INIT", carry(&pair.a, &pair.b), 1);
+        EQUAL("INIT ACK", carry(&pair.b, &pair.a), 1);
+        /* the cookie ends with the moment of its making */
+        size_t at = find_parameter(pair.b.packet, pair.b.length, 7, &length);
+        EQUAL("a cookie", at != 0 && length == 56, 1);
+        EQUAL("its moment", (uint64_t)u32_at(pair.b.packet + at + 48) << 32 |
+              u32_at(pair.b.packet + at + 52), BEGIN);
+        EQUAL("the time at B", dcsctp_advance_time(&pair.b.socket, BEGIN + rows[i].age), 0);
+        EQUAL("COOKIE ECHO", carry(&pair.a, &pair.b), 1);
+        EQUAL(rows[i].name, carry(&pair.b, NULL), rows[i].connects);
+        EQUAL(rows[i].name, pair.b.seen[DCSCTP_EVENT_CONNECTED], rows[i].connects);
+        EQUAL("an error", pair.b.seen[DCSCTP_EVENT_ERROR], !rows[i].connects);
+        if (!rows[i].connects) {
+            EQUAL("kind", pair.b.last[DCSCTP_EVENT_ERROR].error_kind, DCSCTP_KIND_PARSE_FAILED);
+            EQUAL("text", strcmp(pair.b.text, "Stale state cookie"), 0);
+            EQUAL("state", dcsctp_state(&pair.b.socket), DCSCTP_STATE_CLOSED);
+        }
+        destroy_pair(&pair);
+    }
+}
+
 static void data_timers(void) {
     dcsctp_options options = quiet_options();
     options.rto_initial = 700 * MILLISECONDS;
@@ -601,6 +646,7 @@ int main(void) {
     congestion();
     bursts();
     handshake_timers();
+    cookies();
     data_timers();
     round_trips();
     acknowledgements();

@@ -13,6 +13,7 @@ cookie_of cookie =
       offer = offer_in cookie.peer_capabilities;
       window = cookie.a_rwnd;
       tie = cookie.tie_tag;
+      moment = cookie.moment;
     }
 
 -- A cookie that was written is read, and what is read is it.

@@ -1,17 +1,20 @@
-//! The state cookie of an INIT ACK (RFC 9260, section 5.1.3).
+//! The state cookie of an INIT ACK (RFC 9260, section 5.1.3), and its age.
 //!
-//! It has no authentication code and no lifetime: whoever can write 48 bytes can make one.
+//! It has no authentication code: whoever can write 56 bytes can make one, of any age.
 
 ghost use Rattle.std.specs.Prelude.{◌≡◌, ◌+◌, ◌≤◌, length};
-ghost use Rattle.dcsctp_machine.specs.Cookie.{u64_at, cookie_fields};
+ghost use Rattle.std.specs.Duration.{as_nanos};
+ghost use Rattle.dcsctp_machine.specs.Cookie.{u64_at, cookie_fields, cut, is_stale};
 ghost use Rattle.dcsctp_machine.specs.Offer.{capabilities_offered};
+ghost use Rattle.dcsctp_api.specs.Cookie.{cookie_of};
 
-use dcsctp_machine::{Capabilities, ZeroChecksumAlternateErrorDetectionMethod};
+use dcsctp_machine::{Capabilities, SocketTime, ZeroChecksumAlternateErrorDetectionMethod};
 use dcsctp_wire::{u16_at, u32_at};
 use std::alloc::{AllocError, Global};
+use std::time::Duration;
 
 /// The size of a cookie in bytes.
-const COOKIE_SIZE: usize = 48;
+const COOKIE_SIZE: usize = 56;
 
 /// `dcSC`.
 const MAGIC_1: u32 = 0x6463_5343;
@@ -38,6 +41,7 @@ const MAGIC_2: u32 = 0x5450_7230;
 /// | 40 | 4 | the zero checksum method |
 /// | 44 | 2 | incoming streams |
 /// | 46 | 2 | outgoing streams |
+/// | 48 | 8 | `moment` |
 #[derive(Clone, Copy, Debug)]
 pub struct StateCookie {
     /// The initiate tag of the INIT that the cookie answers.
@@ -58,6 +62,9 @@ pub struct StateCookie {
     /// The tie tag of the association of the cookie's maker, 0 if it had none.
     pub tie_tag: u64,
 
+    /// When the cookie was made, in nanoseconds on its maker's clock; a moment beyond `u64::MAX` is cut to that.
+    pub moment: u64,
+
     /// What the INIT announced, before negotiation.
     pub peer_capabilities: Capabilities,
 }
@@ -65,11 +72,10 @@ pub struct StateCookie {
 impl StateCookie {
     ghost use Rattle.std.specs.Prelude.{MatchResult, IfOk, Ok, Err};
     ghost use Rattle.dcsctp_machine.specs.Cookie.{cookie_bytes, cookie_at};
-    ghost use Rattle.dcsctp_api.specs.Cookie.{cookie_of};
 
     /// Reads a cookie. Allocates nothing.
     ///
-    /// The first fault decides: `Invalid state cookie size` unless there are 48 bytes. Then
+    /// The first fault decides: `Invalid state cookie size` unless there are 56 bytes. Then
     /// `Invalid state cookie magic` unless they begin with the magic. Then
     /// `Invalid verification tag in state cookie` if a tag is 0.
     #[tactic(auto, unfolding(dcsctp_machine::specs::Cookie::cookie_at))]
@@ -86,18 +92,28 @@ impl StateCookie {
         if u32_at(bytes, 8) == 0 || u32_at(bytes, 12) == 0 {
             return Err("Invalid verification tag in state cookie");
         }
-        Ok(StateCookie {
-            peer_tag: u32_at(bytes, 8),
-            my_tag: u32_at(bytes, 12),
-            peer_initial_tsn: u32_at(bytes, 16),
-            my_initial_tsn: u32_at(bytes, 20),
-            a_rwnd: u32_at(bytes, 24),
-            tie_tag: u64_at(bytes, 28),
-            peer_capabilities: capabilities_at(bytes),
-        })
+        let cookie = fields_at(bytes);
+        Ok(cookie)
     }
 
-    /// The 48 bytes of the cookie.
+    /// A moment as a cookie has it: in nanoseconds, at most `u64::MAX`. Allocates nothing.
+    pub fn moment_at(now: SocketTime) -> u64
+        ensures { result ≡ cut now }
+    {
+        now.as_nanos().min(u128::from(u64::MAX)) as u64
+    }
+
+    /// Is the cookie stale: older than `lifetime` at this moment of its maker's clock (RFC 9260, section
+    /// 5.1.5)? One of exactly that age isn't, nor one of a later moment. A moment too great for a cookie is
+    /// cut here as it was when the cookie was made. Allocates nothing.
+    pub fn is_stale(&self, lifetime: Duration, now: SocketTime) -> bool
+        ensures { result ≡ is_stale (as_nanos lifetime) now (cookie_of self.now) }
+    {
+        let age = StateCookie::moment_at(now).saturating_sub(self.moment);
+        u128::from(age) > lifetime.as_nanos()
+    }
+
+    /// The 56 bytes of the cookie.
     #[tactic(auto, unfolding(dcsctp_machine::specs::Cookie::cookie_bytes))]
     pub fn serialize(&self, alloc: Global) -> Result<Vec<u8>, AllocError>
         ensures { IfOk result (λ bytes. bytes.items ≡ cookie_bytes (cookie_of self.now)) }
@@ -129,6 +145,7 @@ impl StateCookie {
                 .negotiated_maximum_outgoing_streams
                 .to_be_bytes(),
         )?;
+        bytes.extend_from_slice(&self.moment.to_be_bytes())?;
         Ok(bytes)
     }
 }
@@ -144,9 +161,26 @@ fn u64_at(bytes: &[u8], at: usize) -> u64
     ])
 }
 
+// The fields of a cookie, whose size was tested.
+fn fields_at(bytes: &[u8]) -> StateCookie
+    requires { length bytes.now ≡ 56 }
+    ensures { cookie_fields bytes.now ≡ cookie_of result }
+{
+    StateCookie {
+        peer_tag: u32_at(bytes, 8),
+        my_tag: u32_at(bytes, 12),
+        peer_initial_tsn: u32_at(bytes, 16),
+        my_initial_tsn: u32_at(bytes, 20),
+        a_rwnd: u32_at(bytes, 24),
+        tie_tag: u64_at(bytes, 28),
+        moment: u64_at(bytes, 48),
+        peer_capabilities: capabilities_at(bytes),
+    }
+}
+
 // The capabilities in a cookie, whose size was tested.
 fn capabilities_at(bytes: &[u8]) -> Capabilities
-    requires { length bytes.now ≡ 48 }
+    requires { length bytes.now ≡ 56 }
     ensures { result ≡ capabilities_offered (cookie_fields bytes.now).offer }
 {
     Capabilities {

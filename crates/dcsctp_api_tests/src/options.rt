@@ -55,13 +55,14 @@ fn default_times_limits_and_features(rt: HostRuntime) {
         options.rto_min,
         options.t1_init_timeout,
         options.t1_cookie_timeout,
+        options.cookie_lifetime,
         options.t2_shutdown_timeout,
         options.heartbeat_interval,
         options.delayed_ack_max_timeout,
         options.min_rtt_variance,
         options.max_timer_backoff_duration,
     );
-    let expected = "(60s, 500ms, 60s, 400ms, 1s, 1s, 1s, 30s, 200ms, 220ms, None)";
+    let expected = "(60s, 500ms, 60s, 400ms, 1s, 1s, 60s, 1s, 30s, 200ms, 220ms, None)";
     shows(&rt, rt.alloc(), "times", &times, expected);
     let limits = (
         options.max_burst,

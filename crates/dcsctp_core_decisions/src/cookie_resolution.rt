@@ -3,14 +3,16 @@
 ghost use Rattle.std.specs.Prelude.{◌≡◌};
 ghost use Rattle.dcsctp_machine.specs.Settings.{IsValid};
 ghost use Rattle.dcsctp_machine.specs.control.CookieEchoChanges.{resolve};
+ghost use Rattle.dcsctp_machine.specs.turns.CookieEchoOutcomes.{resolved_now};
 ghost use Rattle.dcsctp_api.specs.Cookie.{cookie_of};
-ghost use Rattle.dcsctp_core.specs.View.{core_of, tie_of};
+ghost use Rattle.dcsctp_core.specs.View.{core_of, tie_of, endpoint_of};
 ghost use Rattle.dcsctp_core_decisions.specs.Decisions.{resolution_of, peer_by_cookie};
 
 use dcsctp_api::{Options, Pair, StateCookie};
-use dcsctp_core::{Peer, State};
+use dcsctp_core::{Context, Peer, State};
+use rand_core::Rng;
 
-/// What a COOKIE ECHO is, by the table of RFC 9260, section 5.2.4.
+/// What a COOKIE ECHO is, by the table of RFC 9260, section 5.2.4, and by the age of its cookie.
 #[derive(Clone, Copy, Debug, PartialEq, Eq)]
 pub enum CookieResolution {
     /// The peer isn't known, and the association is made.
@@ -30,9 +32,49 @@ pub enum CookieResolution {
 
     /// The tags are those of no association.
     InvalidTag,
+
+    /// It would make an association, and its cookie is stale.
+    Stale,
 }
 
-/// Which case a COOKIE ECHO is, in a packet with this header tag.
+impl CookieResolution {
+    ghost use Rattle.dcsctp_machine.specs.control.CookieEchoChanges.{aged};
+
+    // The case of a cookie that is stale, or isn't. A stale one makes no association; where none would be made its
+    // age is no matter.
+    fn aged(self, is_stale: bool) -> CookieResolution
+        ensures { resolution_of result ≡ aged is_stale (resolution_of self) }
+    {
+        if !is_stale {
+            return self;
+        }
+        match self {
+            CookieResolution::EstablishNew => CookieResolution::Stale,
+            CookieResolution::RestartDetected => CookieResolution::Stale,
+            CookieResolution::SimultaneousInit => CookieResolution::Stale,
+            CookieResolution::Discard => CookieResolution::Discard,
+            CookieResolution::MaintainExisting => CookieResolution::MaintainExisting,
+            CookieResolution::InvalidTag => CookieResolution::InvalidTag,
+            CookieResolution::Stale => CookieResolution::Stale,
+        }
+    }
+}
+
+/// Which case a COOKIE ECHO is now, in a packet with this header tag: that of the table, unless it would make an
+/// association and its cookie is older than `cookie_lifetime` (RFC 9260, section 5.1.5).
+pub fn resolve_now<R: Rng>(
+    context: &Context<R>,
+    header_tag: u32,
+    cookie: &StateCookie,
+) -> CookieResolution
+    ensures { resolution_of result ≡ resolved_now (endpoint_of context.now) (core_of context.now.state)
+        header_tag (cookie_of cookie.now) }
+{
+    let is_stale = cookie.is_stale(context.options.cookie_lifetime, context.moment);
+    resolve(&context.state, header_tag, cookie).aged(is_stale)
+}
+
+/// Which case of the table a COOKIE ECHO is, in a packet with this header tag. It is never `Stale`.
 pub fn resolve(state: &State, header_tag: u32, cookie: &StateCookie) -> CookieResolution
     ensures { resolution_of result ≡ resolve (core_of state.now) (tie_of state.now) header_tag
         (cookie_of cookie.now) }

@@ -9,5 +9,5 @@ mod texts;
 mod timeout;
 
 pub use admission::{Admission, Refusal, admit};
-pub use cookie_resolution::{CookieResolution, peer_by_cookie, resolve};
+pub use cookie_resolution::{CookieResolution, peer_by_cookie, resolve, resolve_now};
 pub use timeout::poll_timeout;

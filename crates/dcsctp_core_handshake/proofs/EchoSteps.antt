@@ -1,21 +1,23 @@
 -- A COOKIE ECHO's turn, by which case it is.
 use Rattle.std.proofs.Common.{◌≡◌, ◌==◌, ℕ, Bool, true, false, List, [], ◌∷◌, refl, sym, ap, subst, ◌∙◌, arith}
 use Rattle.std.specs.Prelude.{Result, Ok, Err}
+use Rattle.std.specs.Duration.{as_nanos}
 use Rattle.std.proofs.lemmas.Bool.Decides.{nat_tests}
 use Rattle.rand_core.specs.Stream.{Stream}
 use Rattle.dcsctp_machine.specs.declared.association.Pair.{Pair}
 use Rattle.dcsctp_machine.specs.declared.association.Held.{Held}
-use Rattle.dcsctp_machine.specs.Cookie.{Cookie, cookie_at}
+use Rattle.dcsctp_machine.specs.Cookie.{Cookie, cookie_at, is_stale}
 use Rattle.dcsctp_machine.specs.Event.{Event, connected}
 use Rattle.dcsctp_machine.specs.Packet.{Emission, cookie_ack}
 use Rattle.dcsctp_machine.specs.Endpoint.{Endpoint, Core, closed, cookie_wait, cookie_echoed, open_in}
 use Rattle.dcsctp_machine.specs.Outcome.{Outcome, noting}
 use Rattle.dcsctp_machine.specs.Following.{next_chunk}
 use Rattle.dcsctp_machine.specs.control.Effect.{connects, link_of}
-use Rattle.dcsctp_machine.specs.control.CookieEchoChanges.{Resolution, establish_new, restart, simultaneous_init, discard, maintain_existing, invalid_tag, case_by, case_with_peer, resolve}
+use Rattle.dcsctp_machine.specs.control.CookieEchoChanges.{Resolution, establish_new, restart, simultaneous_init, discard, maintain_existing, invalid_tag, stale, case_by, case_with_peer, resolve}
 use Rattle.dcsctp_machine.specs.turns.FlushOutcomes.{Answer, FlushAnswers, flush_answered}
 use Rattle.dcsctp_machine.specs.turns.HandshakeOutcomes.{connected_after}
-use Rattle.dcsctp_machine.specs.turns.CookieEchoOutcomes.{maintain_by, resolved_by, cookie_echo_by, discard_outcome, refused_echo_outcome, MaintainAnswers, ResolvedAnswers, EchoedAnswers, CookieEchoTurn}
+use Rattle.dcsctp_machine.specs.turns.CookieEchoOutcomes.{maintain_by, resolved_by, cookie_echo_by, discard_outcome, refused_echo_outcome, MaintainAnswers, ResolvedAnswers, EchoedAnswers, resolved_now, CookieEchoTurn}
+use Rattle.dcsctp_machine.proofs.ControlEcho.{kept_by_age}
 use Rattle.dcsctp_core.specs.declared.context.Context.{Context}
 use Rattle.dcsctp_core.specs.declared.following.Following.{Following}
 use Rattle.dcsctp_core.specs.declared.following.Following.TheVariants.{NextChunk, DroppedRest}
@@ -33,7 +35,7 @@ use Rattle.dcsctp_core_handshake.proofs.FlushSteps.{flush_following}
 -- What the bytes read as, and what that is to the association.
 pub record IsCase (e : Endpoint) (header : ℕ) (bytes : List ℕ) (cookie : Cookie) (resolution : Resolution) : Type 0 where
   pub reads : cookie_at bytes ≡ Ok cookie
-  pub is : resolution ≡ resolve e.core e.tie header cookie
+  pub is : resolution ≡ resolved_now e e.core header cookie
 
 -- the turn of that case
 resolved : (e : Endpoint) (header : ℕ) (bytes : List ℕ) (cookie : Cookie) (word : ℕ) (resolution : Resolution) (answers : List Answer) → IsCase e header bytes cookie resolution
@@ -158,7 +160,8 @@ maintain_turn : {R : Type 0} (old : View R) (header : ℕ) (bytes : List ℕ) (c
     → MaintainAt old o → CookieEchoAt header bytes old o
 maintain_turn old header bytes cookie o c turn =
     let e : Endpoint = old.endpoint in
-    let here = maintain_is e cookie e.core e.tie header turn.0 c.is turn.1 in
+    let is : maintain_existing ≡ resolve e.core e.tie header cookie = sym (kept_by_age (is_stale (as_nanos e.options.cookie_lifetime) e.moment cookie) (resolve e.core e.tie header cookie) (sym c.is)) in
+    let here = maintain_is e cookie e.core e.tie header turn.0 is turn.1 in
     turn_of e header bytes cookie 0 maintain_existing turn.0 o c here.0 (turn.2 ∙ here.1)
 
 pub works_maintain : {R : Type 0} (stream : R → Stream) (old new : View R) (header : ℕ) (bytes : List ℕ) (cookie : Cookie) → IsCase old.endpoint header bytes cookie maintain_existing
@@ -206,3 +209,8 @@ unread_turn old header bytes text reads = (
 pub untagged_turn : {R : Type 0} (old : View R) (header : ℕ) (bytes : List ℕ) (cookie : Cookie) → IsCase old.endpoint header bytes cookie invalid_tag
     → CookieEchoAt header bytes old (resolved_by (flush_answered []) old.endpoint cookie old.endpoint.core 0 invalid_tag)
 untagged_turn old header bytes cookie c = resolved old.endpoint header bytes cookie 0 invalid_tag [] c refl
+
+-- since it would make an association, and its cookie is stale
+pub stale_turn : {R : Type 0} (old : View R) (header : ℕ) (bytes : List ℕ) (cookie : Cookie) → IsCase old.endpoint header bytes cookie stale
+    → CookieEchoAt header bytes old (resolved_by (flush_answered []) old.endpoint cookie old.endpoint.core 0 stale)
+stale_turn old header bytes cookie c = resolved old.endpoint header bytes cookie 0 stale [] c refl

@@ -1,4 +1,4 @@
-//! COOKIE ECHO (RFC 9260, sections 5.1 and 5.2.4).
+//! COOKIE ECHO (RFC 9260, sections 5.1, 5.1.5 and 5.2.4).
 
 ghost use Rattle.std.specs.Prelude.{◌≡◌, [], ◌∷◌, IfOk, map};
 ghost use Rattle.dcsctp_wire.specs.Content.{cause_content, cookie_received_while_shutting_down};
@@ -8,10 +8,10 @@ ghost use Rattle.dcsctp_core.specs.Handling.{Tries, TakesOne, Works, WorksOne};
 ghost use Rattle.dcsctp_core_handshake.specs.Handshake.{CookieEchoAt};
 ghost use Rattle.dcsctp_core_handshake.specs.Echoes.{awaits_complete, established_with, AcknowledgementAt, EstablishAt, ReplaceAt, RestartAt, MaintainAt, RestartWhereAt, refuse_turn, refused_restart_turn};
 
-use crate::texts::{INVALID_TAG, SHUTTING_DOWN};
+use crate::texts::{INVALID_TAG, SHUTTING_DOWN, STALE};
 use dcsctp_api::{ErrorKind, Pair, SocketEvent, StateCookie};
 use dcsctp_core::{Context, Following, OpenPhase, OpenState, State, TransmissionControlBlock};
-use dcsctp_core_decisions::{CookieResolution, peer_by_cookie, resolve};
+use dcsctp_core_decisions::{CookieResolution, peer_by_cookie, resolve_now};
 use dcsctp_wire::{Chunk, CookieEchoChunk, ErrorCause, ErrorChunk};
 use rand_core::Rng;
 use std::alloc::{AllocError, Global};
@@ -175,8 +175,9 @@ fn maintain<R: Rng>(context: &mut Context<R>) -> Result<(), AllocError>
     Ok(())
 }
 
-/// Handles a COOKIE ECHO in a packet with this header tag. After one that is refused or discarded the rest of
-/// the packet is dropped.
+/// Handles a COOKIE ECHO in a packet with this header tag. One that would make an association, and whose cookie
+/// is stale, is refused: that is reported, and nothing else changes. After one that is refused or discarded the
+/// rest of the packet is dropped.
 ///
 /// `Err`: an allocation failed; the first of its events may already have been added.
 pub fn handle_cookie_echo<R: Rng>(
@@ -194,7 +195,7 @@ pub fn handle_cookie_echo<R: Rng>(
             return Ok(Following::DroppedRest);
         }
     };
-    match resolve(&context.state, header_tag, &cookie) {
+    match resolve_now(context, header_tag, &cookie) {
         CookieResolution::EstablishNew => establish(context, &cookie)?,
         CookieResolution::RestartDetected => return restart_where_open(context, &cookie),
         CookieResolution::SimultaneousInit => replace(context, &cookie)?,
@@ -202,6 +203,10 @@ pub fn handle_cookie_echo<R: Rng>(
         CookieResolution::MaintainExisting => maintain(context)?,
         CookieResolution::InvalidTag => {
             refuse(context, INVALID_TAG)?;
+            return Ok(Following::DroppedRest);
+        }
+        CookieResolution::Stale => {
+            refuse(context, STALE)?;
             return Ok(Following::DroppedRest);
         }
     }

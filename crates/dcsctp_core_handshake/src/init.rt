@@ -61,6 +61,7 @@ fn send_init_ack<R: Rng>(
         my_initial_tsn: pair.first_tsn,
         a_rwnd: init.a_rwnd,
         tie_tag,
+        moment: StateCookie::moment_at(context.moment),
         peer_capabilities,
     };
     let cookie = cookie.serialize(context.alloc)?;

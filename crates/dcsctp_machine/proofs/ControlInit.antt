@@ -20,11 +20,11 @@ MovedBy e tag content o core choices = IsControlled e o (chunk_change e.options 
 
 -- the choices of an INIT that is answered under the own pair, and of one for which a pair is drawn
 abbrev keeping : Endpoint → Introduction → Pair → Choices
-keeping e theirs my = choices_of e my (cookie_bytes (cookie_for theirs my 0)) (fits e (init_ack_emission e theirs my 0))
+keeping e theirs my = choices_of e my (cookie_bytes (cookie_for e.moment theirs my 0)) (fits e (init_ack_emission e theirs my 0))
 
 abbrev renewing : Endpoint → Introduction → ℕ → Choices
 renewing e theirs word =
-    choices_of e (renewed_pair e word) (cookie_bytes (cookie_for theirs (renewed_pair e word) e.tie)) (fits e (init_ack_emission e theirs (renewed_pair e word) e.tie))
+    choices_of e (renewed_pair e word) (cookie_bytes (cookie_for e.moment theirs (renewed_pair e word) e.tie)) (fits e (init_ack_emission e theirs (renewed_pair e word) e.tie))
 
 init_moves_at : (e : Endpoint) (tag : ℕ) (theirs : Introduction) (core : Core) (word next : ℕ) → e.core ≡ core → IsValid e.options
     → (choices : Choices) × MovedBy e tag (init theirs) (init_outcome e theirs core word next) core choices

@@ -41,9 +41,9 @@ renewed_fits : (e : Endpoint) (word : ℕ) → FitsPair (renewed_pair e word)
 renewed_fits e word = record { tag_is_not_zero = omega arith; tag = omega arith; first_tsn = omega arith }
 
 is_cookie : (e : Endpoint) (theirs : Introduction) (mine : Pair) (tie : ℕ) → FitsAnswer e theirs → FitsPair mine
-    → IsCookieOf theirs mine (cookie_bytes (cookie_for theirs mine tie))
+    → IsCookieOf theirs mine (cookie_bytes (cookie_for e.moment theirs mine tie))
 is_cookie e theirs mine tie h mine_fits =
-    (_, names_read_back (cookie_for theirs mine tie) (record { maker = mine_fits; addressee = h.pair; offer = h.offer }), refl, refl, refl)
+    (_, names_read_back (cookie_for e.moment theirs mine tie) (record { maker = mine_fits; addressee = h.pair; offer = h.offer }), refl, refl, refl)
 
 -- a packet of one chunk, where it fits
 one_packet : (b : Bool) (e : Endpoint) (words : List Word) (with_checksum : Bool) (tag : ℕ) (content : Content) (core : Core) → e.core ≡ core
@@ -69,7 +69,7 @@ answered e tag theirs mine tie words core is =
     one_packet (fits e (init_ack_emission e theirs mine tie)) e words (init_ack_emission e theirs mine tie).with_checksum theirs.pair.tag (init_ack_for e theirs mine tie) core is
 
 renewed : (e : Endpoint) (tag : ℕ) (theirs : Introduction) (word : ℕ) (core : Core) → e.core ≡ core → FitsAnswer e theirs
-    → IsCookieOf theirs (renewed_pair e word) (cookie_bytes (cookie_for theirs (renewed_pair e word) e.tie))
+    → IsCookieOf theirs (renewed_pair e word) (cookie_bytes (cookie_for e.moment theirs (renewed_pair e word) e.tie))
     × IsControlled e (renewed_outcome e theirs word)
     (record { core = core; effects = draws (renewed_pair e word) ∷ emitted_alone (fits e (init_ack_emission e theirs (renewed_pair e word) e.tie)) theirs.pair.tag (init_ack_for e theirs (renewed_pair e word) e.tie); following = next_chunk })
 renewed e tag theirs word core is h = (
@@ -92,14 +92,14 @@ ack_controlled e held core is valid =
 -- the choices that such an INIT makes
 abbrev renewing : Endpoint → Introduction → ℕ → Choices
 renewing e theirs word =
-    choices_of e (renewed_pair e word) (cookie_bytes (cookie_for theirs (renewed_pair e word) e.tie)) (fits e (init_ack_emission e theirs (renewed_pair e word) e.tie))
+    choices_of e (renewed_pair e word) (cookie_bytes (cookie_for e.moment theirs (renewed_pair e word) e.tie)) (fits e (init_ack_emission e theirs (renewed_pair e word) e.tie))
 
 init_controlled : (e : Endpoint) (tag : ℕ) (theirs : Introduction) (core : Core) (word next : ℕ) → e.core ≡ core → FitsOwn core → FitsAnswer e theirs
     → ControlledAt e core tag (init theirs) (init_outcome e theirs core word next)
 init_controlled e tag theirs closed word next is own h = (
   _,
   (
-    choices_of e (pair_from word next) (cookie_bytes (cookie_for theirs (pair_from word next) 0)) (fits e (init_ack_emission e theirs (pair_from word next) 0)),
+    choices_of e (pair_from word next) (cookie_bytes (cookie_for e.moment theirs (pair_from word next) 0)) (fits e (init_ack_emission e theirs (pair_from word next) 0)),
     is_cookie e theirs (pair_from word next) 0 h (drawn_fits word next),
     refl,
   ),
@@ -108,12 +108,12 @@ init_controlled e tag theirs closed word next is own h = (
 )
 init_controlled e tag theirs (cookie_wait my) word next is own h = (
   _,
-  (choices_of e my (cookie_bytes (cookie_for theirs my 0)) (fits e (init_ack_emission e theirs my 0)), is_cookie e theirs my 0 h own, refl),
+  (choices_of e my (cookie_bytes (cookie_for e.moment theirs my 0)) (fits e (init_ack_emission e theirs my 0)), is_cookie e theirs my 0 h own, refl),
   answered e tag theirs my 0 [] (cookie_wait my) is,
 )
 init_controlled e tag theirs (cookie_echoed my held echoed) word next is own h = (
   _,
-  (choices_of e my (cookie_bytes (cookie_for theirs my 0)) (fits e (init_ack_emission e theirs my 0)), is_cookie e theirs my 0 h own, refl),
+  (choices_of e my (cookie_bytes (cookie_for e.moment theirs my 0)) (fits e (init_ack_emission e theirs my 0)), is_cookie e theirs my 0 h own, refl),
   answered e tag theirs my 0 [] (cookie_echoed my held echoed) is,
 )
 init_controlled e tag theirs (open_in established my held) word next is own h =

@@ -21,7 +21,7 @@ use Rattle.dcsctp_machine.proofs.HandshakeTurnFacts.{configured, queue_renumbere
 abbrev own_cookie : ℕ → List ℕ
 own_cookie tie =
     0x64 ∷ 0x63 ∷ 0x53 ∷ 0x43 ∷ 0x54 ∷ 0x50 ∷ 0x72 ∷ 0x30 ∷ 0 ∷ 0 ∷ 0 ∷ 9 ∷ 0 ∷ 0 ∷ 0 ∷ 7 ∷ 0 ∷ 0 ∷ 0 ∷ 200 ∷ 0 ∷ 0 ∷ 0 ∷ 100
-    ∷ 0 ∷ 0 ∷ 5 ∷ 0xdc ∷ 0 ∷ 0 ∷ 0 ∷ 0 ∷ 0 ∷ 0 ∷ 0 ∷ tie ∷ 0 ∷ 1 ∷ 1 ∷ 0 ∷ 0 ∷ 0 ∷ 0 ∷ 1 ∷ 0 ∷ 40 ∷ 0 ∷ 30 ∷ []
+    ∷ 0 ∷ 0 ∷ 5 ∷ 0xdc ∷ 0 ∷ 0 ∷ 0 ∷ 0 ∷ 0 ∷ 0 ∷ 0 ∷ tie ∷ 0 ∷ 1 ∷ 1 ∷ 0 ∷ 0 ∷ 0 ∷ 0 ∷ 1 ∷ 0 ∷ 40 ∷ 0 ∷ 30 ∷ 0 ∷ 0 ∷ 0 ∷ 1 ∷ 0x2a ∷ 0x05 ∷ 0xf2 ∷ 0 ∷ []
 
 -- established, with a heartbeat timeout that runs on; what waits to be sent is as given
 abbrev made : Endpoint → SendQueueState → ℕ → Endpoint
@@ -41,8 +41,8 @@ echo_where_closed : (e : Endpoint) → cookie_echo_outcome (socket e 1191 (pos 4
 unfolding cookie_at
 echo_where_closed e = refl
 
-echo_under_wrong_tag : (e : Endpoint) → cookie_echo_outcome e closed 8 (cookie_at (own_cookie 0)) 55
-    ≡ record { words = []; effects = []; after = e; events = error ParseFailed (codes "Received CookieEcho with invalid verification tag") ∷ []; following = dropped_rest }
+echo_under_wrong_tag : (e : Endpoint) → cookie_echo_outcome (socket e 1191 (pos 4) closed 4) closed 8 (cookie_at (own_cookie 0)) 55
+    ≡ record { words = []; effects = []; after = socket e 1191 (pos 4) closed 4; events = error ParseFailed (codes "Received CookieEcho with invalid verification tag") ∷ []; following = dropped_rest }
 unfolding cookie_at
 echo_under_wrong_tag e = refl
 
@@ -121,3 +121,36 @@ echo_under_burst_0 : (e : Endpoint) → cookie_echo_outcome (socket e 1191 (pos 
     ≡ record { words = []; effects = []; after = socket e 1191 (pos 0) (open_in established mine held) 4; events = []; following = next_chunk }
 unfolding cookie_at
 echo_under_burst_0 e = refl
+
+-- ---- the age of a cookie of 5 s, where the lifetime is 60 s
+
+-- One that is 60 s old makes an association,
+echo_in_time : (e : Endpoint) → (cookie_echo_outcome (record (socket e 1191 (pos 4) closed 4) { moment = 65_000_000_000 }) closed 7 (cookie_at (own_cookie 0)) 55).effects ≡ holds link ∷ connects link ∷ []
+unfolding cookie_at
+echo_in_time e = refl
+
+-- and one that is a nanosecond older doesn't.
+echo_that_is_stale : (e : Endpoint) → let late : Endpoint = record (socket e 1191 (pos 4) closed 4) { moment = 65_000_000_001 } in
+    cookie_echo_outcome late closed 7 (cookie_at (own_cookie 0)) 55
+    ≡ record { words = []; effects = []; after = late; events = error ParseFailed (codes "Stale state cookie") ∷ []; following = dropped_rest }
+unfolding cookie_at
+echo_that_is_stale e = refl
+
+-- No packet goes out where it is a restart and a SHUTDOWN ACK waits for its answer.
+stale_restart_in_shutdown_ack_sent : (e : Endpoint)
+    → let late : Endpoint = record (socket e 1191 (pos 4) (open_in shutdown_ack_sent older older_held) 4) { moment = 65_000_000_001 } in
+    cookie_echo_outcome late (open_in shutdown_ack_sent older older_held) 7 (cookie_at (own_cookie 77)) 55
+    ≡ record { words = []; effects = []; after = late; events = error ParseFailed (codes "Stale state cookie") ∷ []; following = dropped_rest }
+unfolding cookie_at
+stale_restart_in_shutdown_ack_sent e = refl
+
+-- That of the existing association is acknowledged at any age.
+old_echo_of_existing : (e : Endpoint) → (cookie_echo_outcome (record (socket e 1191 (pos 4) (open_in shutdown_received mine held) 4) { moment = 3_600_000_000_000 }) (open_in shutdown_received mine held) 7 (cookie_at (own_cookie 0)) 55).events
+    ≡ packet_of false 9 (cookie_ack ∷ []) ∷ []
+unfolding cookie_at
+old_echo_of_existing e = refl
+
+-- A clock that is behind the cookie's moment makes no age.
+echo_of_later_moment : (e : Endpoint) → (cookie_echo_outcome (record (socket e 1191 (pos 4) closed 4) { moment = 0 }) closed 7 (cookie_at (own_cookie 0)) 55).effects ≡ holds link ∷ connects link ∷ []
+unfolding cookie_at
+echo_of_later_moment e = refl

@@ -8,7 +8,7 @@ use Rattle.dcsctp_machine.specs.Following.{Following, next_chunk, packet_end, dr
 use Rattle.dcsctp_machine.specs.control.Effect.{Change}
 use Rattle.dcsctp_machine.specs.control.Choices.{Choices}
 use Rattle.dcsctp_machine.specs.control.HandshakeChanges.{connect_change, init_change, init_ack_change}
-use Rattle.dcsctp_machine.specs.control.CookieEchoChanges.{Resolution, establish_new, restart, simultaneous_init, discard, maintain_existing, invalid_tag, resolve, resolved_change, read_echo_change}
+use Rattle.dcsctp_machine.specs.control.CookieEchoChanges.{Resolution, establish_new, restart, simultaneous_init, discard, maintain_existing, invalid_tag, stale, aged, resolve, resolved_change, read_echo_change}
 use Rattle.dcsctp_machine.specs.control.Acts.{chunk_change}
 use Rattle.dcsctp_machine.specs.Controlled.{IsControlled, ControlledChunk}
 use Rattle.dcsctp_machine.specs.Laws.{FitsTurns, FitsBehind, AllControlled, IsRest, dropped, ended, AreChunks, StandsBefore, ChunksAreControlled, AdmittedPacketsMayBeWorked, PacketsAreControlled, Delivered, whole, acks, reported, DeliveriesAreControlled}
@@ -39,10 +39,11 @@ resolved_same p n core cookie choices simultaneous_init = refl
 resolved_same p n core cookie choices discard = refl
 resolved_same p n core cookie choices maintain_existing = refl
 resolved_same p n core cookie choices invalid_tag = refl
+resolved_same p n core cookie choices stale = refl
 
 echo_same : (p : Options) (n : ℕ) (core : Core) (header : ℕ) (read : Result Cookie (List ℕ)) (choices : Choices)
     → read_echo_change (longest p n) core header read choices ≡ read_echo_change p core header read choices
-echo_same p n core header (Ok cookie) choices = resolved_same p n core cookie choices (resolve core choices.tie header cookie)
+echo_same p n core header (Ok cookie) choices = resolved_same p n core cookie choices (aged choices.is_stale (resolve core choices.tie header cookie))
 echo_same p n core header (Err text) choices = refl
 
 init_same : (p : Options) (n : ℕ) (core : Core) (theirs : Introduction) (choices : Choices) → init_change (longest p n) core theirs choices ≡ init_change p core theirs choices

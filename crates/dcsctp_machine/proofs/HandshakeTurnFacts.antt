@@ -47,6 +47,7 @@ configured options mtu max_burst =
       delayed_ack_max_timeout = record { secs = 0; nanos = 200_000_000 };
       t1_init_timeout = record { secs = 1; nanos = 0 };
       t1_cookie_timeout = record { secs = 2; nanos = 0 };
+      cookie_lifetime = record { secs = 60; nanos = 0 };
       heartbeat_interval = record { secs = 30; nanos = 0 };
       max_init_retransmits = Some 8;
       cwnd_mtus_initial = 10;

@@ -12,7 +12,7 @@ use Rattle.dcsctp_machine.specs.Packet.{Introduction, Content, cookie_echo, cook
 use Rattle.dcsctp_machine.specs.Reconfiguration.{RequestedReset}
 use Rattle.dcsctp_machine.specs.Soundness.{UsesOwnMethod, IsSoundHeld, IsSoundCore}
 use Rattle.dcsctp_machine.specs.control.Choices.{Filling, Choices}
-use Rattle.dcsctp_machine.specs.control.CookieEchoChanges.{Resolution, establish_new, restart, simultaneous_init, discard, maintain_existing, invalid_tag, resolve, held_by_cookie, new_association_change, restart_change, maintain_change, resolved_change, read_echo_change}
+use Rattle.dcsctp_machine.specs.control.CookieEchoChanges.{Resolution, establish_new, restart, simultaneous_init, discard, maintain_existing, invalid_tag, stale, aged, resolve, held_by_cookie, new_association_change, restart_change, maintain_change, resolved_change, read_echo_change}
 use Rattle.dcsctp_machine.specs.control.FlushChanges.{flush, flush_where, flushed_with, reset_to_begin}
 use Rattle.dcsctp_machine.specs.control.HandshakeChanges.{init_change, held_by_init_ack, init_ack_change, cookie_ack_change, echo_change, t1_again_change, t1_gives_up_change}
 
@@ -66,7 +66,7 @@ by_size false bytes cookie found = by_magic (not (has_magic bytes)) bytes cookie
 -- No tag of a cookie that was read is 0.
 cookie_has_tags : (bytes : List ℕ) (cookie : Cookie) → cookie_at bytes ≡ Ok cookie → HasTags cookie
 unfolding cookie_at
-cookie_has_tags bytes cookie found = by_size (not (eqb (length bytes) 48)) bytes cookie found
+cookie_has_tags bytes cookie found = by_size (not (eqb (length bytes) 56)) bytes cookie found
 
 -- ---- each change
 
@@ -161,9 +161,10 @@ module _ (p : Options) where
   resolved_sound core cookie choices discard tags h = h
   resolved_sound core cookie choices maintain_existing tags h = maintain_sound core cookie choices h
   resolved_sound core cookie choices invalid_tag tags h = h
+  resolved_sound core cookie choices stale tags h = h
 
   pub read_echo_sound : (core : Core) (header : ℕ) (bytes : List ℕ) (found : Result Cookie (List ℕ)) (choices : Choices) → cookie_at bytes ≡ found → IsSoundCore p core
       → IsSoundCore p (read_echo_change p core header found choices).core
   read_echo_sound core header bytes (Err text) choices is h = h
   read_echo_sound core header bytes (Ok cookie) choices is h =
-      resolved_sound core cookie choices (resolve core choices.tie header cookie) (cookie_has_tags bytes cookie is) h
+      resolved_sound core cookie choices (aged choices.is_stale (resolve core choices.tie header cookie)) (cookie_has_tags bytes cookie is) h

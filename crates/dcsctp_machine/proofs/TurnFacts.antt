@@ -80,19 +80,19 @@ ports_and_tag options = refl
 
 -- ---- cookies that are refused
 
-wrong_first_word : cookie_at (codes "dcSXTPr0" ++ replicate 40 1) ≡ Err (codes "Invalid state cookie magic")
+wrong_first_word : cookie_at (codes "dcSXTPr0" ++ replicate 48 1) ≡ Err (codes "Invalid state cookie magic")
 unfolding cookie_at
 wrong_first_word = refl
 
-wrong_second_word : cookie_at (codes "dcSCTPr1" ++ replicate 40 1) ≡ Err (codes "Invalid state cookie magic")
+wrong_second_word : cookie_at (codes "dcSCTPr1" ++ replicate 48 1) ≡ Err (codes "Invalid state cookie magic")
 unfolding cookie_at
 wrong_second_word = refl
 
-no_addressee_tag : cookie_at (codes "dcSCTPr0" ++ replicate 4 0 ++ replicate 36 1) ≡ Err (codes "Invalid verification tag in state cookie")
+no_addressee_tag : cookie_at (codes "dcSCTPr0" ++ replicate 4 0 ++ replicate 44 1) ≡ Err (codes "Invalid verification tag in state cookie")
 unfolding cookie_at
 no_addressee_tag = refl
 
-no_maker_tag : cookie_at (codes "dcSCTPr0" ++ replicate 4 1 ++ replicate 4 0 ++ replicate 32 1) ≡ Err (codes "Invalid verification tag in state cookie")
+no_maker_tag : cookie_at (codes "dcSCTPr0" ++ replicate 4 1 ++ replicate 4 0 ++ replicate 40 1) ≡ Err (codes "Invalid verification tag in state cookie")
 unfolding cookie_at
 no_maker_tag = refl
 
@@ -126,6 +126,7 @@ nothing_negotiated =
 socket : Endpoint → ℕ → ℕ → Endpoint
 socket e mtu packets_sent =
     record e {
+      moment = 5_000_000_000;
       options = configured e.options mtu;
       tie = 77;
       counts = record { packets_received = 3; packets_sent = packets_sent; messages_queued = 5 };
@@ -140,27 +141,27 @@ answer a b c cookie = init_ack (record { pair = record { tag = a; first_tsn = b 
 closed_cookie : List ℕ
 closed_cookie =
     0x64 ∷ 0x63 ∷ 0x53 ∷ 0x43 ∷ 0x54 ∷ 0x50 ∷ 0x72 ∷ 0x30 ∷ 0 ∷ 0 ∷ 0 ∷ 7 ∷ 0 ∷ 0 ∷ 0 ∷ 10 ∷ 0 ∷ 0 ∷ 0 ∷ 100 ∷ 0 ∷ 0 ∷ 0 ∷ 5
-    ∷ 0 ∷ 0 ∷ 5 ∷ 0xdc ∷ 0 ∷ 0 ∷ 0 ∷ 0 ∷ 0 ∷ 0 ∷ 0 ∷ 0 ∷ 0 ∷ 1 ∷ 1 ∷ 0 ∷ 0 ∷ 0 ∷ 0 ∷ 1 ∷ 0 ∷ 40 ∷ 0 ∷ 30 ∷ []
+    ∷ 0 ∷ 0 ∷ 5 ∷ 0xdc ∷ 0 ∷ 0 ∷ 0 ∷ 0 ∷ 0 ∷ 0 ∷ 0 ∷ 0 ∷ 0 ∷ 1 ∷ 1 ∷ 0 ∷ 0 ∷ 0 ∷ 0 ∷ 1 ∷ 0 ∷ 40 ∷ 0 ∷ 30 ∷ 0 ∷ 0 ∷ 0 ∷ 1 ∷ 0x2a ∷ 0x05 ∷ 0xf2 ∷ 0 ∷ []
 
 init_where_closed : (e : Endpoint) → init_outcome (socket e 1191 4) theirs closed 5 9
     ≡ record { words = U32 5 ∷ U32 9 ∷ []; effects = draws (record { tag = 10; first_tsn = 5 }) ∷ []; after = socket e 1191 5; events = sent (record { with_checksum = false; packet = record { tag = 7; contents = answer 10 5 5242880 closed_cookie ∷ [] } }) ∷ []; following = next_chunk }
 unfolding configured theirs socket answer closed_cookie cookie_bytes list_bytes init_fields parameters_len parameter_bytes
 init_where_closed e = refl
 
--- The answer has 104 bytes: 12, 20, 4, 8, 8 and 52.
-answer_that_fits : (e : Endpoint) → (init_outcome (socket e 104 4) theirs closed 5 9).after ≡ socket e 104 5
+-- The answer has 112 bytes: 12, 20, 4, 8, 8 and 60.
+answer_that_fits : (e : Endpoint) → (init_outcome (socket e 112 4) theirs closed 5 9).after ≡ socket e 112 5
 unfolding configured theirs socket cookie_bytes list_bytes init_fields parameters_len parameter_bytes
 answer_that_fits e = refl
 
 -- It is neither sent nor counted, and yet two words are drawn.
-answer_that_does_not_fit : (e : Endpoint) → init_outcome (socket e 103 4) theirs closed 5 9 ≡ record { words = U32 5 ∷ U32 9 ∷ []; effects = draws (record { tag = 10; first_tsn = 5 }) ∷ []; after = socket e 103 4; events = []; following = next_chunk }
+answer_that_does_not_fit : (e : Endpoint) → init_outcome (socket e 111 4) theirs closed 5 9 ≡ record { words = U32 5 ∷ U32 9 ∷ []; effects = draws (record { tag = 10; first_tsn = 5 }) ∷ []; after = socket e 111 4; events = []; following = next_chunk }
 unfolding configured theirs socket cookie_bytes list_bytes init_fields parameters_len parameter_bytes
 answer_that_does_not_fit e = refl
 
 waiting_cookie : List ℕ
 waiting_cookie =
     0x64 ∷ 0x63 ∷ 0x53 ∷ 0x43 ∷ 0x54 ∷ 0x50 ∷ 0x72 ∷ 0x30 ∷ 0 ∷ 0 ∷ 0 ∷ 7 ∷ 0 ∷ 0 ∷ 0 ∷ 11 ∷ 0 ∷ 0 ∷ 0 ∷ 100 ∷ 0 ∷ 0 ∷ 0 ∷ 22
-    ∷ 0 ∷ 0 ∷ 5 ∷ 0xdc ∷ 0 ∷ 0 ∷ 0 ∷ 0 ∷ 0 ∷ 0 ∷ 0 ∷ 0 ∷ 0 ∷ 1 ∷ 1 ∷ 0 ∷ 0 ∷ 0 ∷ 0 ∷ 1 ∷ 0 ∷ 40 ∷ 0 ∷ 30 ∷ []
+    ∷ 0 ∷ 0 ∷ 5 ∷ 0xdc ∷ 0 ∷ 0 ∷ 0 ∷ 0 ∷ 0 ∷ 0 ∷ 0 ∷ 0 ∷ 0 ∷ 1 ∷ 1 ∷ 0 ∷ 0 ∷ 0 ∷ 0 ∷ 1 ∷ 0 ∷ 40 ∷ 0 ∷ 30 ∷ 0 ∷ 0 ∷ 0 ∷ 1 ∷ 0x2a ∷ 0x05 ∷ 0xf2 ∷ 0 ∷ []
 
 -- the own pair
 mine : Pair
@@ -180,7 +181,7 @@ init_in_cookie_echoed e held = refl
 open_cookie : List ℕ
 open_cookie =
     0x64 ∷ 0x63 ∷ 0x53 ∷ 0x43 ∷ 0x54 ∷ 0x50 ∷ 0x72 ∷ 0x30 ∷ 0 ∷ 0 ∷ 0 ∷ 7 ∷ 0 ∷ 0 ∷ 0 ∷ 6 ∷ 0 ∷ 0 ∷ 0 ∷ 100 ∷ 0 ∷ 0x0f ∷ 0x42 ∷ 0x3f
-    ∷ 0 ∷ 0 ∷ 5 ∷ 0xdc ∷ 0 ∷ 0 ∷ 0 ∷ 0 ∷ 0 ∷ 0 ∷ 0 ∷ 77 ∷ 0 ∷ 1 ∷ 1 ∷ 0 ∷ 0 ∷ 0 ∷ 0 ∷ 1 ∷ 0 ∷ 40 ∷ 0 ∷ 30 ∷ []
+    ∷ 0 ∷ 0 ∷ 5 ∷ 0xdc ∷ 0 ∷ 0 ∷ 0 ∷ 0 ∷ 0 ∷ 0 ∷ 0 ∷ 77 ∷ 0 ∷ 1 ∷ 1 ∷ 0 ∷ 0 ∷ 0 ∷ 0 ∷ 1 ∷ 0 ∷ 40 ∷ 0 ∷ 30 ∷ 0 ∷ 0 ∷ 0 ∷ 1 ∷ 0x2a ∷ 0x05 ∷ 0xf2 ∷ 0 ∷ []
 
 answered_where_open : Endpoint → Outcome
 answered_where_open e = record { words = U32 5 ∷ []; effects = draws (record { tag = 6; first_tsn = 999999 }) ∷ []; after = socket e 1191 5; events = sent (record { with_checksum = false; packet = record { tag = 7; contents = answer 6 999999 5242880 open_cookie ∷ [] } }) ∷ []; following = next_chunk }

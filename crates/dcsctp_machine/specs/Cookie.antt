@@ -1,5 +1,5 @@
 -- The state cookie: what its maker needs again when the COOKIE ECHO comes (RFC 9260, section 5.1.3).
-use Rattle.std.specs.Prelude.{◌==◌, ℕ, Bool, true, false, not, ◌&&◌, ◌||◌, List, [], ◌∷◌, ◌++◌, length, take, drop, Result, Ok, Err, slice_index, codes, if◌then◌else◌}
+use Rattle.std.specs.Prelude.{◌==◌, ℕ, ◌-◌, ◌^◌, min, nat_le, Bool, true, false, not, ◌&&◌, ◌||◌, List, [], ◌∷◌, ◌++◌, length, take, drop, Result, Ok, Err, slice_index, codes, if◌then◌else◌}
 use Rattle.std.specs.Int.{w16, w32, w64, to_be_bytes, from_be_bytes}
 use Rattle.dcsctp_wire.specs.Fields.{u16_at, u32_at}
 use Rattle.dcsctp_machine.specs.declared.association.Pair.{Pair}
@@ -14,6 +14,8 @@ pub record Cookie : Type 0 where
   pub window : ℕ
   -- the tie tag of the association that was open, 0 if none was (RFC 9260, section 5.2.2)
   pub tie : ℕ
+  -- when it was made, on its maker's clock
+  pub moment : ℕ
 
 -- "dcSC" and "TPr0"
 abbrev pub magic : List ℕ
@@ -23,7 +25,7 @@ abbrev pub flag_byte : Bool → ℕ
 flag_byte true = 1
 flag_byte false = 0
 
--- The 48 bytes of a cookie. The outbound streams of the INIT's sender are incoming ones here, its inbound streams outgoing ones.
+-- The 56 bytes of a cookie. The outbound streams of the INIT's sender are incoming ones here, its inbound streams outgoing ones.
 unfoldable pub cookie_bytes : Cookie → List ℕ
 cookie_bytes cookie =
     magic
@@ -37,6 +39,7 @@ cookie_bytes cookie =
     ++ to_be_bytes w32 cookie.offer.zero_checksum_method
     ++ to_be_bytes w16 cookie.offer.outbound_streams
     ++ to_be_bytes w16 cookie.offer.inbound_streams
+    ++ to_be_bytes w64 cookie.moment
 
 -- ---- reading
 
@@ -56,7 +59,7 @@ magic_text = codes "Invalid state cookie magic"
 abbrev pub tag_text : List ℕ
 tag_text = codes "Invalid verification tag in state cookie"
 
--- the fields of 48 bytes; byte 39 is not looked at
+-- the fields of 56 bytes; byte 39 is not looked at
 abbrev pub cookie_fields : List ℕ → Cookie
 cookie_fields bytes =
     record {
@@ -72,6 +75,7 @@ cookie_fields bytes =
       };
       window = u32_at 24 bytes;
       tie = u64_at 28 bytes;
+      moment = u64_at 48 bytes;
     }
 
 abbrev pub has_magic : List ℕ → Bool
@@ -83,7 +87,21 @@ has_zero_tag bytes = u32_at 8 bytes == 0 || u32_at 12 bytes == 0
 -- The cookie that the bytes spell, or why they spell none: the size, the magic, the tags, in this order.
 unfoldable pub cookie_at : List ℕ → Result Cookie (List ℕ)
 cookie_at bytes =
-    if not (length bytes == 48) then Err size_text
+    if not (length bytes == 56) then Err size_text
     else (if not (has_magic bytes) then Err magic_text
     else (if has_zero_tag bytes then Err tag_text
     else Ok (cookie_fields bytes)))
+
+-- ---- age
+
+-- A moment as a cookie has it: nanoseconds, at most the greatest number of 64 bits.
+abbrev pub cut : ℕ → ℕ
+cut moment = min moment (2 ^ 64 - 1)
+
+-- how old it is at this moment of its maker's clock; 0 if it is of a later one
+abbrev pub age : ℕ → Cookie → ℕ
+age now cookie = cut now - cookie.moment
+
+-- It is stale if it is older than this (RFC 9260, section 5.1.5).
+abbrev pub is_stale : ℕ → ℕ → Cookie → Bool
+is_stale lifetime now cookie = not (nat_le (age now cookie) lifetime)

@@ -69,6 +69,7 @@ pub record FitsCookie (cookie : Cookie) : Type 0 where
   pub names : FitsNames cookie
   pub window : cookie.window < 2 ^ 32
   pub tie : cookie.tie < 2 ^ 64
+  pub moment : cookie.moment < 2 ^ 64
 
 abbrev pub CookieReadsBack : Type 0
 CookieReadsBack = (cookie : Cookie) → FitsCookie cookie → cookie_at (cookie_bytes cookie) ≡ Ok cookie

@@ -67,6 +67,7 @@ pub record IsDefault (options : Options) : Type 0 where
   pub rto_min : as_nanos options.rto_min ≡ milliseconds 400
   pub t1_init_timeout : as_nanos options.t1_init_timeout ≡ milliseconds 1000
   pub t1_cookie_timeout : as_nanos options.t1_cookie_timeout ≡ milliseconds 1000
+  pub cookie_lifetime : as_nanos options.cookie_lifetime ≡ milliseconds 60000
   pub t2_shutdown_timeout : as_nanos options.t2_shutdown_timeout ≡ milliseconds 1000
   pub max_timer_backoff_duration : options.max_timer_backoff_duration ≡ None
   pub heartbeat_interval : as_nanos options.heartbeat_interval ≡ milliseconds 30000

@@ -64,6 +64,10 @@ pub struct Options {
     /// How long a COOKIE ACK is awaited at first.
     pub t1_cookie_timeout: Duration,
 
+    /// How old a cookie of this socket may be, by its clock, when a COOKIE ECHO brings it back (RFC 9260, section
+    /// 5.1.3). An older one makes no association. At zero one makes it only at the moment of its making.
+    pub cookie_lifetime: Duration,
+
     /// Has no effect: T2 takes the present retransmission timeout.
     pub t2_shutdown_timeout: Duration,
 
@@ -144,6 +148,7 @@ impl Default for Options {
             rto_min: Duration::from_millis(400),
             t1_init_timeout: Duration::from_secs(1),
             t1_cookie_timeout: Duration::from_secs(1),
+            cookie_lifetime: Duration::from_secs(60),
             t2_shutdown_timeout: Duration::from_secs(1),
             max_timer_backoff_duration: None,
             heartbeat_interval: Duration::from_secs(30),

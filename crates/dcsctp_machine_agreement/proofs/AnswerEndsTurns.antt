@@ -13,7 +13,7 @@ use Rattle.dcsctp_machine.specs.control.Effect.{Effect, completes, fails, Change
 use Rattle.dcsctp_machine.specs.control.Choices.{Filling, Choices}
 use Rattle.dcsctp_machine.specs.control.FlushChanges.{further_packets, reset_request, flush}
 use Rattle.dcsctp_machine.specs.control.HandshakeChanges.{introduction_of, connect_change, init_change, echo_change, held_by_init_ack, init_ack_change, cookie_ack_change, t1_again_change, t1_gives_up_change}
-use Rattle.dcsctp_machine.specs.control.CookieEchoChanges.{Resolution, establish_new, restart, simultaneous_init, discard, maintain_existing, invalid_tag, resolve, held_by_cookie, new_association_change, restart_change, maintain_change, resolved_change, read_echo_change}
+use Rattle.dcsctp_machine.specs.control.CookieEchoChanges.{Resolution, establish_new, restart, simultaneous_init, discard, maintain_existing, invalid_tag, stale, aged, resolve, held_by_cookie, new_association_change, restart_change, maintain_change, resolved_change, read_echo_change}
 use Rattle.dcsctp_machine.specs.control.ResetChanges.{re_config_change}
 use Rattle.dcsctp_machine.specs.control.ShutdownChanges.{shutdown_step_change_in, shutdown_step_change, shutdown_call_change, abort_call_change, shutdown_again_change, abort_change, shutdown_change, shutdown_ack_change, shutdown_complete_change}
 use Rattle.dcsctp_machine.specs.control.Acts.{Act, connect, t1_expires, shut_down, step_of_shutdown, shutdown_repeats, abort_with, hands_over, flushes, request_again, sent_by, flush_change, hand_over_change, request_sent, request_again_change, act_change, violation_change, plain_change, chunk_change}
@@ -81,10 +81,11 @@ resolved_ends options core cookie choices simultaneous_init = new_ends options c
 resolved_ends options core cookie choices discard = tt
 resolved_ends options core cookie choices maintain_existing = maintains_ends core cookie choices
 resolved_ends options core cookie choices invalid_tag = tt
+resolved_ends options core cookie choices stale = tt
 
 echo_ends : (options : Options) (core : Core) (header : ℕ) (read : Result Cookie (List ℕ)) (choices : Choices) → EndsNone (read_echo_change options core header read choices).effects
 echo_ends options core header (Err text) choices = tt
-echo_ends options core header (Ok cookie) choices = resolved_ends options core cookie choices (resolve core choices.tie header cookie)
+echo_ends options core header (Ok cookie) choices = resolved_ends options core cookie choices (aged choices.is_stale (resolve core choices.tie header cookie))
 
 -- ---- flushes and resets
 

@@ -1,15 +1,15 @@
--- Outside examples of the table of RFC 9260, section 5.2.4, computed by the definitions: which case a COOKIE
+-- Outside examples of the table of RFC 9260, section 5.2.4, and of a cookie's age, computed by the definitions: which case a COOKIE
 -- ECHO is, and which change nothing. A wrong rule in specs/ would not check here.
-use Rattle.std.proofs.Common.{◌≡◌, ℕ, [], ◌∷◌, ◌++◌, refl}
+use Rattle.std.proofs.Common.{◌≡◌, ℕ, true, false, [], ◌∷◌, ◌++◌, refl}
 use Rattle.std.specs.Prelude.{codes, replicate}
 use Rattle.dcsctp_wire.specs.Content.{cookie_received_while_shutting_down}
 use Rattle.dcsctp_machine.specs.declared.options.Options.{Options}
-use Rattle.dcsctp_machine.specs.Cookie.{Cookie, cookie_bytes, cookie_at}
+use Rattle.dcsctp_machine.specs.Cookie.{Cookie, cookie_bytes, cookie_at, cut}
 use Rattle.dcsctp_machine.specs.Packet.{cookie_ack, shutdown_ack, plain, error_of}
 use Rattle.dcsctp_machine.specs.Endpoint.{Core, closed, cookie_wait, cookie_echoed, established, shutdown_sent, shutdown_ack_sent, open_in}
 use Rattle.dcsctp_machine.specs.Following.{next_chunk, dropped_rest}
 use Rattle.dcsctp_machine.specs.control.Effect.{sends, holds, connects, Change}
-use Rattle.dcsctp_machine.specs.control.CookieEchoChanges.{establish_new, restart, simultaneous_init, discard, maintain_existing, invalid_tag, resolve, cookie_echo_change}
+use Rattle.dcsctp_machine.specs.control.CookieEchoChanges.{Resolution, establish_new, restart, simultaneous_init, discard, maintain_existing, invalid_tag, stale, aged, resolve, cookie_echo_change}
 use Rattle.dcsctp_machine_agreement.proofs.Schedules.{link, new, packet, cookie, configured, with_tie}
 use Rattle.dcsctp_machine_agreement.proofs.ScheduleFacts.{one, two, new_one, new_two}
 
@@ -19,6 +19,41 @@ where_open = open_in established two (new one 200 99)
 
 abbrev where_echoed : Core
 where_echoed = cookie_echoed two (new one 200 99) []
+
+-- ---- the age of a cookie
+
+-- A stale one makes no association.
+stale_establish_new : aged true establish_new ≡ stale
+stale_establish_new = refl
+
+stale_restart : aged true restart ≡ stale
+stale_restart = refl
+
+stale_simultaneous_init : aged true simultaneous_init ≡ stale
+stale_simultaneous_init = refl
+
+-- Where none would be made, its age is no matter.
+stale_discard : aged true discard ≡ discard
+stale_discard = refl
+
+stale_maintain_existing : aged true maintain_existing ≡ maintain_existing
+stale_maintain_existing = refl
+
+stale_invalid_tag : aged true invalid_tag ≡ invalid_tag
+stale_invalid_tag = refl
+
+fresh_in_each_case : (resolution : Resolution) → aged false resolution ≡ resolution
+fresh_in_each_case resolution = refl
+
+-- The last moment that a cookie can say, and the next two.
+last_moment : cut 18_446_744_073_709_551_615 ≡ 18_446_744_073_709_551_615
+last_moment = refl
+
+next_moment : cut 18_446_744_073_709_551_616 ≡ 18_446_744_073_709_551_615
+next_moment = refl
+
+later_moment : cut 18_446_744_073_709_551_617 ≡ 18_446_744_073_709_551_615
+later_moment = refl
 
 -- ---- the rows of the table
 
@@ -114,16 +149,16 @@ dropped_in_cookie_wait : (a : Options) → echo a (cookie_wait two) 8 (cookie tw
 unfolding cookie_bytes cookie_at
 dropped_in_cookie_wait a = refl
 
--- Bytes that are no cookie, in every phase: none, 48 bytes without the magic, and a cookie whose maker has no tag.
+-- Bytes that are no cookie, in every phase: none, 56 bytes without the magic, and a cookie whose maker has no tag.
 no_bytes : (a : Options) (core : Core) → cookie_echo_change (configured a) core 9 [] (with_tie 12) ≡ nothing_from core
 unfolding cookie_at
 no_bytes a core = refl
 
-no_magic : (a : Options) (core : Core) → cookie_echo_change (configured a) core 9 (replicate 48 1) (with_tie 12) ≡ nothing_from core
+no_magic : (a : Options) (core : Core) → cookie_echo_change (configured a) core 9 (replicate 56 1) (with_tie 12) ≡ nothing_from core
 unfolding cookie_at
 no_magic a core = refl
 
-no_maker_tag : (a : Options) (core : Core) → cookie_echo_change (configured a) core 0 (codes "dcSCTPr0" ++ replicate 4 1 ++ replicate 4 0 ++ replicate 32 1) (with_tie 12) ≡ nothing_from core
+no_maker_tag : (a : Options) (core : Core) → cookie_echo_change (configured a) core 0 (codes "dcSCTPr0" ++ replicate 4 1 ++ replicate 4 0 ++ replicate 40 1) (with_tie 12) ≡ nothing_from core
 unfolding cookie_at
 no_maker_tag a core = refl
 

@@ -12,8 +12,9 @@ use Rattle.dcsctp_machine.specs.Following.{next_chunk, dropped_rest}
 use Rattle.dcsctp_machine.specs.control.Effect.{Link, Effect, sends, holds, connects, link_of}
 use Rattle.dcsctp_machine.specs.control.Choices.{Choices}
 use Rattle.dcsctp_machine.specs.control.FlushChanges.{flush}
-use Rattle.dcsctp_machine.specs.control.CookieEchoChanges.{Resolution, establish_new, restart, simultaneous_init, discard, maintain_existing, invalid_tag, case_by, case_without_peer, case_with_peer, resolve, held_by_cookie, new_association_change, restart_change, maintain_change, resolved_change, read_echo_change, cookie_echo_change}
+use Rattle.dcsctp_machine.specs.control.CookieEchoChanges.{Resolution, establish_new, restart, simultaneous_init, discard, maintain_existing, invalid_tag, stale, aged, case_by, case_without_peer, case_with_peer, resolve, held_by_cookie, new_association_change, restart_change, maintain_change, resolved_change, read_echo_change, cookie_echo_change}
 use Rattle.dcsctp_machine.specs.Past.{Has}
+use Rattle.dcsctp_machine.proofs.ControlEcho.{kept_by_age}
 use Rattle.dcsctp_machine_agreement.proofs.Facts.{agreed_link, TrueEcho, TrueAck, PeerFacts, TrueCore}
 use Rattle.dcsctp_machine_agreement.proofs.Flushes.{flush_true, flush_peer}
 use Rattle.dcsctp_machine_agreement.proofs.Turns.{Kept, dropped_kept, open_kept, SameTag}
@@ -173,6 +174,8 @@ resolved_kept options their_offer mine theirs core header bytes behind choices m
     maintains_kept (offer_of options) their_offer mine theirs core header bytes behind choices my_tags their_tags h echo delivered (is refl)
 resolved_kept options their_offer mine theirs core header bytes behind choices invalid_tag my_tags their_tags h echo delivered is =
     dropped_kept (offer_of options) their_offer mine theirs core h
+resolved_kept options their_offer mine theirs core header bytes behind choices stale my_tags their_tags h echo delivered is =
+    dropped_kept (offer_of options) their_offer mine theirs core h
 
 pub cookie_echo_kept : (options : Options) (their_offer : Offer) (mine theirs : List Effect) (core : Core) (header : ℕ) (bytes : List ℕ) (behind : List Content) (choices : Choices)
     → SameTag mine → SameTag theirs → TrueCore (offer_of options) their_offer mine theirs core → TrueEcho their_offer (offer_of options) theirs mine header bytes
@@ -180,4 +183,5 @@ pub cookie_echo_kept : (options : Options) (their_offer : Offer) (mine theirs : 
     → Kept (offer_of options) their_offer mine theirs (cookie_echo_change options core header bytes choices)
 cookie_echo_kept options their_offer mine theirs core header bytes behind choices my_tags their_tags h echo delivered =
     subst (λ (r : Result Cookie (List ℕ)). Kept (offer_of options) their_offer mine theirs (read_echo_change options core header r choices)) (sym echo.reads)
-    (resolved_kept options their_offer mine theirs core header bytes behind choices (resolve core choices.tie header echo.cookie) my_tags their_tags h echo delivered (maintained_in core choices.tie header echo.cookie))
+    (resolved_kept options their_offer mine theirs core header bytes behind choices (aged choices.is_stale (resolve core choices.tie header echo.cookie)) my_tags their_tags h echo delivered
+    (λ case. maintained_in core choices.tie header echo.cookie (kept_by_age choices.is_stale (resolve core choices.tie header echo.cookie) case)))

@@ -19,11 +19,11 @@ same_number : (n : ℕ) → (n == n) ≡ true
 same_number n = grind (arith, nat_tests)
 
 -- a cookie of the two pairs and of the first side's offer, with what it says else
-abbrev made : Options → Handshake → ℕ → ℕ → Cookie
-made options_a handshake window tie = record { maker = handshake.b; addressee = handshake.a; offer = offer_of options_a; window = window; tie = tie }
+abbrev made : Options → Handshake → ℕ → ℕ → ℕ → Cookie
+made options_a handshake window tie moment = record { maker = handshake.b; addressee = handshake.a; offer = offer_of options_a; window = window; tie = tie; moment = moment }
 
 reads_as_made : (options_a : Options) (handshake : Handshake) (reads : CookieReads options_a handshake)
-    → cookie_at handshake.cookie ≡ Ok (made options_a handshake reads.0.window reads.0.tie)
+    → cookie_at handshake.cookie ≡ Ok (made options_a handshake reads.0.window reads.0.tie reads.0.moment)
 reads_as_made options_a handshake reads =
     let cookie : Cookie = reads.0 in
     reads.1 ∙ ap (λ (c : Cookie). let r : Result Cookie (List ℕ) = Ok c in r)
@@ -33,10 +33,10 @@ reads_as_made options_a handshake reads =
 
 -- COOKIE ECHO makes the association
 establishes : (options_a options_b : Options) (handshake : Handshake) (reads : CookieReads options_a handshake)
-    → cookie_echo_worked options_a options_b handshake ≡ new_association_change options_b (made options_a handshake reads.0.window reads.0.tie) (choices_for handshake handshake.b)
+    → cookie_echo_worked options_a options_b handshake ≡ new_association_change options_b (made options_a handshake reads.0.window reads.0.tie reads.0.moment) (choices_for handshake handshake.b)
 establishes options_a options_b handshake reads =
     ap (λ (r : Result Cookie (List ℕ)). read_echo_change options_b closed handshake.b.tag r (choices_for handshake handshake.b)) (reads_as_made options_a handshake reads)
-    ∙ ap (λ (b : Bool). resolved_change options_b closed (made options_a handshake reads.0.window reads.0.tie) (choices_for handshake handshake.b) (case_without_peer b)) (same_number handshake.b.tag)
+    ∙ ap (λ (b : Bool). resolved_change options_b closed (made options_a handshake reads.0.window reads.0.tie reads.0.moment) (choices_for handshake handshake.b) (case_without_peer b)) (same_number handshake.b.tag)
 
 -- the steps, by what the COOKIE ECHO brings
 abbrev steps_from : Options → Options → Handshake → Change → List Step
@@ -54,7 +54,7 @@ record Leads (options_a options_b : Options) (handshake : Handshake) (echoed : C
   connected : Connected options_a options_b handshake (world_after options_a options_b (steps_from options_a options_b handshake echoed))
 
 leads : AnswerKeepsAgreement → (options_a options_b : Options) (handshake : Handshake) (reads : CookieReads options_a handshake)
-    → Leads options_a options_b handshake (new_association_change options_b (made options_a handshake reads.0.window reads.0.tie) (choices_for handshake handshake.b))
+    → Leads options_a options_b handshake (new_association_change options_b (made options_a handshake reads.0.window reads.0.tie reads.0.moment) (choices_for handshake handshake.b))
 leads law options_a options_b handshake reads =
     record {
       run = (

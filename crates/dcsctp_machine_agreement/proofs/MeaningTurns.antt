@@ -15,7 +15,7 @@ use Rattle.dcsctp_machine.specs.control.ResumeChanges.{resumed_held}
 use Rattle.dcsctp_machine.specs.control.Choices.{Filling, Choices}
 use Rattle.dcsctp_machine.specs.control.FlushChanges.{reset_request, Flushed, flush}
 use Rattle.dcsctp_machine.specs.control.HandshakeChanges.{introduction_of, connect_change, init_change, echo_change, held_by_init_ack, init_ack_change, cookie_ack_change, t1_again_change, t1_gives_up_change}
-use Rattle.dcsctp_machine.specs.control.CookieEchoChanges.{Resolution, establish_new, restart, simultaneous_init, discard, maintain_existing, invalid_tag, resolve, held_by_cookie, new_association_change, restart_change, maintain_change, resolved_change, read_echo_change}
+use Rattle.dcsctp_machine.specs.control.CookieEchoChanges.{Resolution, establish_new, restart, simultaneous_init, discard, maintain_existing, invalid_tag, stale, aged, resolve, held_by_cookie, new_association_change, restart_change, maintain_change, resolved_change, read_echo_change}
 use Rattle.dcsctp_machine.specs.control.ResetChanges.{re_config_change, reset_worked}
 use Rattle.dcsctp_machine.specs.control.ShutdownChanges.{shutdown_step_change}
 use Rattle.dcsctp_machine.specs.control.Acts.{Act, connect, t1_expires, shut_down, step_of_shutdown, shutdown_repeats, abort_with, hands_over, flushes, request_again, sent_by, flush_change, request_sent, request_again_change, act_change, violation_change, plain_change, chunk_change}
@@ -120,10 +120,11 @@ resolved_meant options core cookie choices simultaneous_init = new_meant options
 resolved_meant options core cookie choices discard = same_meant refl tt
 resolved_meant options core cookie choices maintain_existing = maintains_meant core cookie choices
 resolved_meant options core cookie choices invalid_tag = same_meant refl tt
+resolved_meant options core cookie choices stale = same_meant refl tt
 
 echo_meant : (options : Options) (core : Core) (header : ℕ) (read : Result Cookie (List ℕ)) (choices : Choices) → Meant core (read_echo_change options core header read choices)
 echo_meant options core header (Err text) choices = same_meant refl tt
-echo_meant options core header (Ok cookie) choices = resolved_meant options core cookie choices (resolve core choices.tie header cookie)
+echo_meant options core header (Ok cookie) choices = resolved_meant options core cookie choices (aged choices.is_stale (resolve core choices.tie header cookie))
 
 -- ---- flushes and resets
 

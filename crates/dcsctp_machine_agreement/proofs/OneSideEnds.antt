@@ -13,7 +13,7 @@ use Rattle.dcsctp_machine.specs.control.Effect.{Link, Effect, holds, Change, lin
 use Rattle.dcsctp_machine.specs.control.Choices.{Filling, Choices}
 use Rattle.dcsctp_machine.specs.control.FlushChanges.{reset_request}
 use Rattle.dcsctp_machine.specs.control.HandshakeChanges.{connect_change, init_change, echo_change, held_by_init_ack, init_ack_change, cookie_ack_change, t1_again_change, t1_gives_up_change}
-use Rattle.dcsctp_machine.specs.control.CookieEchoChanges.{Resolution, establish_new, restart, simultaneous_init, discard, maintain_existing, invalid_tag, resolve, held_by_cookie, new_association_change, restart_change, maintain_change, resolved_change, read_echo_change}
+use Rattle.dcsctp_machine.specs.control.CookieEchoChanges.{Resolution, establish_new, restart, simultaneous_init, discard, maintain_existing, invalid_tag, stale, aged, resolve, held_by_cookie, new_association_change, restart_change, maintain_change, resolved_change, read_echo_change}
 use Rattle.dcsctp_machine.specs.control.ResetChanges.{re_config_change}
 use Rattle.dcsctp_machine.specs.control.ShutdownChanges.{shutdown_step_change_in, shutdown_step_change, shutdown_call_change, abort_call_change, shutdown_again_change, abort_change, shutdown_change, shutdown_ack_change, shutdown_complete_change}
 use Rattle.dcsctp_machine.specs.control.Acts.{Act, connect, t1_expires, shut_down, step_of_shutdown, shutdown_repeats, abort_with, hands_over, flushes, request_again, flush_change, hand_over_change, request_sent, request_again_change, act_change, then_changes, violation_change, plain_change, chunk_change}
@@ -109,10 +109,11 @@ resolved_ends_once options core cookie choices simultaneous_init = new_ends_once
 resolved_ends_once options core cookie choices discard = stays refl
 resolved_ends_once options core cookie choices maintain_existing = maintains_ends_once core cookie choices
 resolved_ends_once options core cookie choices invalid_tag = stays refl
+resolved_ends_once options core cookie choices stale = stays refl
 
 echo_ends_once : (options : Options) (core : Core) (header : ℕ) (read : Result Cookie (List ℕ)) (choices : Choices) → OneEnd core (read_echo_change options core header read choices)
 echo_ends_once options core header (Err text) choices = stays refl
-echo_ends_once options core header (Ok cookie) choices = resolved_ends_once options core cookie choices (resolve core choices.tie header cookie)
+echo_ends_once options core header (Ok cookie) choices = resolved_ends_once options core cookie choices (aged choices.is_stale (resolve core choices.tie header cookie))
 
 -- ---- flushes and resets
 

@@ -11,7 +11,7 @@ use Rattle.dcsctp_machine.specs.Endpoint.{Core, closed, cookie_wait, cookie_echo
 use Rattle.dcsctp_machine.specs.control.Effect.{Link, Effect, draws, sends, holds, connects, ends, Change, emitted, emitted_alone, link_of}
 use Rattle.dcsctp_machine.specs.control.Choices.{Filling, Choices}
 use Rattle.dcsctp_machine.specs.control.HandshakeChanges.{introduction_of, connect_change, init_change, echo_change, held_by_init_ack, init_ack_change, cookie_ack_change, t1_again_change, t1_gives_up_change}
-use Rattle.dcsctp_machine.specs.control.CookieEchoChanges.{Resolution, establish_new, restart, simultaneous_init, discard, maintain_existing, invalid_tag, resolve, held_by_cookie, new_association_change, restart_change, maintain_change, resolved_change, read_echo_change}
+use Rattle.dcsctp_machine.specs.control.CookieEchoChanges.{Resolution, establish_new, restart, simultaneous_init, discard, maintain_existing, invalid_tag, stale, aged, resolve, held_by_cookie, new_association_change, restart_change, maintain_change, resolved_change, read_echo_change}
 use Rattle.dcsctp_machine.specs.Past.{Each, InPlace, current}
 use Rattle.dcsctp_machine.specs.World.{after_effects}
 use Rattle.dcsctp_machine_agreement.proofs.OneSideLemmas.{Stands, stands-sends, stands-draws, stands-connects, stands-new, flush_leads}
@@ -149,7 +149,8 @@ resolved_keeps options core cookie choices simultaneous_init past good = new_kee
 resolved_keeps options core cookie choices discard past good = good
 resolved_keeps options core cookie choices maintain_existing past good = maintains_keeps core cookie choices past good
 resolved_keeps options core cookie choices invalid_tag past good = good
+resolved_keeps options core cookie choices stale past good = good
 
 pub echo_keeps : (options : Options) (core : Core) (header : ℕ) (read : Result Cookie (List ℕ)) (choices : Choices) → Keeps core (read_echo_change options core header read choices)
 echo_keeps options core header (Err text) choices past good = good
-echo_keeps options core header (Ok cookie) choices past good = resolved_keeps options core cookie choices (resolve core choices.tie header cookie) past good
+echo_keeps options core header (Ok cookie) choices past good = resolved_keeps options core cookie choices (aged choices.is_stale (resolve core choices.tie header cookie)) past good

@@ -61,7 +61,7 @@ packet tag content = record { tag = tag; contents = content ∷ [] }
 
 -- the cookie of this maker for this addressee, with this tie tag
 abbrev pub cookie : Pair → Pair → ℕ → Cookie
-cookie maker addressee tie = record { maker = maker; addressee = addressee; offer = offer; window = 5242880; tie = tie }
+cookie maker addressee tie = record { maker = maker; addressee = addressee; offer = offer; window = 5242880; tie = tie; moment = 0 }
 
 abbrev pub bytes_of : Pair → Pair → ℕ → List ℕ
 bytes_of maker addressee tie = cookie_bytes (cookie maker addressee tie)

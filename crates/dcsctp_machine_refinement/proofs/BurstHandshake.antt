@@ -15,8 +15,8 @@ use Rattle.dcsctp_machine.specs.turns.FlushOutcomes.{Answer, draft_to, flush_of,
 use Rattle.dcsctp_machine.specs.turns.EndOutcomes.{abort_outcome, abort_to, end_of, aborting_outcome}
 use Rattle.dcsctp_machine.specs.turns.HandshakeOutcomes.{pair_from, renewed_pair, init_ack_emission, init_outcome, init_emission, awaits_init_ack, connect_outcome, no_cookie_text, abort_emission, awaits_cookie_ack, InitAckAnswers, init_ack_by, connected_after, CookieAckAnswers, cookie_ack_by}
 use Rattle.dcsctp_machine.specs.turns.TimerOutcomes.{AgainAnswers, again_by, t1_gives_up_outcome}
-use Rattle.dcsctp_machine.specs.turns.CookieEchoOutcomes.{established_by, acknowledgement, EstablishAnswers, queue_kept, queue_begun, RestartAnswers, restart_by_where, MaintainAnswers, maintain_by, ResolvedAnswers, resolved_by, EchoedAnswers, cookie_echo_by}
-use Rattle.dcsctp_machine.specs.control.CookieEchoChanges.{held_by_cookie, Resolution, establish_new, restart, simultaneous_init, discard, maintain_existing, invalid_tag, resolve}
+use Rattle.dcsctp_machine.specs.turns.CookieEchoOutcomes.{resolved_now, established_by, acknowledgement, EstablishAnswers, queue_kept, queue_begun, RestartAnswers, restart_by_where, MaintainAnswers, maintain_by, ResolvedAnswers, resolved_by, EchoedAnswers, cookie_echo_by}
+use Rattle.dcsctp_machine.specs.control.CookieEchoChanges.{held_by_cookie, Resolution, establish_new, restart, simultaneous_init, discard, maintain_existing, invalid_tag, stale}
 use Rattle.dcsctp_machine_refinement.specs.Bursts.{packets_of_chunk, packets_of_t1}
 use Rattle.dcsctp_machine_refinement.proofs.Bursts.{count, append_few, Few, none, emits_few, HasPeer, allowed_after, IsBurst, flush_is_burst, echo_is_burst}
 
@@ -103,11 +103,12 @@ resolved_echoed e cookie core word simultaneous_init answers is allowed = establ
 resolved_echoed e cookie core word discard answers is allowed = nothing_of _
 resolved_echoed e cookie core word maintain_existing answers is allowed = maintained_echoed e cookie core answers is allowed
 resolved_echoed e cookie core word invalid_tag answers is allowed = nothing_of _
+resolved_echoed e cookie core word stale answers is allowed = nothing_of _
 
 pub echo_counts : (e : Endpoint) (core : Core) (header : ℕ) (found : Result Cookie (List ℕ)) (word : ℕ) (answers : List Answer) → e.core ≡ core → EchoedAnswers e core header found word answers
     → IsEchoed (cookie_echo_by (flush_answered answers) e core header found word)
 echo_counts e core header (Err text) word answers is allowed = nothing_of _
-echo_counts e core header (Ok cookie) word answers is allowed = resolved_echoed e cookie core word (resolve core e.tie header cookie) answers is allowed
+echo_counts e core header (Ok cookie) word answers is allowed = resolved_echoed e cookie core word (resolved_now e core header cookie) answers is allowed
 
 -- ---- ends, and T1
 

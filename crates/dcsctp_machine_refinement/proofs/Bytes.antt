@@ -35,7 +35,7 @@ unread text = Err text
 -- ---- a cookie
 
 -- so many bytes
-pub length_of_cookie : (cookie : Cookie) → length (cookie_bytes cookie) ≡ 48
+pub length_of_cookie : (cookie : Cookie) → length (cookie_bytes cookie) ≡ 56
 unfolding cookie_bytes
 length_of_cookie cookie = refl
 
@@ -43,7 +43,8 @@ pub in_cookie : (cookie : Cookie) → AllByRecursion IsByte (cookie_bytes cookie
 unfolding cookie_bytes
 in_cookie cookie =
     let flags : List ℕ = flag_byte cookie.offer.partial_reliability ∷ flag_byte cookie.offer.message_interleaving ∷ flag_byte cookie.offer.reconfig ∷ 0 ∷ [] in
-    let from_outbound : List ℕ = to_be_bytes w16 cookie.offer.outbound_streams ++ to_be_bytes w16 cookie.offer.inbound_streams in
+    let from_inbound : List ℕ = to_be_bytes w16 cookie.offer.inbound_streams ++ to_be_bytes w64 cookie.moment in
+    let from_outbound : List ℕ = to_be_bytes w16 cookie.offer.outbound_streams ++ from_inbound in
     let from_method : List ℕ = to_be_bytes w32 cookie.offer.zero_checksum_method ++ from_outbound in
     let from_flags : List ℕ = flags ++ from_method in
     let from_tie : List ℕ = to_be_bytes w64 cookie.tie ++ from_flags in
@@ -62,7 +63,8 @@ in_cookie cookie =
     (both flags from_method
     (flag_is_byte cookie.offer.partial_reliability, (flag_is_byte cookie.offer.message_interleaving, (flag_is_byte cookie.offer.reconfig, (omega arith, tt))))
     (both (to_be_bytes w32 cookie.offer.zero_checksum_method) from_outbound (in_four cookie.offer.zero_checksum_method)
-    (both (to_be_bytes w16 cookie.offer.outbound_streams) (to_be_bytes w16 cookie.offer.inbound_streams) (in_two cookie.offer.outbound_streams) (in_two cookie.offer.inbound_streams))))))))))
+    (both (to_be_bytes w16 cookie.offer.outbound_streams) from_inbound (in_two cookie.offer.outbound_streams)
+    (both (to_be_bytes w16 cookie.offer.inbound_streams) (to_be_bytes w64 cookie.moment) (in_two cookie.offer.inbound_streams) (in_eight cookie.moment)))))))))))
 
 -- ---- numbers that are read
 
@@ -124,4 +126,4 @@ by_size false bytes cookie in_bytes found = by_magic (not (has_magic bytes)) byt
 
 pub read_pairs_fit : (bytes : List ℕ) (cookie : Cookie) → AllByRecursion IsByte bytes → cookie_at bytes ≡ Ok cookie → ReadPairs cookie
 unfolding cookie_at
-read_pairs_fit bytes cookie in_bytes found = by_size (not (eqb (length bytes) 48)) bytes cookie in_bytes found
+read_pairs_fit bytes cookie in_bytes found = by_size (not (eqb (length bytes) 56)) bytes cookie in_bytes found

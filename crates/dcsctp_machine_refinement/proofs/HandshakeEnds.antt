@@ -17,7 +17,7 @@ use Rattle.dcsctp_machine.specs.Turn.{act_input}
 use Rattle.dcsctp_machine.specs.turns.HandshakeOutcomes.{pair_from, echo_emission, connected_after}
 use Rattle.dcsctp_machine.specs.turns.CookieEchoOutcomes.{established_by, interleaves, queue_kept, EstablishAnswers, ResolvedAnswers, EchoedAnswers, resolved_by, cookie_echo_by, establish_outcome}
 use Rattle.dcsctp_machine.specs.turns.FlushOutcomes.{FlushKind, flush_answered}
-use Rattle.dcsctp_machine.specs.control.CookieEchoChanges.{held_by_cookie, case_without_peer}
+use Rattle.dcsctp_machine.specs.control.CookieEchoChanges.{Resolution, held_by_cookie}
 use Rattle.dcsctp_machine.specs.control.HandshakeChanges.{introduction_of, new_held, held_by_init_ack}
 use Rattle.dcsctp_machine.specs.control.Acts.{connect}
 use Rattle.dcsctp_machine.specs.control.Effect.{Effect, holds, connects, link_of}
@@ -29,7 +29,7 @@ use Rattle.dcsctp_machine.proofs.FlushLemmas.{establish_now, cookie_ack_turn_now
 use Rattle.dcsctp_machine_refinement.specs.Handshake.{IsConnected}
 use Rattle.dcsctp_machine_refinement.proofs.Bytes.{length_of_cookie, in_cookie}
 use Rattle.dcsctp_machine_refinement.proofs.HandshakeReads.{counted_at, delivered, IsTaken, Taken, taken}
-use Rattle.dcsctp_machine_refinement.proofs.HandshakeTurns.{HandshakeLaws, Good, same_tag, not_zero, method_checked, Begins, begins, connecting, taken_as, asked, Answers, answers, answering, waiting, made_cookie, answer_to, awaiting, Echoes, echoes, echoing}
+use Rattle.dcsctp_machine_refinement.proofs.HandshakeTurns.{HandshakeLaws, Good, same_tag, not_zero, method_checked, Begins, begins, connecting, taken_as, asked, Answers, answers, answering, waiting, made_cookie, case_at_start, answer_to, awaiting, Echoes, echoes, echoing}
 use Rattle.dcsctp_machine_refinement.proofs.Sendable.{echo_sendable, ack_sendable}
 use Rattle.dcsctp_machine_refinement.proofs.TurnsFit.{drawn_fits}
 
@@ -74,6 +74,7 @@ cookie_reads law a p q good mine own =
       };
       window = good.valid.receive_window;
       tie = omega arith;
+      moment = omega arith;
     })
 
 -- its COOKIE ACK goes out
@@ -95,12 +96,12 @@ establishes_by law a b p q turns good_a good_b mine own h =
     let flush : FlushKind = flush_answered h.comes.1 in
     let reads : cookie_at bytes ≡ Ok cookie = cookie_reads law a p q good_a mine own in
     let allowed : EstablishAnswers e cookie (queue_kept e cookie) word h.comes.1 =
-    subst (λ (x : Bool). ResolvedAnswers e cookie closed word (case_without_peer x) h.comes.1) (same_tag q.tag)
+    subst (λ (case : Resolution). ResolvedAnswers e cookie closed word case h.comes.1) (case_at_start e a p q refl)
     (subst (λ (found : Result Cookie (List ℕ)). EchoedAnswers e closed q.tag found word h.comes.1) reads h.comes.2) in
     let is : h.outcome ≡ establish_outcome e cookie (queue_kept e cookie) word (connected ∷ []) =
     h.comes.3
     ∙ ap (λ (found : Result Cookie (List ℕ)). cookie_echo_by flush e closed q.tag found word) reads
-    ∙ ap (λ (x : Bool). resolved_by flush e cookie closed word (case_without_peer x)) (same_tag q.tag)
+    ∙ ap (λ (case : Resolution). resolved_by flush e cookie closed word case) (case_at_start e a p q refl)
     ∙ establish_now e cookie (queue_kept e cookie) word (connected ∷ []) h.comes.1 refl allowed in
     record { tie = word; only = taken_as (answered b) q.tag (cookie_echo bytes) turns h _ (is ∙ established_sends a b p q word good_b) refl (refl, refl) }
 

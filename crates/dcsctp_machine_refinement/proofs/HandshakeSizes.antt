@@ -1,4 +1,4 @@
--- Each packet of the handshake fits in 104 bytes.
+-- Each packet of the handshake fits in 112 bytes.
 use Rattle.std.proofs.Common.{◌≡◌, ◌≤◌, ℕ, ◌+◌, Bool, true, false, eqb, None, Some, [], ◌∷◌, ◌++◌, length, ap, arith}
 use Rattle.std.specs.Prelude.{nat_le}
 use Rattle.std.specs.List.{flat_map}
@@ -20,11 +20,11 @@ use Rattle.dcsctp_machine.specs.control.HandshakeChanges.{introduction_of, answe
 use Rattle.dcsctp_machine_refinement.proofs.Sendable.{parameters_by}
 
 -- the limit of such options
-limit : (options : Options) → 104 ≤ options.mtu → 104 ≤ packet_size_limit options
+limit : (options : Options) → 112 ≤ options.mtu → 112 ≤ packet_size_limit options
 limit options large = omega arith
 
--- what fits in 104 bytes fits
-small_fits : (len size : ℕ) → len ≤ 104 → 104 ≤ size → nat_le len size ≡ true
+-- what fits in 112 bytes fits
+small_fits : (len size : ℕ) → len ≤ 112 → 112 ≤ size → nat_le len size ≡ true
 small_fits len size small large = grind (arith, nat_tests)
 
 -- the length of INIT or INIT ACK with these parameters in bytes
@@ -44,7 +44,7 @@ len_without false false true method = omega arith
 len_without false false false method = omega arith
 
 len_with : (partial interleaving no_method : Bool) (method : ℕ) (cookie : Cookie)
-    → length (flat_map parameter_bytes (parameters_by partial interleaving no_method method ++ state_cookie (cookie_bytes cookie) ∷ [])) ≤ 72
+    → length (flat_map parameter_bytes (parameters_by partial interleaving no_method method ++ state_cookie (cookie_bytes cookie) ∷ [])) ≤ 80
 unfolding parameter_bytes cookie_bytes
 len_with true true true method cookie = omega arith
 len_with true true false method cookie = omega arith
@@ -55,21 +55,21 @@ len_with false true false method cookie = omega arith
 len_with false false true method cookie = omega arith
 len_with false false false method cookie = omega arith
 
-pub init_fits : (e : Endpoint) (mine : Pair) → 104 ≤ e.options.mtu → fits e (init_emission e mine) ≡ true
+pub init_fits : (e : Endpoint) (mine : Pair) → 112 ≤ e.options.mtu → fits e (init_emission e mine) ≡ true
 init_fits e mine large =
     let method : ℕ = e.options.zero_checksum_alternate_error_detection_method.0 in
     let parameters = len_without e.options.enable_partial_reliability e.options.enable_message_interleaving (eqb method 0) method in
     small_fits _ (packet_size_limit e.options) (omega (arith, chunk_len init_type (introduction_out (introduction_of e.options mine) None) 20 parameters)) (limit e.options large)
 
-pub init_ack_fits : (e : Endpoint) (theirs : Introduction) (mine : Pair) (tie : ℕ) → 104 ≤ e.options.mtu → fits e (init_ack_emission e theirs mine tie) ≡ true
+pub init_ack_fits : (e : Endpoint) (theirs : Introduction) (mine : Pair) (tie : ℕ) → 112 ≤ e.options.mtu → fits e (init_ack_emission e theirs mine tie) ≡ true
 init_ack_fits e theirs mine tie large =
     let method : ℕ = agreed_method (offer_of e.options) theirs.offer in
-    let parameters = len_with e.options.enable_partial_reliability e.options.enable_message_interleaving (eqb method 0) method (cookie_for theirs mine tie) in
-    small_fits _ (packet_size_limit e.options) (omega (arith, chunk_len init_ack_type (introduction_out (answering_introduction e.options theirs mine) (Some (cookie_bytes (cookie_for theirs mine tie)))) 72 parameters)) (limit e.options large)
+    let parameters = len_with e.options.enable_partial_reliability e.options.enable_message_interleaving (eqb method 0) method (cookie_for e.moment theirs mine tie) in
+    small_fits _ (packet_size_limit e.options) (omega (arith, chunk_len init_ack_type (introduction_out (answering_introduction e.options theirs mine) (Some (cookie_bytes (cookie_for e.moment theirs mine tie)))) 80 parameters)) (limit e.options large)
 
-echo_len : (cookie : Cookie) → contents_len (cookie_echo (cookie_bytes cookie) ∷ []) ≤ 52
+echo_len : (cookie : Cookie) → contents_len (cookie_echo (cookie_bytes cookie) ∷ []) ≤ 60
 unfolding other_bytes cookie_bytes
 echo_len cookie = omega arith
 
-pub echo_fits : (e : Endpoint) (tag : ℕ) (cookie : Cookie) → 104 ≤ e.options.mtu → fits e (echo_emission tag (cookie_bytes cookie)) ≡ true
+pub echo_fits : (e : Endpoint) (tag : ℕ) (cookie : Cookie) → 112 ≤ e.options.mtu → fits e (echo_emission tag (cookie_bytes cookie)) ≡ true
 echo_fits e tag cookie large = small_fits _ (packet_size_limit e.options) (omega (arith, echo_len cookie)) (limit e.options large)

@@ -1,6 +1,8 @@
 -- The five calls of a handshake between two fitting sockets, one after another. The one that connects has the options
 -- a and the pair p, the other the options b and the pair q.
-use Rattle.std.proofs.Common.{◌≡◌, ◌≢◌, ◌≤◌, ℕ, Bool, true, false, cond, eqb, None, Some, List, [], ◌∷◌, ◌⊎◌, inl, inr, refl, sym, subst, ap, ◌∙◌, arith}
+use Rattle.std.proofs.Common.{◌≡◌, ◌≢◌, ◌≤◌, ℕ, Bool, true, false, cond, not, eqb, None, Some, List, [], ◌∷◌, ◌⊎◌, inl, inr, refl, sym, subst, ap, ◌∙◌, arith}
+use Rattle.std.specs.Prelude.{nat_le}
+use Rattle.std.specs.Duration.{as_nanos}
 use Rattle.std.proofs.lemmas.Bool.Decides.{nat_tests}
 use Rattle.dcsctp_machine.specs.declared.association.Pair.{Pair}
 use Rattle.dcsctp_machine.specs.declared.options.Options.{Options}
@@ -8,12 +10,14 @@ use Rattle.dcsctp_machine.specs.declared.word.Word.{Word}
 use Rattle.dcsctp_machine.specs.declared.word.Word.TheVariants.{U32, U64}
 use Rattle.dcsctp_machine.specs.Settings.{IsValid, FitsOptions, ports_of}
 use Rattle.dcsctp_machine.specs.Offer.{offer_of, agreed_method}
-use Rattle.dcsctp_machine.specs.Cookie.{Cookie, cookie_bytes}
+use Rattle.dcsctp_machine.specs.Cookie.{Cookie, cookie_bytes, is_stale}
 use Rattle.dcsctp_machine.specs.Packet.{Introduction, Content, init, init_ack, Packet, Emission, emission_bytes}
 use Rattle.dcsctp_machine.specs.Endpoint.{Endpoint, Core, closed, cookie_wait, fresh_endpoint, own_tag}
 use Rattle.dcsctp_machine.specs.Outcome.{Outcome, noting, quiet, sends, counted, drawing}
 use Rattle.dcsctp_machine.specs.Turn.{act_input}
 use Rattle.dcsctp_machine.specs.turns.FlushOutcomes.{allows_packet}
+use Rattle.dcsctp_machine.specs.control.CookieEchoChanges.{establish_new, aged, case_without_peer}
+use Rattle.dcsctp_machine.specs.turns.CookieEchoOutcomes.{resolved_now}
 use Rattle.dcsctp_machine.specs.turns.HandshakeOutcomes.{pair_from, init_emission, awaits_init_ack, init_ack_emission, cookie_for, awaits_cookie_ack, echo_emission, init_outcome, init_ack_outcome, connect_outcome}
 use Rattle.dcsctp_machine.specs.control.HandshakeChanges.{introduction_of, answering_introduction, held_by_init_ack}
 use Rattle.dcsctp_machine.specs.control.Acts.{connect}
@@ -74,7 +78,7 @@ pub record Begins (a : Options) (turns : List Turned) : Type 0 where
   pub next : ℕ
   pub only : turns ≡ turned (act_input connect) (connecting a word next) ∷ []
 
-pub connect_sends : (a : Options) (word next : ℕ) → 104 ≤ a.mtu → connect_outcome (fresh_endpoint a) closed word next ≡ connecting a word next
+pub connect_sends : (a : Options) (word next : ℕ) → 112 ≤ a.mtu → connect_outcome (fresh_endpoint a) closed word next ≡ connecting a word next
 connect_sends a word next large =
     let e : Endpoint = awaits_init_ack (fresh_endpoint a) (pair_from word next) in
     let emission : Emission = init_emission (fresh_endpoint a) (pair_from word next) in
@@ -108,7 +112,7 @@ pub record Answers (a b : Options) (p : Pair) (turns : List Turned) : Type 0 whe
   pub next : ℕ
   pub only : turns ≡ delivered (fresh_endpoint b) 0 (init (introduction_of a p)) (answering a b p word next)
 
-pub answer_sends : (a b : Options) (p : Pair) (word next : ℕ) → 104 ≤ b.mtu → init_outcome (asked b) (introduction_of a p) closed word next ≡ answering a b p word next
+pub answer_sends : (a b : Options) (p : Pair) (word next : ℕ) → 112 ≤ b.mtu → init_outcome (asked b) (introduction_of a p) closed word next ≡ answering a b p word next
 answer_sends a b p word next large =
     let emission : Emission = init_ack_emission (asked b) (introduction_of a p) (pair_from word next) 0 in
     let words : List Word = U32 word ∷ U32 next ∷ [] in
@@ -150,7 +154,18 @@ abbrev pub waiting : Options → Pair → Endpoint
 waiting a p = counted (awaits_init_ack (fresh_endpoint a) p)
 
 abbrev pub made_cookie : Options → Pair → Pair → Cookie
-made_cookie a p q = cookie_for (introduction_of a p) q 0
+made_cookie a p q = cookie_for 0 (introduction_of a p) q 0
+
+-- At the start of the clocks a cookie isn't stale, whatever its lifetime.
+zero_age : (lifetime : ℕ) → not (nat_le 0 lifetime) ≡ false
+zero_age lifetime = grind (arith, nat_tests)
+
+pub case_at_start : (e : Endpoint) (a : Options) (p q : Pair) → e.moment ≡ 0 → resolved_now e closed q.tag (made_cookie a p q) ≡ establish_new
+case_at_start e a p q at =
+    let lifetime : ℕ = as_nanos e.options.cookie_lifetime in
+    ap (λ (now : ℕ). aged (is_stale lifetime now (made_cookie a p q)) (case_without_peer (eqb q.tag q.tag))) at
+    ∙ ap (λ (old : Bool). aged old (case_without_peer (eqb q.tag q.tag))) (zero_age lifetime)
+    ∙ ap case_without_peer (same_tag q.tag)
 
 abbrev pub answer_to : Options → Options → Pair → Pair → Introduction
 answer_to a b p q = answering_introduction b (introduction_of a p) q

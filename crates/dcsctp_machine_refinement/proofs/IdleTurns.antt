@@ -10,10 +10,10 @@ use Rattle.dcsctp_machine.specs.Endpoint.{Endpoint, Core, closed, cookie_wait, c
 use Rattle.dcsctp_machine.specs.Outcome.{Outcome, noting, fits}
 use Rattle.dcsctp_machine.specs.control.Effect.{connects, holds, link_of}
 use Rattle.dcsctp_machine.specs.control.HandshakeChanges.{held_by_init_ack}
-use Rattle.dcsctp_machine.specs.control.CookieEchoChanges.{Resolution, establish_new, resolve, held_by_cookie}
+use Rattle.dcsctp_machine.specs.control.CookieEchoChanges.{Resolution, establish_new, held_by_cookie}
 use Rattle.dcsctp_machine.specs.turns.FlushOutcomes.{Answer, draft_to, FlushAnswers, flush_answered, IsIdle}
 use Rattle.dcsctp_machine.specs.turns.HandshakeOutcomes.{awaits_cookie_ack, echo_emission, EchoAnswers, init_ack_by, InitAckAnswers, init_ack_outcome, InitAckTurn, connected_after, cookie_ack_by, CookieAckAnswers, cookie_ack_outcome, CookieAckTurn}
-use Rattle.dcsctp_machine.specs.turns.CookieEchoOutcomes.{established_by, acknowledgement, queue_kept, resolved_by, cookie_echo_by, ResolvedAnswers, EchoedAnswers, CookieEchoTurn, establish_outcome}
+use Rattle.dcsctp_machine.specs.turns.CookieEchoOutcomes.{resolved_now, established_by, acknowledgement, queue_kept, resolved_by, cookie_echo_by, ResolvedAnswers, EchoedAnswers, CookieEchoTurn, establish_outcome}
 use Rattle.dcsctp_machine.proofs.FlushLemmas.{flush_is_now, echo_now, establish_now}
 use Rattle.dcsctp_machine_refinement.proofs.Idle.{idle_answers}
 
@@ -49,13 +49,13 @@ cookie_ack_turn_of e mine held cookie o is idle comes =
 
 -- of a COOKIE ECHO that makes a new association
 pub cookie_echo_turn_of : (e : Endpoint) (header : ℕ) (bytes : List ℕ) (cookie : Cookie) (word : ℕ) (o : Outcome) → e.core ≡ closed → cookie_at bytes ≡ Ok cookie
-    → resolve closed e.tie header cookie ≡ establish_new → IsIdle (established_by e cookie (queue_kept e cookie) word)
+    → resolved_now e closed header cookie ≡ establish_new → IsIdle (established_by e cookie (queue_kept e cookie) word)
     → o ≡ establish_outcome e cookie (queue_kept e cookie) word (connected ∷ []) → CookieEchoTurn e header bytes o
 cookie_echo_turn_of e header bytes cookie word o is reads resolves idle comes =
     let after : Endpoint = established_by e cookie (queue_kept e cookie) word in
     let draft = acknowledgement (held_by_cookie e.options cookie) cookie in
     let h : (answers : List Answer) × FlushAnswers after draft answers = idle_answers after draft idle in
-    let resolved : ResolvedAnswers e cookie closed word (resolve closed e.tie header cookie) h.0 =
+    let resolved : ResolvedAnswers e cookie closed word (resolved_now e closed header cookie) h.0 =
     subst (λ (case : Resolution). ResolvedAnswers e cookie closed word case h.0) (sym resolves) h.1 in (
       word,
       h.0,

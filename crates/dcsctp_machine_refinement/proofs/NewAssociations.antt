@@ -11,7 +11,7 @@ use Rattle.dcsctp_machine.specs.control.Effect.{Link, Effect, holds, ends, Chang
 use Rattle.dcsctp_machine.specs.control.Choices.{Choices}
 use Rattle.dcsctp_machine.specs.control.FlushChanges.{flush}
 use Rattle.dcsctp_machine.specs.control.HandshakeChanges.{init_change, held_by_init_ack, init_ack_change, cookie_ack_change}
-use Rattle.dcsctp_machine.specs.control.CookieEchoChanges.{case_by, case_without_peer, held_by_cookie, new_association_change, shutting_down_error, restart_change, maintain_change, resolved_change, read_echo_change}
+use Rattle.dcsctp_machine.specs.control.CookieEchoChanges.{Resolution, establish_new, restart, simultaneous_init, discard, maintain_existing, invalid_tag, stale, aged, resolve, case_by, case_without_peer, held_by_cookie, new_association_change, shutting_down_error, restart_change, maintain_change, resolved_change, read_echo_change}
 use Rattle.dcsctp_machine.specs.control.ResumeChanges.{resumed_held, resume_change}
 use Rattle.dcsctp_machine.specs.control.Acts.{chunk_change}
 use Rattle.dcsctp_machine.specs.Past.{Has}
@@ -78,7 +78,7 @@ restart_anew : (options : Options) (core : Core) (my : Pair) (held : Held) (cook
 restart_anew options (open_in shutdown_ack_sent mine has) my held cookie choices is other = none_anew (open_in shutdown_ack_sent mine has) (emitted has.peer.tag (shutdown_ack ∷ shutting_down_error ∷ [])) (tt, tt)
 restart_anew options core my held cookie choices is other = new_anew options core my held cookie choices is other
 
-maintain_none : (core : Core) (cookie : Cookie) (choices : Choices) → HoldsNone (maintain_change core cookie choices).effects
+pub maintain_none : (core : Core) (cookie : Cookie) (choices : Choices) → HoldsNone (maintain_change core cookie choices).effects
 maintain_none (cookie_echoed my held echoed) cookie choices = (tt, none-flush cookie.addressee.tag held (cookie_ack ∷ []) choices.filling)
 maintain_none (open_in phase my held) cookie choices = none-flush cookie.addressee.tag held (cookie_ack ∷ []) choices.filling
 maintain_none core cookie choices = tt
@@ -100,19 +100,35 @@ unknown_first : (options : Options) (core : Core) (cookie : Cookie) (choices : C
 unknown_first options core cookie choices true = new_first options cookie choices
 unknown_first options core cookie choices false = tt
 
-echo_anew : (options : Options) (core : Core) (header : ℕ) (read : Result Cookie (List ℕ)) (choices : Choices) → New core (read_echo_change options core header read choices).effects
-echo_anew options core header (Err text) choices = none_anew core [] tt
-echo_anew options closed header (Ok cookie) choices =
+-- whatever the cookie's age
+aged_anew : (options : Options) (core : Core) (cookie : Cookie) (choices : Choices) (old : Bool) (resolution : Resolution)
+    → New core (resolved_change options core cookie choices resolution).effects → New core (resolved_change options core cookie choices (aged old resolution)).effects
+aged_anew options core cookie choices true establish_new h = none_anew core [] tt
+aged_anew options core cookie choices true restart h = none_anew core [] tt
+aged_anew options core cookie choices true simultaneous_init h = none_anew core [] tt
+aged_anew options core cookie choices true discard h = h
+aged_anew options core cookie choices true maintain_existing h = h
+aged_anew options core cookie choices true invalid_tag h = h
+aged_anew options core cookie choices true stale h = h
+aged_anew options core cookie choices false resolution h = h
+
+table_anew : (options : Options) (core : Core) (header : ℕ) (cookie : Cookie) (choices : Choices) → New core (resolved_change options core cookie choices (resolve core choices.tie header cookie)).effects
+table_anew options closed header cookie choices =
     first_anew closed (resolved_change options closed cookie choices (case_without_peer (header == cookie.maker.tag))).effects refl
     (unknown_first options closed cookie choices (header == cookie.maker.tag))
-echo_anew options (cookie_wait my) header (Ok cookie) choices =
+table_anew options (cookie_wait my) header cookie choices =
     first_anew (cookie_wait my) (resolved_change options (cookie_wait my) cookie choices (case_without_peer (header == cookie.maker.tag))).effects refl
     (unknown_first options (cookie_wait my) cookie choices (header == cookie.maker.tag))
-echo_anew options (cookie_echoed my held echoed) header (Ok cookie) choices =
+table_anew options (cookie_echoed my held echoed) header cookie choices =
     case_anew options (cookie_echoed my held echoed) my held cookie choices (header == my.tag) (cookie.addressee.tag == held.peer.tag) (cookie.tie == choices.tie) (cookie.tie == 0)
     refl refl
-echo_anew options (open_in phase my held) header (Ok cookie) choices =
+table_anew options (open_in phase my held) header cookie choices =
     case_anew options (open_in phase my held) my held cookie choices (header == my.tag) (cookie.addressee.tag == held.peer.tag) (cookie.tie == choices.tie) (cookie.tie == 0) refl refl
+
+echo_anew : (options : Options) (core : Core) (header : ℕ) (read : Result Cookie (List ℕ)) (choices : Choices) → New core (read_echo_change options core header read choices).effects
+echo_anew options core header (Err text) choices = none_anew core [] tt
+echo_anew options core header (Ok cookie) choices =
+    aged_anew options core cookie choices choices.is_stale (resolve core choices.tie header cookie) (table_anew options core header cookie choices)
 
 -- ---- every other chunk
 

@@ -1,6 +1,6 @@
 -- Runs of two sockets with their inputs and numbers, worked by hand and computed by the definitions: a wrong rule in specs/ would
 -- not check here.
-use Rattle.std.proofs.Common.{◌≡◌, ℕ, Bool, true, eqb, None, Some, List, [], ◌∷◌, ◌++◌, map, inl, inr, refl, sym, subst, ap}
+use Rattle.std.proofs.Common.{◌≡◌, ℕ, Bool, true, eqb, None, Some, List, [], ◌∷◌, ◌++◌, map, inl, inr, refl, sym, subst}
 use Rattle.dcsctp_wire.specs.declared.reconfiguration.ReconfigurationResponseResult.TheVariants.{SuccessPerformed, InProgress}
 use Rattle.dcsctp_machine.specs.declared.association.Pair.{Pair}
 use Rattle.dcsctp_machine.specs.declared.options.Options.{Options}
@@ -15,7 +15,6 @@ use Rattle.dcsctp_machine.specs.Offer.{offer_of, agreed_method}
 use Rattle.dcsctp_machine.specs.Laws.{FitsPair}
 use Rattle.dcsctp_machine.specs.turns.HandshakeOutcomes.{pair_from}
 use Rattle.dcsctp_machine.specs.control.HandshakeChanges.{introduction_of}
-use Rattle.dcsctp_machine.specs.control.CookieEchoChanges.{case_without_peer}
 use Rattle.dcsctp_machine.specs.Outcome.{Outcome, still}
 use Rattle.dcsctp_machine.specs.Following.{Following, next_chunk}
 use Rattle.dcsctp_machine.specs.Turn.{Input, arrival, packet_begins, chunk_input, packet_ends, act_input, has_data, BeginTurn, ContentTurn, arrival_outcome}
@@ -30,7 +29,7 @@ use Rattle.dcsctp_machine_refinement.specs.OneSocket.{EndsByAnswer}
 use Rattle.dcsctp_machine_refinement.specs.Handshake.{AreFitting, AreConnected}
 use Rattle.dcsctp_machine_refinement.proofs.Deliver.{built, built_reads}
 use Rattle.dcsctp_machine_refinement.proofs.HandshakeReads.{Wire, IsTaken, alone, counted_at, delivered, is_read}
-use Rattle.dcsctp_machine_refinement.proofs.HandshakeTurns.{HandshakeLaws, Good, same_tag, connect_sends, answering, answer_sends, init_is_taken, waiting, made_cookie, answer_to, echoing, echo_sends, answer_is_taken, ack_admitted}
+use Rattle.dcsctp_machine_refinement.proofs.HandshakeTurns.{HandshakeLaws, Good, connect_sends, answering, answer_sends, init_is_taken, waiting, made_cookie, case_at_start, answer_to, echoing, echo_sends, answer_is_taken, ack_admitted}
 use Rattle.dcsctp_machine_refinement.proofs.HandshakeEnds.{begun_by, answered_by, echoed_by, acknowledged_by, connected_by, answered as answered_once, acknowledgement, establishing, cookie_reads, established_sends, echo_is_taken, awaited, held_here, connecting_last, ack_admitted as cookie_ack_admitted, ack_is_taken}
 use Rattle.dcsctp_machine_refinement.proofs.HandshakeRuns.{run_of, fitting_sockets_connect}
 use Rattle.dcsctp_machine_refinement.proofs.Idle.{OwesNothing, still_ends}
@@ -156,7 +155,7 @@ handshake_runs law a b w good_a good_b to_b to_a =
     (init_ack_turn_of (counted_at (waiting a p)) (answer_to a b p q) bytes p w.tie (echoing a b p q w.tie) refl refl (sym (echo_sends a b p q w.tie good_a))) refl (refl, refl) in
     let fourth = gives law.wire (answered_once b) a true q.tag (cookie_echo bytes) (establishing a b p q w.tie') (echo_is_taken a b p q good_a other to_b) refl refl
     (cookie_echo_turn_of (counted_at (answered_once b)) q.tag bytes (made_cookie a p q) w.tie' (establishing a b p q w.tie') refl (cookie_reads law a p q good_a own other)
-    (ap case_without_peer (same_tag q.tag)) refl (sym (established_sends a b p q w.tie' good_b))) refl (refl, refl) in
+    (case_at_start (counted_at (answered_once b)) a p q refl) refl (sym (established_sends a b p q w.tie' good_b))) refl (refl, refl) in
     let fifth = gives law.wire (awaited a b p q w.tie) b (acknowledgement a b p q).with_checksum p.tag cookie_ack (connecting_last a b p q w.tie) (ack_is_taken a b p q good_b own to_a)
     (cookie_ack_admitted (cookie_echoed p (held_here a b p q) bytes) p.tag refl own.tag_is_not_zero) refl
     (cookie_ack_turn_of (counted_at (awaited a b p q w.tie)) p (held_here a b p q) bytes (connecting_last a b p q w.tie) refl refl refl) refl (refl, refl) in

@@ -44,7 +44,7 @@ fit_without false true false method fits = record { len = omega arith; each = (f
 fit_without false false true method fits = record { len = omega arith; each = ((omega arith, tt), tt); found = refl }
 fit_without false false false method fits = record { len = omega arith; each = (fits, ((omega arith, tt), tt)); found = refl }
 
-fit_with : (partial interleaving no_method : Bool) (method : ℕ) (cookie : List ℕ) → method < 2 ^ 32 → length cookie ≡ 48 → AllByRecursion IsByte cookie
+fit_with : (partial interleaving no_method : Bool) (method : ℕ) (cookie : List ℕ) → method < 2 ^ 32 → length cookie ≡ 56 → AllByRecursion IsByte cookie
     → FitParameters (parameters_by partial interleaving no_method method ++ state_cookie cookie ∷ []) (Some cookie)
 unfolding parameters_len
 fit_with true true true method cookie fits long in_bytes =
@@ -97,7 +97,7 @@ pub init_ack_sendable : OfferReadsBack → (options : Options) (theirs : Introdu
 init_ack_sendable law options theirs mine cookie valid fits own =
     let method : ℕ = agreed_method (offer_of options) theirs.offer in
     let method_fits : method < 2 ^ 32 = agreed_fits options.zero_checksum_alternate_error_detection_method.0 theirs.offer.zero_checksum_method fits.zero_checksum_method in
-    let long : length (cookie_bytes cookie) ≡ 48 = length_of_cookie cookie in
+    let long : length (cookie_bytes cookie) ≡ 56 = length_of_cookie cookie in
     let parameters : FitParameters (offer_parameters (answering_offer theirs.offer (offer_of options)) ++ state_cookie (cookie_bytes cookie) ∷ []) (Some (cookie_bytes cookie)) =
     fit_with options.enable_partial_reliability options.enable_message_interleaving (eqb method 0) method (cookie_bytes cookie) method_fits long (in_cookie cookie) in
     record {

@@ -19,8 +19,8 @@ use Rattle.dcsctp_machine.specs.turns.FlushOutcomes.{Answer, draft_to, FlushAnsw
 use Rattle.dcsctp_machine.specs.turns.EndOutcomes.{ended_outcome, abort_outcome, abort_to, end_of, aborting_outcome}
 use Rattle.dcsctp_machine.specs.turns.HandshakeOutcomes.{pair_from, renewed_pair, init_ack_emission, init_outcome, init_emission, awaits_init_ack, connect_outcome, no_cookie_text, abort_emission, awaits_cookie_ack, InitAckAnswers, accepted_init_ack_by, init_ack_by, connected_after, CookieAckAnswers, cookie_ack_by}
 use Rattle.dcsctp_machine.specs.turns.TimerOutcomes.{AgainAnswers, again_by, t1_gives_up_outcome}
-use Rattle.dcsctp_machine.specs.turns.CookieEchoOutcomes.{established_by, acknowledgement, EstablishAnswers, establish_by, queue_kept, queue_begun, restart_by, RestartAnswers, restart_by_where, MaintainAnswers, maintain_by, ResolvedAnswers, resolved_by, EchoedAnswers, cookie_echo_by}
-use Rattle.dcsctp_machine.specs.control.CookieEchoChanges.{held_by_cookie, shutting_down_error, Resolution, establish_new, restart, simultaneous_init, discard, maintain_existing, invalid_tag, resolve}
+use Rattle.dcsctp_machine.specs.turns.CookieEchoOutcomes.{resolved_now, established_by, acknowledgement, EstablishAnswers, establish_by, queue_kept, queue_begun, restart_by, RestartAnswers, restart_by_where, MaintainAnswers, maintain_by, ResolvedAnswers, resolved_by, EchoedAnswers, cookie_echo_by}
+use Rattle.dcsctp_machine.specs.control.CookieEchoChanges.{held_by_cookie, shutting_down_error, Resolution, establish_new, restart, simultaneous_init, discard, maintain_existing, invalid_tag, stale}
 use Rattle.dcsctp_machine_refinement.proofs.Sizes.{AtLimit, AllShort, TurnSizes, short_append, emits_sizes, flushed_sizes, echoed_sizes}
 
 -- ---- the handshake
@@ -119,11 +119,12 @@ resolved_sizes limit e cookie core word simultaneous_init answers allowed h = es
 resolved_sizes limit e cookie core word discard answers allowed h = (h, tt)
 resolved_sizes limit e cookie core word maintain_existing answers allowed h = maintained_sizes limit e cookie core answers allowed h
 resolved_sizes limit e cookie core word invalid_tag answers allowed h = (h, tt)
+resolved_sizes limit e cookie core word stale answers allowed h = (h, tt)
 
 pub echo_sizes : (limit : ℕ) (e : Endpoint) (core : Core) (header : ℕ) (found : Result Cookie (List ℕ)) (word : ℕ) (answers : List Answer) → EchoedAnswers e core header found word answers
     → AtLimit limit e → TurnSizes limit (cookie_echo_by (flush_answered answers) e core header found word)
 echo_sizes limit e core header (Err text) word answers allowed h = (h, tt)
-echo_sizes limit e core header (Ok cookie) word answers allowed h = resolved_sizes limit e cookie core word (resolve core e.tie header cookie) answers allowed h
+echo_sizes limit e core header (Ok cookie) word answers allowed h = resolved_sizes limit e cookie core word (resolved_now e core header cookie) answers allowed h
 
 -- ---- ends, and T1
 

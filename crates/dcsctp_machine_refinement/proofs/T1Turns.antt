@@ -16,8 +16,8 @@ use Rattle.dcsctp_machine.specs.turns.FlushOutcomes.{Answer, draft_to, flush_of,
 use Rattle.dcsctp_machine.specs.turns.EndOutcomes.{abort_outcome, aborting_outcome}
 use Rattle.dcsctp_machine.specs.turns.HandshakeOutcomes.{pair_from, renewed_pair, init_ack_emission, init_outcome, init_emission, awaits_init_ack, connect_outcome, awaits_cookie_ack, echo_emission, EchoAnswers, InitAckAnswers, accepted_init_ack_by, init_ack_by, connected_after, CookieAckAnswers, cookie_ack_by}
 use Rattle.dcsctp_machine.specs.turns.TimerOutcomes.{AgainAnswers, again_by, t1_gives_up_outcome}
-use Rattle.dcsctp_machine.specs.turns.CookieEchoOutcomes.{established_by, acknowledgement, EstablishAnswers, establish_by, queue_kept, queue_begun, RestartAnswers, restart_by_where, MaintainAnswers, maintain_by, ResolvedAnswers, resolved_by, EchoedAnswers, cookie_echo_by}
-use Rattle.dcsctp_machine.specs.control.CookieEchoChanges.{held_by_cookie, Resolution, establish_new, restart, simultaneous_init, discard, maintain_existing, invalid_tag, resolve}
+use Rattle.dcsctp_machine.specs.turns.CookieEchoOutcomes.{resolved_now, established_by, acknowledgement, EstablishAnswers, establish_by, queue_kept, queue_begun, RestartAnswers, restart_by_where, MaintainAnswers, maintain_by, ResolvedAnswers, resolved_by, EchoedAnswers, cookie_echo_by}
+use Rattle.dcsctp_machine.specs.control.CookieEchoChanges.{held_by_cookie, Resolution, establish_new, restart, simultaneous_init, discard, maintain_existing, invalid_tag, stale}
 use Rattle.dcsctp_machine.proofs.FlushKeeps.{Keeps, begun_by, flush_keeps}
 use Rattle.dcsctp_machine.specs.turns.BegunResets.{BegunReset}
 use Rattle.dcsctp_machine_refinement.proofs.BegunSends.{begun_runs}
@@ -122,11 +122,12 @@ resolved_up e cookie core word simultaneous_init answers allowed h = established
 resolved_up e cookie core word discard answers allowed h = h
 resolved_up e cookie core word maintain_existing answers allowed h = maintained_up e cookie core answers allowed h
 resolved_up e cookie core word invalid_tag answers allowed h = h
+resolved_up e cookie core word stale answers allowed h = h
 
 pub echo_up : (e : Endpoint) (core : Core) (header : ℕ) (found : Result Cookie (List ℕ)) (word : ℕ) (answers : List Answer) → EchoedAnswers e core header found word answers → Up e
     → UpAfter (cookie_echo_by (flush_answered answers) e core header found word)
 echo_up e core header (Err text) word answers allowed h = h
-echo_up e core header (Ok cookie) word answers allowed h = resolved_up e cookie core word (resolve core e.tie header cookie) answers allowed h
+echo_up e core header (Ok cookie) word answers allowed h = resolved_up e cookie core word (resolved_now e core header cookie) answers allowed h
 
 -- ---- ends, and T1
 

@@ -17,10 +17,10 @@ use Rattle.dcsctp_machine.specs.Turn.{ContentTurn}
 use Rattle.dcsctp_machine.specs.turns.FlushOutcomes.{Answer, draft_to, FlushAnswers, flush_answered}
 use Rattle.dcsctp_machine.specs.turns.EndOutcomes.{ended_outcome, abort_outcome}
 use Rattle.dcsctp_machine.specs.turns.HandshakeOutcomes.{pair_from, renewed_pair, renewed_outcome, cookie_for, init_ack_emission, init_outcome, init_emission, awaits_init_ack, connect_outcome, no_cookie_text, abort_emission, awaits_cookie_ack, echo_emission, EchoAnswers, InitAckAnswers, accepted_init_ack_by, init_ack_by, connected_after, CookieAckAnswers, cookie_ack_by}
-use Rattle.dcsctp_machine.specs.turns.CookieEchoOutcomes.{established_by, acknowledgement, EstablishAnswers, establish_by, queue_kept, queue_begun, RestartAnswers, restart_by_where, MaintainAnswers, maintain_by, ResolvedAnswers, resolved_by, EchoedAnswers, cookie_echo_by}
+use Rattle.dcsctp_machine.specs.turns.CookieEchoOutcomes.{resolved_now, established_by, acknowledgement, EstablishAnswers, establish_by, queue_kept, queue_begun, RestartAnswers, restart_by_where, MaintainAnswers, maintain_by, ResolvedAnswers, resolved_by, EchoedAnswers, cookie_echo_by}
 use Rattle.dcsctp_machine.specs.control.Effect.{Link, Effect, holds, connects, link_of}
 use Rattle.dcsctp_machine.specs.control.HandshakeChanges.{held_by_init_ack, new_held}
-use Rattle.dcsctp_machine.specs.control.CookieEchoChanges.{held_by_cookie, Resolution, establish_new, restart, simultaneous_init, discard, maintain_existing, invalid_tag, resolve}
+use Rattle.dcsctp_machine.specs.control.CookieEchoChanges.{held_by_cookie, Resolution, establish_new, restart, simultaneous_init, discard, maintain_existing, invalid_tag, stale}
 use Rattle.dcsctp_machine.specs.Laws.{FitsPair, OfferReadsBack}
 use Rattle.dcsctp_machine.specs.declared.capabilities.Capabilities.{Capabilities}
 use Rattle.dcsctp_machine.specs.Offer.{offer_of, negotiated}
@@ -59,7 +59,7 @@ renewed_fits : (e : Endpoint) (word : ℕ) → FitsPair (renewed_pair e word)
 renewed_fits e word = record { tag_is_not_zero = omega arith; tag = omega arith; first_tsn = omega arith }
 
 answer_fits : OfferReadsBack → (e : Endpoint) (theirs : Introduction) (mine : Pair) (tie : ℕ) → FitsEndpoint e → FitsPair theirs.pair → FitsPair mine → IsSendable (init_ack_emission e theirs mine tie)
-answer_fits law e theirs mine tie h said own = record { tag = said.tag; contents = (init_ack_sendable law e.options theirs mine (cookie_for theirs mine tie) h.valid h.options own, tt) }
+answer_fits law e theirs mine tie h said own = record { tag = said.tag; contents = (init_ack_sendable law e.options theirs mine (cookie_for e.moment theirs mine tie) h.valid h.options own, tt) }
 
 -- A new pair is drawn for it.
 renewed_answer_fits : OfferReadsBack → (e : Endpoint) (theirs : Introduction) (word : ℕ) → FitsEndpoint e → FitsPair theirs.pair → TurnFits (renewed_outcome e theirs word)
@@ -193,12 +193,13 @@ resolved_fits e cookie core word simultaneous_init answers allowed h own pairs =
 resolved_fits e cookie core word discard answers allowed h own pairs = record { after = h; sends = tt }
 resolved_fits e cookie core word maintain_existing answers allowed h own pairs = maintained_fits e cookie core answers allowed h own pairs
 resolved_fits e cookie core word invalid_tag answers allowed h own pairs = record { after = h; sends = (tt, tt) }
+resolved_fits e cookie core word stale answers allowed h own pairs = record { after = h; sends = (tt, tt) }
 
 echo_fits : (e : Endpoint) (core : Core) (header : ℕ) (bytes : List ℕ) (found : Result Cookie (List ℕ)) (word : ℕ) (answers : List Answer) → EchoedAnswers e core header found word answers
     → cookie_at bytes ≡ found → FitsEndpoint e → FitsCore core → FitsEcho bytes → TurnFits (cookie_echo_by (flush_answered answers) e core header found word)
 echo_fits e core header bytes (Err text) word answers allowed is h own echo = record { after = h; sends = (tt, tt) }
 echo_fits e core header bytes (Ok cookie) word answers allowed is h own echo =
-    resolved_fits e cookie core word (resolve core e.tie header cookie) answers allowed h own (read_pairs_fit bytes cookie echo.cookie_in_bytes is)
+    resolved_fits e cookie core word (resolved_now e core header cookie) answers allowed h own (read_pairs_fit bytes cookie echo.cookie_in_bytes is)
 
 -- ---- COOKIE ACK and ABORT
 

@@ -31,9 +31,9 @@ handshake side =
 abbrev pub handshake_acts : Side → List ActContent
 handshake_acts side = map step_act (handshake side)
 
--- Options with which a handshake's packets are sent and are taken. The longest is an INIT ACK of 104 bytes.
+-- Options with which a handshake's packets are sent and are taken. The longest is an INIT ACK of 112 bytes.
 pub record AllowHandshake (options : Options) : Type 0 where
-  pub mtu : 104 ≤ options.mtu
+  pub mtu : 112 ≤ options.mtu
   pub burst : allows_packet options.max_burst ≡ true
   pub window : 1500 ≤ options.max_receiver_window_buffer_size
   pub inbound_streams : 1 ≤ options.announced_maximum_incoming_streams

@@ -97,6 +97,7 @@ fn set_time(options: &mut Options, name: &str, value: &str) -> bool
         "rto_min" => options.rto_min = time,
         "t1_init_timeout" => options.t1_init_timeout = time,
         "t1_cookie_timeout" => options.t1_cookie_timeout = time,
+        "cookie_lifetime" => options.cookie_lifetime = time,
         "t2_shutdown_timeout" => options.t2_shutdown_timeout = time,
         "heartbeat_interval" => options.heartbeat_interval = time,
         "delayed_ack_max_timeout" => options.delayed_ack_max_timeout = time,

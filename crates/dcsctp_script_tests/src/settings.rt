@@ -79,7 +79,7 @@ fn sizes_are_set_by_their_names(rt: HostRuntime) {
     same(&rt, "sizes", sizes, expected);
 }
 
-static TIMES: [(&str, &str); 11] = [
+static TIMES: [(&str, &str); 12] = [
     ("rtt_max", "1"),
     ("rto_initial", "2"),
     ("rto_max", "3"),
@@ -91,6 +91,7 @@ static TIMES: [(&str, &str); 11] = [
     ("delayed_ack_max_timeout", "9"),
     ("min_rtt_variance", "10"),
     ("max_timer_backoff_duration", "11"),
+    ("cookie_lifetime", "12"),
 ];
 
 #[test]
@@ -107,8 +108,9 @@ fn times_are_set_by_their_names(rt: HostRuntime) {
         options.heartbeat_interval,
         options.delayed_ack_max_timeout,
         options.min_rtt_variance,
+        options.cookie_lifetime,
     ];
-    let expected = [1, 2, 3, 4, 5, 6, 7, 8, 9, 10].map(Duration::from_millis);
+    let expected = [1, 2, 3, 4, 5, 6, 7, 8, 9, 10, 12].map(Duration::from_millis);
     same(&rt, "times", times, expected);
     let most = Some(Duration::from_millis(11));
     same(

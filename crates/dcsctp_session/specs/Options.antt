@@ -61,6 +61,7 @@ pub record SaysTimes (numbers : OptionsRecord) (options : Options) : Type 0 wher
   pub rto_min : as_nanos options.rto_min ≡ numbers.rto_min
   pub t1_init_timeout : as_nanos options.t1_init_timeout ≡ numbers.t1_init_timeout
   pub t1_cookie_timeout : as_nanos options.t1_cookie_timeout ≡ numbers.t1_cookie_timeout
+  pub cookie_lifetime : as_nanos options.cookie_lifetime ≡ numbers.cookie_lifetime
   pub max_timer_backoff_duration : option_map as_nanos options.max_timer_backoff_duration ≡ optional_nanos numbers.max_timer_backoff_duration
   pub heartbeat_interval : as_nanos options.heartbeat_interval ≡ numbers.heartbeat_interval
   pub delayed_ack_max_timeout : as_nanos options.delayed_ack_max_timeout ≡ numbers.delayed_ack_max_timeout
@@ -76,6 +77,7 @@ pub record ShowsTimes (numbers : OptionsRecord) (options : Options) : Type 0 whe
   pub rto_min : numbers.rto_min ≡ time_number options.rto_min
   pub t1_init_timeout : numbers.t1_init_timeout ≡ time_number options.t1_init_timeout
   pub t1_cookie_timeout : numbers.t1_cookie_timeout ≡ time_number options.t1_cookie_timeout
+  pub cookie_lifetime : numbers.cookie_lifetime ≡ time_number options.cookie_lifetime
   pub max_timer_backoff_duration : numbers.max_timer_backoff_duration ≡ optional_time_number options.max_timer_backoff_duration
   pub heartbeat_interval : numbers.heartbeat_interval ≡ time_number options.heartbeat_interval
   pub delayed_ack_max_timeout : numbers.delayed_ack_max_timeout ≡ time_number options.delayed_ack_max_timeout

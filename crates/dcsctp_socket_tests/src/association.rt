@@ -45,6 +45,13 @@ const REFUSALS: &str = r#"
     B tells OnError(ParseFailed, "Invalid state cookie size")
     B state = Closed
 
+    // The cookie is a millisecond too old.
+    == a SACK behind a stale cookie
+    B waits 60001
+    B takes COOKIE_ECHO 03000010 00000063 00001000 00000000
+    B tells OnError(ParseFailed, "Stale state cookie")
+    B state = Closed
+
     // The ABORT goes out under the tag of the INIT ACK, and the INIT behind that isn't worked.
     == an init ack without a cookie ends the association
     A connects

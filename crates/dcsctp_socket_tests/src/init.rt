@@ -17,17 +17,17 @@ const ANSWERS: &str = r#"
     option mtu 32
     B takes INIT
     B state = Closed
-    option mtu 92
+    option mtu 100
     B takes INIT
     B state = Closed
-    option mtu 95
+    option mtu 103
     B takes INIT
     B state = Closed
-    option mtu 96
+    option mtu 104
     B takes INIT
     B sends INIT_ACK
     B state = Closed
-    option mtu 99
+    option mtu 107
     B takes INIT
     B sends INIT_ACK
     B state = Closed
@@ -36,6 +36,35 @@ const ANSWERS: &str = r#"
 #[test]
 fn an_init_is_answered_where_the_answer_fits(rt: HostRuntime) {
     run(&rt, rt.alloc(), ANSWERS);
+}
+
+// The cookie ends with the moment of the answer in nanoseconds, cut to 2^64 - 1.
+const MOMENTS: &str = r#"
+    == a second
+    option disable_checksum_verification false
+    B waits 1000
+    B takes INIT
+    B sends INIT_ACK @8=cf20333d @96=000000003b9aca00
+    == the last whole millisecond before 2^64 nanoseconds
+    option disable_checksum_verification false
+    B waits 18446744073709
+    B takes INIT
+    B sends INIT_ACK @8=3999ff8f @96=fffffffffff79540
+    == the next millisecond
+    option disable_checksum_verification false
+    B waits 18446744073710
+    B takes INIT
+    B sends INIT_ACK @8=413f6561 @96=ffffffffffffffff
+    == the greatest number of milliseconds
+    option disable_checksum_verification false
+    B waits 18446744073709551615
+    B takes INIT
+    B sends INIT_ACK @8=413f6561 @96=ffffffffffffffff
+"#;
+
+#[test]
+fn a_cookie_has_the_moment_of_its_making(rt: HostRuntime) {
+    run(&rt, rt.alloc(), MOMENTS);
 }
 
 const REFUSALS: &str = r#"
@@ -77,16 +106,16 @@ const METHODS: &str = r#"
     option disable_checksum_verification false
     option zero_checksum_alternate_error_detection_method 1
     B takes 13881388 00000000 35c63389 01000026 00000007 00500000 ffffffff 00000064 c0000004 80010008 00000001 80080006 82c00000
-    B sends 13881388 00000007 00000000 0200005c 00000009 00500000 ffffffff 000000c8 c0000004 80010008 00000001 80080006 82c00000 00070034 64635343 54507230 00000007 00000009 00000064 000000c8 00500000 00000000 00000000 01000100 00000001 ffffffff
+    B sends 13881388 00000007 00000000 02000064 00000009 00500000 ffffffff 000000c8 c0000004 80010008 00000001 80080006 82c00000 0007003c 64635343 54507230 00000007 00000009 00000064 000000c8 00500000 00000000 00000000 01000100 00000001 ffffffff 00000000 00000000
     == another method
     option disable_checksum_verification false
     option zero_checksum_alternate_error_detection_method 1
     B takes 13881388 00000000 1cca9c90 01000026 00000007 00500000 ffffffff 00000064 c0000004 80010008 00000002 80080006 82c00000
-    B sends 13881388 00000007 00929f61 02000054 00000009 00500000 ffffffff 000000c8 c0000004 80080006 82c00000 00070034 64635343 54507230 00000007 00000009 00000064 000000c8 00500000 00000000 00000000 01000100 00000002 ffffffff
+    B sends 13881388 00000007 c6b68ec4 0200005c 00000009 00500000 ffffffff 000000c8 c0000004 80080006 82c00000 0007003c 64635343 54507230 00000007 00000009 00000064 000000c8 00500000 00000000 00000000 01000100 00000002 ffffffff 00000000 00000000
     == the peer alone
     option disable_checksum_verification false
     B takes 13881388 00000000 35c63389 01000026 00000007 00500000 ffffffff 00000064 c0000004 80010008 00000001 80080006 82c00000
-    B sends 13881388 00000007 f422ac29 02000054 00000009 00500000 ffffffff 000000c8 c0000004 80080006 82c00000 00070034 64635343 54507230 00000007 00000009 00000064 000000c8 00500000 00000000 00000000 01000100 00000001 ffffffff
+    B sends 13881388 00000007 69fef895 0200005c 00000009 00500000 ffffffff 000000c8 c0000004 80080006 82c00000 0007003c 64635343 54507230 00000007 00000009 00000064 000000c8 00500000 00000000 00000000 01000100 00000001 ffffffff 00000000 00000000
     == this end alone
     option disable_checksum_verification false
     option zero_checksum_alternate_error_detection_method 1

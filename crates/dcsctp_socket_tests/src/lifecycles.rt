@@ -62,7 +62,7 @@ const FATES: &str = r#"
     A sends COOKIE_ECHO
     A amount 1 = 0
 
-    // Its lifetime begins when it is sent, at 1000. It goes out behind a COOKIE ECHO of 64 bytes with its header, in a
+    // Its lifetime begins when it is sent, at 1000. It goes out behind a COOKIE ECHO of 72 bytes with its header, in a
     // chunk of 20.
     == it has waited for 99 milliseconds when the INIT ACK comes
     A sets threshold 1 5000
@@ -75,7 +75,7 @@ const FATES: &str = r#"
     A waits 1099
     A takes INIT_ACK
     A tells OnLifecycleMessageFullySent(5)
-    A sends any of 84
+    A sends any of 92
     A amount 1 = 0
 
     == it may not be sent again, and isn't acknowledged in 500 milliseconds

@@ -65,7 +65,7 @@ const BURSTS: &str = r#"
     B send 1 5000 = Ok(())
     B amount 1 = 5000
 
-    // By priority, then by number: behind a COOKIE ECHO of 64 bytes with its header there are three chunks of 20. The
+    // By priority, then by number: behind a COOKIE ECHO of 72 bytes with its header there are three chunks of 20. The
     // amount of each stream falls to 0 as its message leaves.
     == the stream of greatest priority goes first
     A send 3 1 = Ok(())
@@ -78,7 +78,7 @@ const BURSTS: &str = r#"
     A tells OnBufferedAmountLow(2)
     A tells OnBufferedAmountLow(1)
     A tells OnBufferedAmountLow(3)
-    A sends any of 124
+    A sends any of 132
 "#;
 
 #[test]

@@ -83,6 +83,13 @@ const OWN_REQUESTS: &str = r#"
     A takes 13881388 00000007 00000000 82000010 0010000c 00000065 00000002
     A tells OnStreamsResetFailed([2, 3])
     A sends 13881388 00000009 00000000 82000016 000d0012 00000066 00000066 00000063 00040000
+
+    // 12 bytes of the header, 4 of the chunk, 16 of the parameter, and 40 for 20 streams
+    == a request takes as many streams as fit
+    option mtu 72
+    A opens
+    A resets 1 2 3 4 5 6 7 8 9 10 11 12 13 14 15 16 17 18 19 20 21 = Ok(())
+    A sends any of 72
 "#;
 
 // TSN 100 is a message on stream 1, and 101 the first part of one on stream 2. Both are lost, and then the

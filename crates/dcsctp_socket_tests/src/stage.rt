@@ -134,6 +134,9 @@ fn set_option(rt: &impl Abort, line: Line<'_>, options: &mut Options, rest: &str
         "max_burst" => options.max_burst = value_of(rt, line, value),
         "cwnd_mtus_initial" => options.cwnd_mtus_initial = value_of(rt, line, value),
         "rto_min" => options.rto_min = Duration::from_millis(value_of(rt, line, value)),
+        "cookie_lifetime" => {
+            options.cookie_lifetime = Duration::from_millis(value_of(rt, line, value))
+        }
         "enable_handover_with_outstanding_data" => {
             options.enable_handover_with_outstanding_data = value_of(rt, line, value)
         }

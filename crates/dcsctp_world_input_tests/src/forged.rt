@@ -7,13 +7,14 @@ use dcsctp_world::socket::{DcSctpSocket, SocketEvent, SocketState};
 use dcsctp_world::{Call, Side, Step, World};
 use std::process::Abort;
 
-// Under tag 7, without a checksum. The cookie has the marks of this implementation, tag 9 of its maker, and 0x141 as
-// the initiate tag of its addressee.
-const COOKIE_ECHO: [u8; 64] = [
+// Under tag 7, without a checksum. The cookie has the marks of this implementation, tag 9 of its maker, 0x141 as the
+// initiate tag of its addressee, and moment 0.
+const COOKIE_ECHO: [u8; 72] = [
     0x13, 0x88, 0x13, 0x88, 0, 0, 0, 7, 0, 0, 0, 0, //
-    10, 0, 0, 52, 0x64, 0x63, 0x53, 0x43, 0x54, 0x50, 0x72, 0x30, //
+    10, 0, 0, 60, 0x64, 0x63, 0x53, 0x43, 0x54, 0x50, 0x72, 0x30, //
     0, 0, 0, 9, 0, 0, 1, 0x41, 0, 0, 1, 0xc8, 0, 0, 2, 0x8e, 0, 0, 3, 0x15, //
-    0, 0, 0, 0, 0x3c, 0xd0, 0x9a, 0xb2, 1, 0, 1, 0, 0, 0, 0, 1, 0, 0x7b, 0, 0xea,
+    0, 0, 0, 0, 0x3c, 0xd0, 0x9a, 0xb2, 1, 0, 1, 0, 0, 0, 0, 1, 0, 0x7b, 0, 0xea, //
+    0, 0, 0, 0, 0, 0, 0, 0,
 ];
 
 // A awaits a COOKIE ACK, and B has nothing.

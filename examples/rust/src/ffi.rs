@@ -30,6 +30,7 @@ pub struct Options {
     pub rto_min: u64,
     pub t1_init_timeout: u64,
     pub t1_cookie_timeout: u64,
+    pub cookie_lifetime: u64,
     pub max_timer_backoff_duration: u64,
     pub heartbeat_interval: u64,
     pub delayed_ack_max_timeout: u64,

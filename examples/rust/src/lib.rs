@@ -244,8 +244,8 @@ mod tests {
 
     #[test]
     fn structs_are_laid_out_as_in_c() {
-        // 9 sizes, 10 times, 9 numbers of 4 bytes, and 6 of 2
-        assert_eq!(size_of::<Options>(), 9 * 8 + 10 * 8 + 9 * 4 + 6 * 2);
+        // 9 sizes, 11 times, 9 numbers of 4 bytes, and 6 of 2
+        assert_eq!(size_of::<Options>(), 9 * 8 + 11 * 8 + 9 * 4 + 6 * 2);
         assert_eq!(size_of::<ffi::Socket>(), 16);
         assert_eq!(size_of::<ffi::Event>(), 32);
         assert_eq!(size_of::<ffi::Message>(), 16);

@@ -30,6 +30,8 @@ pub record Choices : Type 0 where
   pub cookie : List ℕ
   -- the association's tie tag (RFC 9260, section 5.2.2)
   pub tie : ℕ
+  -- Is the cookie of a COOKIE ECHO older than its lifetime?
+  pub is_stale : Bool
   -- Does the packet of one chunk fit?
   pub fits : Bool
   -- Is all data acknowledged that was sent?
@@ -58,6 +60,7 @@ idle_choices drawn =
       drawn = drawn;
       cookie = [];
       tie = 0;
+      is_stale = false;
       fits = true;
       is_acknowledged = true;
       is_reached = true;

@@ -28,6 +28,8 @@ pub data Resolution : Type 0 where
   -- The association is the existing one.
   maintain_existing : Resolution
   invalid_tag : Resolution
+  -- It would make an association, and its cookie is stale.
+  stale : Resolution
 
 -- The table of RFC 9260, section 5.2.4, if the peer is known, by four answers. Is the header tag its own tag, and is the cookie's
 -- peer tag the peer's? Is its tie tag the association's, and is it 0?
@@ -53,6 +55,13 @@ resolve closed tie header cookie = case_without_peer (header == cookie.maker.tag
 resolve (cookie_wait my) tie header cookie = case_without_peer (header == cookie.maker.tag)
 resolve (cookie_echoed my held echoed) tie header cookie = case_with_peer my held tie header cookie
 resolve (open_in phase my held) tie header cookie = case_with_peer my held tie header cookie
+
+-- A stale cookie makes no association; of the existing one its age says nothing.
+abbrev pub aged : Bool → Resolution → Resolution
+aged true establish_new = stale
+aged true restart = stale
+aged true simultaneous_init = stale
+aged is_stale resolution = resolution
 
 -- ---- what each does
 
@@ -103,11 +112,12 @@ resolved_change options core cookie choices simultaneous_init = new_association_
 resolved_change options core cookie choices discard = dropped core
 resolved_change options core cookie choices maintain_existing = maintain_change core cookie choices
 resolved_change options core cookie choices invalid_tag = dropped core
+resolved_change options core cookie choices stale = dropped core
 
 -- Bytes that are no cookie change nothing.
 abbrev pub read_echo_change : Options → Core → ℕ → Result Cookie (List ℕ) → Choices → Change
 read_echo_change options core header (Err text) choices = dropped core
-read_echo_change options core header (Ok cookie) choices = resolved_change options core cookie choices (resolve core choices.tie header cookie)
+read_echo_change options core header (Ok cookie) choices = resolved_change options core cookie choices (aged choices.is_stale (resolve core choices.tie header cookie))
 
 abbrev pub cookie_echo_change : Options → Core → ℕ → List ℕ → Choices → Change
 cookie_echo_change options core header bytes choices = read_echo_change options core header (cookie_at bytes) choices

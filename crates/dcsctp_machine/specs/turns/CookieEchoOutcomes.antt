@@ -1,10 +1,11 @@
 -- The turn of a COOKIE ECHO (RFC 9260, sections 5.1 and 5.2.4). control/CookieEchoChanges says which case it is.
 use Rattle.std.specs.Prelude.{◌≡◌, ◌==◌, ℕ, min, Bool, None, Some, List, [], ◌∷◌, codes, Result, Ok, Err}
+use Rattle.std.specs.Duration.{as_nanos}
 use Rattle.dcsctp_machine.specs.declared.association.Held.{Held}
 use Rattle.dcsctp_machine.specs.declared.options.Options.{Options}
 use Rattle.dcsctp_machine.specs.declared.word.Word.TheVariants.{U64}
 use Rattle.dcsctp_machine.specs.declared.kinds.ErrorKind.TheVariants.{ParseFailed, WrongSequence}
-use Rattle.dcsctp_machine.specs.Cookie.{Cookie, cookie_at}
+use Rattle.dcsctp_machine.specs.Cookie.{Cookie, cookie_at, is_stale}
 use Rattle.dcsctp_machine.specs.Event.{Event, sent, connected, connection_restarted, error}
 use Rattle.dcsctp_machine.specs.Packet.{cookie_ack, shutdown_ack, Emission}
 use Rattle.dcsctp_machine.specs.transfer.SendQueue.{SendQueueState, numbered_for}
@@ -12,7 +13,7 @@ use Rattle.dcsctp_machine.specs.transfer.Transfer.{new_transfer}
 use Rattle.dcsctp_machine.specs.Endpoint.{Endpoint, Core, cookie_echoed, open_in, OpenPhase, established, shutdown_ack_sent, stopped_timers, heartbeats_begun}
 use Rattle.dcsctp_machine.specs.Outcome.{Outcome, noting, still, counted}
 use Rattle.dcsctp_machine.specs.Following.{dropped_rest}
-use Rattle.dcsctp_machine.specs.control.CookieEchoChanges.{Resolution, establish_new, restart, simultaneous_init, discard, maintain_existing, invalid_tag, resolve, held_by_cookie, shutting_down_error}
+use Rattle.dcsctp_machine.specs.control.CookieEchoChanges.{Resolution, establish_new, restart, simultaneous_init, discard, maintain_existing, invalid_tag, stale, aged, resolve, held_by_cookie, shutting_down_error}
 use Rattle.dcsctp_machine.specs.control.Effect.{holds, connects, link_of}
 use Rattle.dcsctp_machine.specs.turns.FlushOutcomes.{Answer, FlushAnswers, FlushKind, flush_answered, flush_outcome}
 use Rattle.dcsctp_machine.specs.turns.HandshakeOutcomes.{queue_anew, connected_after}
@@ -21,6 +22,9 @@ use Rattle.dcsctp_machine.specs.turns.HandshakeOutcomes.{queue_anew, connected_a
 
 abbrev pub invalid_tag_text : List ℕ
 invalid_tag_text = codes "Received CookieEcho with invalid verification tag"
+
+abbrev pub stale_text : List ℕ
+stale_text = codes "Stale state cookie"
 
 abbrev pub shutting_down_text : List ℕ
 shutting_down_text = codes "Received COOKIE-ECHO while shutting down"
@@ -133,12 +137,17 @@ resolved_by flush e cookie core word simultaneous_init = replace_by flush e cook
 resolved_by flush e cookie core word discard = discard_outcome e
 resolved_by flush e cookie core word maintain_existing = maintain_by flush e cookie core
 resolved_by flush e cookie core word invalid_tag = refused_echo_outcome e invalid_tag_text
+resolved_by flush e cookie core word stale = refused_echo_outcome e stale_text
+
+-- the case, by the age of the cookie too
+abbrev pub resolved_now : Endpoint → Core → ℕ → Cookie → Resolution
+resolved_now e core header cookie = aged (is_stale (as_nanos e.options.cookie_lifetime) e.moment cookie) (resolve core e.tie header cookie)
 
 -- By the association, the header tag and what the bytes read as; the word is the one that comes next, drawn or not. Its change is
 -- `cookie_echo_change`.
 abbrev pub cookie_echo_by : FlushKind → Endpoint → Core → ℕ → Result Cookie (List ℕ) → ℕ → Outcome
 cookie_echo_by flush e core header (Err text) word = refused_echo_outcome e text
-cookie_echo_by flush e core header (Ok cookie) word = resolved_by flush e cookie core word (resolve core e.tie header cookie)
+cookie_echo_by flush e core header (Ok cookie) word = resolved_by flush e cookie core word (resolved_now e core header cookie)
 
 -- ---- the answers that its flush may get, if there is one
 
@@ -166,10 +175,11 @@ ResolvedAnswers e cookie core word simultaneous_init answers = EstablishAnswers 
 ResolvedAnswers e cookie core word discard answers = answers ≡ []
 ResolvedAnswers e cookie core word maintain_existing answers = MaintainAnswers e cookie core answers
 ResolvedAnswers e cookie core word invalid_tag answers = answers ≡ []
+ResolvedAnswers e cookie core word stale answers = answers ≡ []
 
 abbrev pub EchoedAnswers : Endpoint → Core → ℕ → Result Cookie (List ℕ) → ℕ → List Answer → Type 0
 EchoedAnswers e core header (Err text) word answers = answers ≡ []
-EchoedAnswers e core header (Ok cookie) word answers = ResolvedAnswers e cookie core word (resolve core e.tie header cookie) answers
+EchoedAnswers e core header (Ok cookie) word answers = ResolvedAnswers e cookie core word (resolved_now e core header cookie) answers
 
 -- a COOKIE ECHO is handled
 abbrev pub CookieEchoTurn : Endpoint → ℕ → List ℕ → Outcome → Type 0

@@ -11,7 +11,7 @@ use Rattle.dcsctp_machine.specs.declared.kinds.SctpImplementation.{SctpImplement
 use Rattle.dcsctp_machine.specs.declared.kinds.SctpImplementation.TheVariants.{Unknown, DcsctpRs, DcsctpCc, UsrSctp}
 use Rattle.dcsctp_wire.specs.Numbers.{state_cookie_type}
 use Rattle.dcsctp_machine.specs.Offer.{offer_of, answering_offer, agreed_method}
-use Rattle.dcsctp_machine.specs.Cookie.{Cookie, cookie_bytes}
+use Rattle.dcsctp_machine.specs.Cookie.{Cookie, cookie_bytes, cut}
 use Rattle.dcsctp_machine.specs.Cause.{missing_mandatory_parameter}
 use Rattle.dcsctp_machine.specs.Event.{aborted, connected}
 use Rattle.dcsctp_machine.specs.Packet.{Introduction, Content, init, init_ack, cookie_echo, abort, shutdown_ack, Emission}
@@ -39,9 +39,9 @@ pair_from word next = record { tag = tag_from next; first_tsn = first_tsn_from w
 
 -- ---- INIT
 
--- the cookie in the answer to an INIT
-abbrev pub cookie_for : Introduction → Pair → ℕ → Cookie
-cookie_for theirs mine tie = record { maker = mine; addressee = theirs.pair; offer = theirs.offer; window = theirs.window; tie = tie }
+-- the cookie in the answer to an INIT, made at this moment
+abbrev pub cookie_for : ℕ → Introduction → Pair → ℕ → Cookie
+cookie_for now theirs mine tie = record { maker = mine; addressee = theirs.pair; offer = theirs.offer; window = theirs.window; tie = tie; moment = cut now }
 
 abbrev pub init_ack_for : Endpoint → Introduction → Pair → ℕ → Content
 init_ack_for e theirs mine tie =
@@ -49,7 +49,7 @@ init_ack_for e theirs mine tie =
       pair = mine;
       offer = answering_offer theirs.offer (offer_of e.options);
       window = e.options.max_receiver_window_buffer_size;
-    }) (Some (cookie_bytes (cookie_for theirs mine tie)))
+    }) (Some (cookie_bytes (cookie_for e.moment theirs mine tie)))
 
 -- An INIT ACK is sent under the initiate tag of the INIT, without a checksum if zero checksum is negotiated (RFC 9653, section
 -- 5.2).

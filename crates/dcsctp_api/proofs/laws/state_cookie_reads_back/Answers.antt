@@ -15,6 +15,7 @@ state_cookie_of cookie =
       my_initial_tsn = cookie.maker.first_tsn;
       a_rwnd = cookie.window;
       tie_tag = cookie.tie;
+      moment = cookie.moment;
       peer_capabilities = capabilities_offered cookie.offer;
     }
 

@@ -1,9 +1,9 @@
 use Rattle.std.proofs.lemmas.Result.{err_from_is_err_and}
 use Rattle.std.proofs.Common.{ap}
 use Rattle.dcsctp_api.specs.Cookie.{cookie_of}
-use Rattle.dcsctp_machine.specs.turns.CookieEchoOutcomes.{invalid_tag_text}
+use Rattle.dcsctp_machine.specs.turns.CookieEchoOutcomes.{invalid_tag_text, stale_text}
 use Rattle.dcsctp_core.specs.View.{View, view_of}
-use Rattle.dcsctp_core_handshake.proofs.EchoSteps.{works_new, works_new_cut, works_replacing, works_replacing_cut, works_restart, works_maintain, works_maintain_cut, works_discard, refused_cut, unread_turn, untagged_turn}
+use Rattle.dcsctp_core_handshake.proofs.EchoSteps.{works_new, works_new_cut, works_replacing, works_replacing_cut, works_restart, works_maintain, works_maintain_cut, works_discard, refused_cut, unread_turn, untagged_turn, stale_turn}
 use Rattle.dcsctp_core_handshake.proofs.cookie_echo.handle_cookie_echo.Goals as goal
 
 pub returns-in_err-refuse-in-Err : goal.returns-in_err-refuse-in-Err
@@ -19,6 +19,13 @@ returns-in_err-refuse-in-InvalidTag g c =
     rw (err_from_is_err_and c.from_residual-in_err-refuse-in-InvalidTag.result c.from_residual-in_err-refuse-in-InvalidTag.ensures.1).1
     (refused_cut old _ c.args.header_tag c.args.chunk.now.cookie.now invalid_tag_text (untagged_turn old c.args.header_tag c.args.chunk.now.cookie.now (cookie_of c.in-Ok.cookie) (record { reads = c.in-Ok.ensures; is = c.in-InvalidTag.ensures }))
     (ap (λ (v : View g.row.R.Denot). v.events) c.in_err-refuse-in-InvalidTag.ensures))
+
+pub returns-in_err-refuse-in-Stale : goal.returns-in_err-refuse-in-Stale
+returns-in_err-refuse-in-Stale g c =
+    let old = view_of c.args.context.now in
+    rw (err_from_is_err_and c.from_residual-in_err-refuse-in-Stale.result c.from_residual-in_err-refuse-in-Stale.ensures.1).1
+    (refused_cut old _ c.args.header_tag c.args.chunk.now.cookie.now stale_text (stale_turn old c.args.header_tag c.args.chunk.now.cookie.now (cookie_of c.in-Ok.cookie) (record { reads = c.in-Ok.ensures; is = c.in-Stale.ensures }))
+    (ap (λ (v : View g.row.R.Denot). v.events) c.in_err-refuse-in-Stale.ensures))
 
 pub returns-in-Discard : goal.returns-in-Discard
 returns-in-Discard g c =
