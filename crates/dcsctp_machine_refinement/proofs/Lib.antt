@@ -9,7 +9,7 @@ mod BurstTurns
 pub mod Bursts
 mod Bytes
 mod DataFits
-mod Deliver
+pub mod Deliver
 mod ExpiryMoves
 pub mod Follow
 mod FlushFits
@@ -22,9 +22,9 @@ mod HandshakeSizes
 mod HandshakeTurns
 mod Idle
 mod IdleTurns
-mod Moves
-mod NewAssociations
-mod NoHolding
+pub mod Moves
+pub mod NewAssociations
+pub mod NoHolding
 mod NoHoldingTurns
 mod NotingAnew
 mod OpenStreams
@@ -37,8 +37,8 @@ pub mod RestoredFlush
 mod RestoreTurns
 mod Sendable
 mod ShutdownFits
-mod Sent
-mod Signs
+pub mod Sent
+pub mod Signs
 mod SizeLemmas
 mod Sizes
 mod SizesChunks
@@ -46,8 +46,8 @@ mod SizesData
 mod SizesShutdown
 mod SizesTurns
 pub mod SnapshotsBack
-mod SocketsAgree
-mod SocketsAlone
+pub mod SocketsAgree
+pub mod SocketsAlone
 mod TurnsFit
 pub mod NotedLemmas
 pub mod OneSocket

@@ -16,23 +16,28 @@ use Rattle.dcsctp_machine_refinement.specs.Deadlines.{RunsT1}
 use Rattle.dcsctp_machine_refinement.specs.Handshake.{handshake_acts, AreFitting, ConnectThroughout, connections}
 use Rattle.dcsctp_machine_refinement.specs.OneSocket.{EndsByAnswer, TellsEnd, IsWithinLimit, TurnKeepsBurst, TimeIsQuiet}
 use Rattle.dcsctp_machine_refinement.specs.Telling.{TellsNoted, HoldsNoted, AreAnew}
+use Rattle.dcsctp_machine_cookies.specs.Ages.{AgeThroughout}
+use Rattle.dcsctp_machine_cookies.specs.Cookies.{GivenThroughout}
 use Rattle.dcsctp_world.specs.Shown.{SideShown, WorldView}
 use Rattle.dcsctp_world.specs.Run.{IsRun}
 
 -- All that the world shows is what a run shows. The agreement needs two premises: so far no side drew a verification tag twice,
 -- and no act came from outside. Then, when one side reports OnConnected, its peer has, or had, the matching association. When one
--- side's request to reset streams was performed, the other performed it. If the sockets fit each other, the first five acts of a
--- handshake connect them, whatever comes later. The rest holds whatever bytes came from outside. What each side notes of
--- connections and of the numbers of requests is in its order. Each turn's events tell what it notes of connections, ends and
--- resets, in the same order. A side's association is the one that it noted, and one of a handshake is noted only where it is
--- another than before. A request ends by an answer with its number. A turn that ends an association tells it once, and no other
--- turn tells an end. A socket that awaits an INIT ACK or a COOKIE ACK has T1 running. No packet that a side shows is longer than
--- its options allow. No turn sends more of them than its input allows, and what a flush may send. Time before the next deadline
--- moves the clock alone.
+-- side's request to reset streams was performed, the other performed it. With the second premise alone, each COOKIE ECHO that a
+-- side handles bears a cookie that this side gave away in an earlier turn; if it makes an association, that was at most the
+-- cookie's lifetime before. If the sockets fit each other, the first five acts of a handshake connect them, whatever comes later.
+-- The rest holds whatever bytes came from outside. What each side notes of connections and of the numbers of requests is in its
+-- order. Each turn's events tell what it notes of connections, ends and resets, in the same order. A side's association is the
+-- one that it noted, and one of a handshake is noted only where it is another than before. A request ends by an answer with its
+-- number. A turn that ends an association tells it once, and no other turn tells an end. A socket that awaits an INIT ACK or a
+-- COOKIE ACK has T1 running. No packet that a side shows is longer than its options allow. No turn sends more of them than its
+-- input allows, and what a flush may send. Time before the next deadline moves the clock alone.
 pub record Agrees {R : Type 0} (options : Both Options) (world : WorldView R) : Type 0 where
   pub is_run : IsRun options world
   pub honest : AreHonest world.acts → AreHonest (acts_of is_run.steps)
   pub agree : AgreeThroughout options is_run.steps
+  pub given : GivenThroughout is_run.steps
+  pub ages : AgeThroughout options is_run.steps
   pub connect : AreFitting options → (side : Side) → ConnectThroughout options side is_run.steps
   pub numbers : (side : Side) → Each InPlace (noted_past (of_side side (turns_after is_run.steps)))
   pub told : (side : Side) → AllByRecursion TellsNoted (of_side side (turns_after is_run.steps))

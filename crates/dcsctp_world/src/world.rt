@@ -4,6 +4,7 @@ use crate::act::{Reply, are_honest, side_of};
 use crate::recorded::Recorded;
 use crate::watched_socket::WatchedSocket;
 use dcsctp_machine::{Act, Outside, Side, Step, options_fit, sockets_stay_sound};
+use dcsctp_machine_cookies::cookie_laws;
 use dcsctp_machine_refinement::{restored_sockets_begin_nothing, socket_laws};
 use dcsctp_socket::{Association, Options, Pair, Socket, SocketEvent, SocketFault, Word};
 use rand_core::Rng;
@@ -165,6 +166,7 @@ impl<R: Rng + Drop> World<R> {
             return Err(SocketFault::Failed);
         }
         socket_laws();
+        cookie_laws();
         sockets_stay_sound();
         match perform_and_keep(&mut self.a, &mut self.b, &mut self.acts, act) {
             Ok(reply) => Ok(reply),
@@ -212,8 +214,8 @@ impl<R: Rng + Drop> World<R> {
     /// both pairs, the tie tag, what both ends support, and the numbers of requests to reset streams. It begins
     /// no such request, so the next own number is that of the snapshot (RFC 6525, section 4.1).
     ///
-    /// Once it was applied, `is_honest` is false, and the agreement of the two sockets is promised only up to here.
-    /// What `run` says of one socket still holds. The errors are those of `apply`.
+    /// Once it was applied, `is_honest` is false, and the agreement of the two sockets and what is said of cookies
+    /// are promised only up to here. The rest of what `run` says still holds. The errors are those of `apply`.
     pub fn outside(&mut self, outside: Outside) -> Result<Reply, SocketFault>
         ensures call { Applies (outside_act (outside_content outside)) self.old result self.new }
         ensures restored { IfOk result (λ reply. RestoresBy (outside_content outside) reply
@@ -237,7 +239,9 @@ impl<R: Rng + Drop> World<R> {
     /// twice, which `pairs` shows. When one side reports OnConnected, its peer has, or had, the matching
     /// association, with what the two have in common. When it reports OnStreamsResetPerformed, its peer has
     /// performed that request. The four packets of a handshake, delivered in turn, connect two fresh sockets
-    /// that fit each other (RFC 9260, section 5.1).
+    /// that fit each other (RFC 9260, section 5.1). By the first premise alone, each COOKIE ECHO that a side
+    /// handles bears a cookie that this side gave away before, in an INIT ACK; and a cookie that makes an
+    /// association was given away at most `cookie_lifetime` before, by that side's clock (section 5.1.5).
     ///
     /// The rest holds whatever comes from outside. In one lifetime an association connects at most once, and
     /// the numbers of requests to reset streams go up by one. Each request that was accepted is performed at
@@ -258,6 +262,7 @@ impl<R: Rng + Drop> World<R> {
             return Err(SocketFault::Failed);
         }
         socket_laws();
+        cookie_laws();
         for step in steps {
             self.apply(step)?;
         }

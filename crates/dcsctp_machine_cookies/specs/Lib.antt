@@ -1,0 +1,3 @@
+pub mod Ages
+pub mod Cookies
+pub mod Laws
