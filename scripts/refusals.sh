@@ -1,91 +1,99 @@
 #!/usr/bin/env bash
-# Runs the tests of crates/dcsctp_socket_refusal_tests once for each of their allocations, which is refused in that run,
-# and fails unless each run keeps what sockets promise for this. `rt try --test --fail-alloc N` does so for one N,
-# and builds the tests anew each time; here they are what `rt test` built, and a malloc that refuses stands in
-# front of theirs. Needs a C compiler. PROGRAM names another build of the tests.
+# Runs the tests of dcsctp_socket_refusal_tests and dcsctp_world_refusal_tests with too little memory, and fails unless
+# each run keeps what sockets and worlds promise for that. Each test is run
+#
+#     once for each of its allocations, which is refused in that run
+#     once for each of its allocations, which is refused with all after it
+#     once so that all are refused between its marks, where it does what takes no memory; there may be none
+#
+# `rt try --test --fail-alloc N` does the first for one N, and builds the tests anew each time; here they are what
+# `rt test` built, and the malloc of tests/refuse.c stands in front of theirs. Needs a C compiler. Usage:
+# scripts/refusals.sh [PROGRAM ..], where each PROGRAM is another build of tests.
 set -euo pipefail
 shopt -s inherit_errexit
 cd "$(dirname "$0")/.."
 ulimit -c 0
-crate=dcsctp_socket_refusal_tests
-program=${PROGRAM:-$PWD/crates/$crate/out/${crate}_tests}
+unset REFUSED REFUSED_ON MARKED
+programs=("$@")
 is_built() {
-    [ -x "$program" ] && [ -z "$(find crates -name '*.rt' -newer "$program" -print -quit)" ]
+    [ -x "$1" ] && [ -z "$(find crates -name '*.rt' -newer "$1" -print -quit)" ]
 }
-[ -n "${PROGRAM:-}" ] || is_built || (cd "crates/$crate" && rt test) >&2
+if [ $# -eq 0 ]; then
+    for crate in dcsctp_socket_refusal_tests dcsctp_world_refusal_tests; do
+        programs+=("$PWD/crates/$crate/out/${crate}_tests")
+        is_built "${programs[-1]}" || (cd "crates/$crate" && rt test) >&2
+    done
+fi
 folder=$(mktemp -d)
 trap 'rm -rf "$folder"' EXIT
+cc -O1 -Wall -shared -fPIC -o "$folder/refuse.so" tests/refuse.c
 
-# ---- the malloc: it refuses the call whose number, from 1, is in REFUSED, and tells how many there were
-
-cc -O1 -shared -fPIC -o "$folder/refuse.so" -x c - <<'END'
-#include <errno.h>
-#include <stdio.h>
-#include <stdlib.h>
-
-void *__libc_malloc(size_t size);
-void *__libc_realloc(void *block, size_t size);
-
-static unsigned long refused, count;
-
-__attribute__((constructor)) static void begin(void) {
-    refused = strtoul(getenv("REFUSED"), NULL, 10);
-    count = 0;
-}
-
-__attribute__((destructor)) static void end(void) {
-    fprintf(stderr, "allocations %lu\n", count);
-}
-
-static int refuses(void) {
-    count++;
-    if (count != refused)
-        return 0;
-    errno = ENOMEM;
-    return 1;
-}
-
-void *malloc(size_t size) {
-    return refuses() ? NULL : __libc_malloc(size);
-}
-
-void *realloc(void *block, size_t size) {
-    return refuses() ? NULL : __libc_realloc(block, size);
-}
-END
-
-# ---- the runs
-
-# run TEST N: runs a test in which the allocation N is refused, none where N is 0; what it says comes to said.
+# run TEST: runs a test as REFUSED, REFUSED_ON and MARKED say. What it says, in the end its counts, comes to said.
 run() {
-    { REFUSED=$2 LD_PRELOAD=$folder/refuse.so "$program" "$1" >"$folder/said" 2>&1; } 2>/dev/null
+    said=$({ LD_PRELOAD=$folder/refuse.so "$program" "$1" 2>&1; } 2>/dev/null)
 }
 
-# counted: how many allocations the last run had.
+# counted WORD: the last number after this word in what the last run said; -1 if there is none, as in one that aborts.
 counted() {
-    awk '$1 == "allocations" { print $2 }' "$folder/said"
+    [[ $'\n'$said =~ .*$'\n'"$1 "([0-9]+) ]] && echo "${BASH_REMATCH[1]}" || echo -1
 }
 
-# refuse TEST: each allocation of a test in turn. The test itself says whether the promises were kept.
+# broken: the last run broke a promise. Prints how it was run, and what the test said.
+broken() {
+    printf 'refusals: %s, with REFUSED=%s REFUSED_ON=%s MARKED=%s:\n%s\n' "$1" \
+        "${REFUSED:-0}" "${REFUSED_ON:-0}" "${MARKED:-0}" "$said"
+}
+
+# refuse TEST N ON ..: for each N and ON a run in which allocation N is refused, and with it all after it if ON is 1. The
+# test itself says whether the promises were kept.
 refuse() {
-    local count number broken=0
-    run "$1" 0 || { cat "$folder/said"; return 1; }
-    count=$(counted)
-    for ((number = 1; number <= count; number++)); do
-        if ! { run "$1" "$number" && [ "$(counted)" -ge "$number" ]; }; then
-            broken=$((broken + 1))
-            echo "refusals: $1: allocation $number was refused:"
-            cat "$folder/said"
-        fi
+    local test=$1
+    shift
+    while [ $# -gt 0 ]; do
+        export REFUSED=$1 REFUSED_ON=$2
+        { run "$test" && [ "$(counted allocations)" -ge "$REFUSED" ]; } || broken "$test"
+        shift 2
     done
-    echo "refusals: $1: $count allocations were refused in turn, and $broken runs broke a promise"
-    [ "$count" -gt 0 ] && [ "$broken" -eq 0 ]
 }
 
-tests=$("$program" --list | sed -n 's/: test$//p')
-[ -n "$tests" ] || { echo "refusals: there is no test"; exit 1; }
+# mark TEST: the run in which all are refused between the marks. Writes how many times that was to the file spans.
+mark() {
+    export MARKED=1
+    { run "$1" && [ "$(counted inside)" -eq 0 ]; } || broken "$1"
+    counted spans >"$folder/spans"
+}
+
+export folder
+export -f run counted broken refuse
+
+# each TEST: its runs, as many at a time as there are processors. Adds its spans to all_spans.
+each() {
+    local count spans breaks
+    run "$1" || { broken "$1"; return 1; }
+    count=$(counted allocations)
+    {
+        (mark "$1")
+        seq "$count" | sed 's/.*/& 0\n& 1/' | xargs -P "$(nproc)" -n 64 bash -c 'refuse "$0" "$@"' "$1" ||
+            echo "refusals: $1: not all runs took place"
+    } >"$folder/broken"
+    cat "$folder/broken"
+    spans=$(cat "$folder/spans")
+    all_spans=$((all_spans + spans))
+    breaks=$(grep -c '^refusals: ' "$folder/broken") || true
+    echo "refusals: $1: $count allocations, each refused alone and with all after it; $spans spans in which all are;" \
+        "$breaks runs broke a promise"
+    [ "$count" -gt 0 ] && [ "$breaks" -eq 0 ]
+}
+
 failed=0
-for test in $tests; do
-    refuse "$test" || failed=1
+all_spans=0
+for program in "${programs[@]}"; do
+    export program
+    tests=$("$program" --list | sed -n 's/: test$//p')
+    [ -n "$tests" ] || { echo "refusals: $program has no test"; exit 1; }
+    for test in $tests; do
+        each "$test" || failed=1
+    done
 done
+[ "$all_spans" -gt 0 ] || { echo "refusals: no test has a span"; exit 1; }
 exit $failed

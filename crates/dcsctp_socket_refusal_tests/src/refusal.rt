@@ -1,87 +1,62 @@
 //! What is promised when an allocation failed in a call of a socket. The socket has failed and says so at
 //! each later call. Its earlier events can be polled, and the messages that were ready can be taken.
+//!
+//! None of it may need memory, which may be gone for good: what the calls are handed was made before.
 
-use crate::messages::message;
+use crate::answers::ask;
+use crate::handing_over::restore_from;
+use crate::room::Handed;
 use crate::side::Side;
+use dcsctp_refusal_testing::is_gone;
+use dcsctp_socket::api::handover::SocketHandoverState;
 use dcsctp_socket::{
-    DcSctpSocket, HandoverReadiness, Metrics, Pair, Phase, SendOptions, Socket, SocketFault,
-    SocketState, SocketTime, StreamId,
+    DcSctpSocket, SendOptions, Socket, SocketFault, SocketState, SocketTime, StreamId,
 };
-use dcsctp_testing::TwoWords;
+use dcsctp_testing::Counting;
+use std::alloc::Global;
 use std::process::Abort;
 
-// What a socket answers to its queries, to some of them about a stream.
-#[derive(Debug, PartialEq, Drop)]
-struct Answers {
-    has_failed: bool,
-    state: SocketState,
-    association: Option<(Phase, Pair)>,
-    verification_tag: u32,
-    pairs: usize,
-    timeout: SocketTime,
-    ready: usize,
-    longest_message: usize,
-    priority: u16,
-    buffered: usize,
-    threshold: usize,
-    metrics: Option<Metrics>,
-    readiness: HandoverReadiness,
+// This call has to return that the socket has failed.
+fn fails(rt: &impl Abort, name: &str, fault: Option<SocketFault>) {
+    assert_eq!(rt; fault, Some(SocketFault::Failed), "{name}");
 }
 
-// Asks a socket all of it.
-fn ask(socket: &Socket<TwoWords>, stream: StreamId) -> Answers {
-    Answers {
-        has_failed: socket.has_failed(),
-        state: socket.state(),
-        association: socket
-            .association()
-            .map(|association| (association.phase, association.my)),
-        verification_tag: socket.verification_tag(),
-        pairs: socket.drawn_pairs().len(),
-        timeout: socket.poll_timeout(),
-        ready: socket.messages_ready_count(),
-        longest_message: socket.options().max_message_size,
-        priority: socket.get_stream_priority(stream),
-        buffered: socket.buffered_amount(stream),
-        threshold: socket.buffered_amount_low_threshold(stream),
-        metrics: socket.get_metrics(),
-        readiness: socket.get_handover_readiness(),
-    }
+// Both calls of a handover have to return that the socket has failed.
+fn handovers_fail(rt: &impl Abort, alloc: Global, socket: &mut Socket<Counting>) {
+    let state = SocketHandoverState::empty(alloc);
+    let restored = restore_from(rt, socket, &state);
+    fails(rt, "restore_from_state", restored.err());
+    let given = socket.get_handover_state_and_close();
+    fails(rt, "get_handover_state_and_close", given.err());
+}
+
+// The same of each call that is handed a message.
+fn sends_fail(rt: &impl Abort, socket: &mut Socket<Counting>, handed: Handed) {
+    let plain = SendOptions::default();
+    let Handed { message, several } = handed;
+    fails(rt, "send", socket.send(message, &plain).err());
+    fails(rt, "send_many", socket.send_many(several, &plain).err());
 }
 
 // Each call that can return that the socket has failed has to do so. On one that hasn't, they would add
 // events and change what queries answer.
 fn each_call_fails(rt: &impl Abort, own: &mut Side) {
-    let plain = SendOptions::default();
-    let one = message(own.alloc, 2, 60).expect(rt, "no message");
-    let another = message(own.alloc, 2, 70).expect(rt, "no message");
-    let several = Vec::from_array(own.alloc, [another]).expect(rt, "no list");
+    let handed = own.handed(rt);
     let socket = &mut own.socket;
-    let faults = [
-        ("handle_input", socket.handle_input(&[1, 2, 3]).err()),
-        (
-            "advance_time",
-            socket.advance_time(SocketTime::infinite_future()).err(),
-        ),
-        ("connect", socket.connect().err()),
-        ("close", socket.close().err()),
-        ("send", socket.send(one, &plain).err()),
-        ("send_many", socket.send_many(several, &plain).err()),
-        ("reset_streams", socket.reset_streams(&[StreamId(2)]).err()),
-        (
-            "set_stream_priority",
-            socket.set_stream_priority(StreamId(2), 7).err(),
-        ),
-        (
-            "set_buffered_amount_low_threshold",
-            socket
-                .set_buffered_amount_low_threshold(StreamId(2), 7)
-                .err(),
-        ),
-    ];
-    for (name, fault) in faults {
-        assert_eq!(rt; fault, Some(SocketFault::Failed), "{name}");
-    }
+    fails(rt, "handle_input", socket.handle_input(&[1, 2, 3]).err());
+    let last = SocketTime::infinite_future();
+    fails(rt, "advance_time", socket.advance_time(last).err());
+    fails(rt, "connect", socket.connect().err());
+    fails(rt, "shutdown", socket.shutdown().err());
+    fails(rt, "close", socket.close().err());
+    sends_fail(rt, socket, handed);
+    let reset = socket.reset_streams(&[StreamId(2)]);
+    fails(rt, "reset_streams", reset.err());
+    let priority = socket.set_stream_priority(StreamId(2), 7);
+    fails(rt, "set_stream_priority", priority.err());
+    let threshold = socket.set_buffered_amount_low_threshold(StreamId(2), 7);
+    fails(rt, "set_buffered_amount_low_threshold", threshold.err());
+    handovers_fail(rt, own.alloc, &mut own.socket);
 }
 
 // The events from before this step have to come, and then the first part of those of the step. Later calls
@@ -89,8 +64,8 @@ fn each_call_fails(rt: &impl Abort, own: &mut Side) {
 fn keeps_events(rt: &impl Abort, own: &mut Side, index: usize) {
     let before = ask(&own.socket, StreamId(2));
     each_call_fails(rt, own);
-    own.hear(rt, index).expect(rt, "no room for a packet");
-    own.hear_step(rt, index).expect(rt, "no room for a packet");
+    own.hear(rt, index);
+    own.hear_step(rt, index);
     own.tells_nothing(rt, index);
     each_call_fails(rt, own);
     own.tells_nothing(rt, index);
@@ -122,6 +97,26 @@ fn keeps_messages(rt: &impl Abort, own: &mut Side, index: usize, ready: usize) {
     );
 }
 
+// The other side goes on: its events don't change what its queries answer, and it connects if it is closed. For that
+// it needs memory.
+fn goes_on(rt: &impl Abort, other: &mut Side, index: usize) {
+    let before = ask(&other.socket, StreamId(2));
+    other.is_well(rt, index);
+    let after = ask(&other.socket, StreamId(2));
+    assert_eq!(rt; after, before, "step {index}: queries of the other side");
+    let is_refused = other.socket.state() == SocketState::Closed && is_gone(other.alloc);
+    let expected = if is_refused {
+        Err(SocketFault::OutOfMemory)
+    } else {
+        Ok(())
+    };
+    assert_eq!(rt;
+        other.socket.connect(),
+        expected,
+        "step {index}: the other side"
+    );
+}
+
 /// In this step an allocation failed in a call of one side, which had that many ready messages before. What
 /// is promised for this has to be kept. The other side has reported all that it has to, and goes on.
 pub fn keeps_promises(
@@ -134,15 +129,5 @@ pub fn keeps_promises(
     assert!(rt; own.socket.has_failed(), "step {index}: it hasn't failed");
     keeps_events(rt, own, index);
     keeps_messages(rt, own, index, ready);
-    other.hear(rt, index).expect(rt, "no room for a packet");
-    other.tells_nothing(rt, index);
-    assert!(rt;
-        !other.socket.has_failed(),
-        "step {index}: the other side has failed"
-    );
-    assert_eq!(rt;
-        other.socket.connect(),
-        Ok(()),
-        "step {index}: the other side"
-    );
+    goes_on(rt, other, index);
 }

@@ -1,24 +1,28 @@
 //! One side: its socket, and what was taken of it.
 
-use crate::exchange::{Act, EXCHANGE, Name, is_told_at, messages_to, tells_at};
-use crate::messages::{How, is_message, message, options};
-use dcsctp_socket::{
-    DcSctpSocket, SendOptions, Socket, SocketEvent, SocketFault, SocketTime, StreamId,
-};
-use dcsctp_testing::TwoWords;
+use crate::exchange::{Act, Exchange, Name};
+use crate::room::{Handed, Room};
+use dcsctp_refusal_testing::{How, at, is_message, message, options};
+use dcsctp_socket::api::handover::SocketHandoverState;
+use dcsctp_socket::{DcSctpSocket, SendOptions, Socket, SocketEvent, SocketFault, StreamId};
+use dcsctp_testing::Counting;
 use std::alloc::{AllocError, Global};
-use std::collections::VecDeque;
 use std::process::Abort;
-use std::time::Duration;
 
 /// A socket with what belongs to it.
 pub struct Side {
     pub alloc: Global,
     pub name: Name,
-    pub socket: Socket<TwoWords>,
+    pub socket: Socket<Counting>,
 
-    // The packets that are under way to the other side, oldest first.
-    outgoing: VecDeque<Vec<u8>>,
+    /// The snapshot that was taken of it.
+    pub snapshot: Option<SocketHandoverState>,
+
+    exchange: &'static Exchange,
+    room: Room,
+
+    // The packet that it was handed last.
+    last: Option<Vec<u8>>,
 
     // The events of the steps before this one were taken.
     heard: usize,
@@ -34,7 +38,10 @@ impl Drop for Side {
             alloc: _,
             name: _,
             socket: _,
-            outgoing: _,
+            snapshot: _,
+            exchange: _,
+            room: _,
+            last: _,
             heard: _,
             taken: _,
         } = self;
@@ -44,19 +51,23 @@ impl Drop for Side {
 /// The result of a call. The outer error is that an allocation of the test itself failed.
 pub type Answer = Result<Result<(), SocketFault>, AllocError>;
 
-// The moment that many milliseconds after the first.
-fn at(millis: u64) -> SocketTime {
-    SocketTime::zero() + Duration::from_millis(millis)
-}
-
 impl Side {
-    /// A side of this socket, of which nothing was taken.
-    pub fn new(alloc: Global, name: Name, socket: Socket<TwoWords>) -> Side {
+    /// A side of an exchange with this socket, of which nothing was taken.
+    pub fn new(
+        alloc: Global,
+        exchange: &'static Exchange,
+        name: Name,
+        socket: Socket<Counting>,
+        room: Room,
+    ) -> Side {
         Side {
             alloc,
             name,
             socket,
-            outgoing: VecDeque::new(alloc),
+            snapshot: None,
+            exchange,
+            room,
+            last: None,
             heard: 0,
             taken: 0,
         }
@@ -68,50 +79,65 @@ impl Side {
             Act::Connects => Ok(self.socket.connect()),
             Act::Closes => Ok(self.socket.close()),
             Act::ShutsDown => Ok(self.socket.shutdown()),
-            Act::Takes => {
-                let packet = other.next_packet(rt, index)?;
-                Ok(self.socket.handle_input(&packet))
-            }
+            Act::Takes => Ok(self.take(rt, other, index)),
+            Act::TakesAgain => Ok(self.take_again(rt)),
             Act::Loses => {
-                drop(other.next_packet(rt, index)?);
+                drop(other.next_packet(rt, index));
                 Ok(Ok(()))
             }
             Act::TakesNoPackets(count) => Ok(self.take_no_packets(count)),
             Act::Sends(stream, size, how) => self.send(rt, stream, size, how),
             Act::SendsMany(rows) => self.send_many(rt, rows),
-            Act::Resets(ids) => self.reset(rt, ids),
+            Act::Resets(ids) => Ok(self.reset(rt, ids)),
             Act::SetsPriority(stream, priority) => {
                 Ok(self.socket.set_stream_priority(StreamId(stream), priority))
             }
-            Act::SetsThreshold(stream, bytes) => Ok(
-                self.socket
-                    .set_buffered_amount_low_threshold(StreamId(stream), bytes),
-            ),
+            Act::SetsThreshold(stream, bytes) => Ok(self.set_threshold(stream, bytes)),
             Act::Passes(millis) => Ok(self.socket.advance_time(at(millis))),
             Act::Expires(millis) => {
                 assert_eq!(rt; self.socket.poll_timeout(), at(millis), "step {index}");
                 Ok(self.socket.advance_time(at(millis)))
             }
             Act::Reads(count) => {
-                self.read(rt, usize::from(count));
+                self.read(rt, count);
                 Ok(Ok(()))
             }
+            Act::HandsOver => Ok(self.hand_over(rt)),
+            Act::Restores => Ok(self.restore(rt)),
+            Act::RestoresPlain => Ok(self.restore_plain(rt)),
+            Act::WithoutMemory(act) => self.act_without_memory(rt, index, act),
         }
     }
 
     // The next packet that is under way to the other side. Events of this side are taken only if none is
     // known, so that they wait as long as possible.
-    fn next_packet(&mut self, rt: &impl Abort, index: usize) -> Result<Vec<u8>, AllocError> {
-        if self.outgoing.is_empty() {
-            self.hear(rt, index)?;
+    fn next_packet(&mut self, rt: &impl Abort, index: usize) -> Vec<u8> {
+        if self.room.outgoing.is_empty() {
+            self.hear(rt, index);
         }
-        let Some(packet) = self.outgoing.pop_front() else {
+        let Some(packet) = self.room.outgoing.pop_front() else {
             panic!(rt; "step {index}: no packet is under way")
         };
-        Ok(packet)
+        packet
     }
 
-    // Hands in bytes that are no packet, that often, up to a fault.
+    // Is handed the next packet of the other side.
+    fn take(&mut self, rt: &impl Abort, other: &mut Side, index: usize) -> Result<(), SocketFault> {
+        let packet = other.next_packet(rt, index);
+        let answer = self.socket.handle_input(&packet);
+        self.last = Some(packet);
+        answer
+    }
+
+    // Is handed the packet again that it was handed last.
+    fn take_again(&mut self, rt: &impl Abort) -> Result<(), SocketFault> {
+        let Some(packet) = &self.last else {
+            panic!(rt; "{:?}: no packet was taken", self.name)
+        };
+        self.socket.handle_input(packet)
+    }
+
+    // Is handed bytes that are no packet, that often, up to a fault.
     fn take_no_packets(&mut self, count: u16) -> Result<(), SocketFault> {
         for _ in 0..count {
             self.socket.handle_input(&[1, 2, 3])?;
@@ -147,66 +173,57 @@ impl Side {
     }
 
     // Resets streams, which has to be taken.
-    fn reset(&mut self, rt: &impl Abort, ids: &[u16]) -> Answer {
-        let mut streams = Vec::with_capacity(self.alloc, ids.len())?;
-        for id in ids {
-            streams.push(StreamId(*id))?;
-        }
-        match self.socket.reset_streams(&streams) {
-            Err(fault) => Ok(Err(fault)),
-            Ok(answer) => {
-                assert_eq!(rt; answer, Ok(()), "a reset of streams");
-                Ok(Ok(()))
-            }
-        }
+    fn reset(&mut self, rt: &impl Abort, ids: &[StreamId]) -> Result<(), SocketFault> {
+        let answer = self.socket.reset_streams(ids)?;
+        assert_eq!(rt; answer, Ok(()), "a reset of streams");
+        Ok(())
+    }
+
+    // Sets the threshold of a stream.
+    fn set_threshold(&mut self, stream: u16, bytes: usize) -> Result<(), SocketFault> {
+        self.socket
+            .set_buffered_amount_low_threshold(StreamId(stream), bytes)
     }
 
     /// Takes the events of this step, which have to be the first part of what the table says. Returns whether
-    /// they were all of it. `Err`: the test can't allocate room for a packet.
-    pub fn hear_step(&mut self, rt: &impl Abort, index: usize) -> Result<bool, AllocError> {
-        for place in 0..tells_at(self.name, index).len() {
-            if !self.hear_one(rt, index, place)? {
-                return Ok(false);
+    /// they were all of it.
+    pub fn hear_step(&mut self, rt: &impl Abort, index: usize) -> bool {
+        for place in 0..self.exchange.tells_at(self.name, index).len() {
+            if !self.hear_one(rt, index, place) {
+                return false;
             }
         }
-        Ok(true)
+        true
     }
 
     // Takes one event, which has to be that of this place, and returns whether there was one.
-    fn hear_one(
-        &mut self,
-        rt: &impl Abort,
-        index: usize,
-        place: usize,
-    ) -> Result<bool, AllocError> {
+    fn hear_one(&mut self, rt: &impl Abort, index: usize, place: usize) -> bool {
         match self.socket.poll_event() {
-            None => Ok(false),
+            None => false,
             Some(event) => {
-                let is_due = is_told_at(self.name, index, place, &event);
+                let is_due = self.exchange.is_told_at(self.name, index, place, &event);
                 assert!(rt; is_due, "step {index}: {event:?} at place {place}");
-                self.keep(event)?;
-                Ok(true)
+                self.keep(rt, event);
+                true
             }
         }
     }
 
-    // Keeps an event, if it is a packet.
-    fn keep(&mut self, event: SocketEvent) -> Result<(), AllocError> {
+    // Keeps an event, if it is a packet. There is room for it.
+    fn keep(&mut self, rt: &impl Abort, event: SocketEvent) {
         if let SocketEvent::SendPacket(packet) = event {
-            self.outgoing.push_back(packet)?;
+            let is_kept = self.room.outgoing.push_back(packet).is_ok();
+            assert!(rt; is_kept, "{:?}: too many packets are under way", self.name);
         }
-        Ok(())
     }
 
-    /// Takes the events from before this step, which have to be all that the table says. `Err`: as for
-    /// `hear_step`.
-    pub fn hear(&mut self, rt: &impl Abort, end: usize) -> Result<(), AllocError> {
+    /// Takes the events from before this step, which have to be all that the table says.
+    pub fn hear(&mut self, rt: &impl Abort, end: usize) {
         for index in self.heard..end {
-            let is_whole = self.hear_step(rt, index)?;
+            let is_whole = self.hear_step(rt, index);
             assert!(rt; is_whole, "step {index}: an event is missing");
         }
         self.heard = end;
-        Ok(())
     }
 
     /// No event may be left.
@@ -219,15 +236,23 @@ impl Side {
         drop(event);
     }
 
+    // The message that comes next: its stream and its bytes.
+    fn next_message(&self) -> Option<(u16, u16)> {
+        self.exchange
+            .messages_to(self.name)
+            .get(self.taken)
+            .copied()
+    }
+
     /// Takes that many messages, which have to be ready, and those of the table, whole and in order.
     pub fn read(&mut self, rt: &impl Abort, count: usize) {
         for _ in 0..count {
             let Some(found) = self.socket.get_next_message() else {
                 panic!(rt; "{:?}: message {} is missing", self.name, self.taken)
             };
-            let expected = messages_to(self.name).get(self.taken);
+            let expected = self.next_message();
             assert!(rt;
-                is_message(&found, expected),
+                is_message(&found, expected.as_ref()),
                 "{:?}: {found:?} in place of {expected:?}",
                 self.name
             );
@@ -236,12 +261,25 @@ impl Side {
         }
     }
 
-    /// No step is left: the events were all of the table and nothing else, and the association is over.
-    /// `Err`: as for `hear_step`.
-    pub fn is_over(&mut self, rt: &impl Abort) -> Result<(), AllocError> {
-        let end = EXCHANGE.len();
-        self.hear(rt, end)?;
+    /// What a call after the failure is handed. There is enough for two rounds of them.
+    pub fn handed(&mut self, rt: &impl Abort) -> Handed {
+        let Some(handed) = self.room.handed.pop() else {
+            panic!(rt; "{:?}: too many rounds of calls", self.name)
+        };
+        handed
+    }
+
+    /// The steps before this one were taken without a failure. The events are all that the table says, and no others.
+    pub fn is_well(&mut self, rt: &impl Abort, end: usize) {
+        let has_failed = self.socket.has_failed();
+        assert!(rt; !has_failed, "step {end}: {:?} has failed", self.name);
+        self.hear(rt, end);
         self.tells_nothing(rt, end);
+    }
+
+    /// No step is left: the events were all of the table and nothing else, and the association is over.
+    pub fn is_over(&mut self, rt: &impl Abort) {
+        self.is_well(rt, self.exchange.steps.len());
         assert!(rt;
             self.socket.association().is_none(),
             "{:?}: an association",
@@ -253,6 +291,5 @@ impl Side {
             "{:?}: messages",
             self.name
         );
-        Ok(())
     }
 }

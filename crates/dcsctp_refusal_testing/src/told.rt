@@ -1,6 +1,6 @@
 //! The events of a socket, by short names: a packet by the types of its chunks.
 
-use dcsctp_socket::{ErrorKind, SocketEvent};
+use dcsctp_api::{ErrorKind, SocketEvent};
 
 // The types of chunks (RFC 9260, section 3.2; RFC 3758, section 3.2; RFC 6525, section 3.1).
 pub const DATA: u8 = 0;
@@ -70,6 +70,7 @@ fn name_of(event: &SocketEvent) -> (&'static str, u64) {
     match event {
         SocketEvent::OnConnected() => ("connected", 0),
         SocketEvent::OnClosed() => ("closed", 0),
+        SocketEvent::OnConnectionRestarted() => ("restarted", 0),
         SocketEvent::OnAborted(ErrorKind::PeerReported, _) => ("aborted by the peer", 0),
         SocketEvent::OnError(ErrorKind::ParseFailed, _) => ("unreadable", 0),
         SocketEvent::OnIncomingStreamReset(ids) => ("incoming reset", ids.len() as u64),

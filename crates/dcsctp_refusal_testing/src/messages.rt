@@ -1,6 +1,6 @@
-//! The messages of the exchange. No two of them have the same size, so their bytes go by it.
+//! The messages of an exchange. No two of them have the same size, so their bytes go by it.
 
-use dcsctp_socket::{LifecycleId, Message, PpId, SendOptions, StreamId};
+use dcsctp_api::{LifecycleId, Message, PpId, SendOptions, StreamId};
 use std::alloc::{AllocError, Global};
 use std::time::Duration;
 
