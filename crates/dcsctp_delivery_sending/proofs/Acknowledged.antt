@@ -1,0 +1,114 @@
+-- What a SACK and the retransmission timer leave in flight.
+use Rattle.std.proofs.Common.{◌≡◌, ℕ, zero, suc, Bool, true, false, ◌+◌, ◌-◌, ◌≤◌, List, [], ◌∷◌, length, drop, refl, sym, ◌∙◌, ap, arith, subst}
+use Rattle.std.specs.Prelude.{Option, slice_get, nat_lt, if◌then◌else◌}
+use Rattle.std.specs.Option.{option_map}
+use Rattle.std.proofs.lemmas.Bool.Decides.{nat_tests}
+use Rattle.std.proofs.lemmas.List.{length-drop}
+use Rattle.dcsctp_wire.specs.declared.chunk.sack.GapAckBlock.{GapAckBlock}
+use Rattle.dcsctp_machine.specs.declared.progress.Change.TheVariants.{Miss, Mark, Acknowledge}
+use Rattle.dcsctp_machine.specs.transfer.Acknowledging.{is_sack_valid, AcknowledgesItems, covered, lossy, missed_until, without_first, exiting}
+use Rattle.dcsctp_machine.specs.transfer.Items.{Item, marked_items, changed_between}
+use Rattle.dcsctp_machine.specs.transfer.Outstanding.{OutstandingState, acknowledged_by, reported, tsn_at}
+use Rattle.dcsctp_machine.specs.transfer.Retransmission.{RetransmissionState, with_items, outstanding_count, after_expiry}
+use Rattle.dcsctp_delivery_sending.specs.Log.{Slot}
+use Rattle.dcsctp_delivery_sending.specs.Stages.{SaysAt, Bears}
+use Rattle.dcsctp_delivery_sending.proofs.Stages.{changed_length, bears_changed}
+
+-- with these items
+abbrev Having : List Slot → ℕ → ℕ → OutstandingState → List Item → Type 0
+Having log first acknowledged outstanding items = Bears log first acknowledged (record outstanding { items = items })
+
+reported_bear : (log : List Slot) (first acknowledged count : ℕ) (blocks : List GapAckBlock) (outstanding : OutstandingState) → Bears log first acknowledged outstanding → Having log first acknowledged outstanding (reported count blocks outstanding.items)
+reported_bear log first acknowledged count [] outstanding b = b
+reported_bear log first acknowledged count (block ∷ blocks) outstanding b =
+    reported_bear log first acknowledged count blocks (record outstanding { items = changed_between Acknowledge (count + block.start - 1) (count + block.end) outstanding.items })
+    (bears_changed log first acknowledged Acknowledge (count + block.start - 1) (count + block.end) outstanding b)
+
+covered_bear : (log : List Slot) (first acknowledged count : ℕ) (blocks : List GapAckBlock) (outstanding : OutstandingState) → Bears log first acknowledged outstanding → Having log first acknowledged outstanding (covered count blocks outstanding.items)
+covered_bear log first acknowledged count blocks outstanding b =
+    reported_bear log first acknowledged count blocks (record outstanding { items = changed_between Acknowledge 0 count outstanding.items }) (bears_changed log first acknowledged Acknowledge 0 count outstanding b)
+
+missed_bear : (log : List Slot) (first acknowledged count limit : ℕ) (newest : Option ℕ) (state : RetransmissionState) → Bears log first acknowledged state.outstanding → Bears log first acknowledged (missed_until count limit newest state).outstanding
+missed_bear log first acknowledged count limit newest state b =
+    go (nat_lt (marked_items state.outstanding.items) (marked_items (changed_between (Miss newest) count limit state.outstanding.items))) (bears_changed log first acknowledged (Miss newest) count limit state.outstanding b)
+  where
+    items : List Item
+    items = changed_between (Miss newest) count limit state.outstanding.items
+
+    go : (c : Bool) → Having log first acknowledged state.outstanding items → Bears log first acknowledged (if c then lossy (with_items items state) else with_items items state).outstanding
+    go true b' = b'
+    go false b' = b'
+
+dropped_length : (count : ℕ) (items : List Item) → count ≤ length items → count + length (drop count items) ≡ length items
+dropped_length count items le = omega (arith, length-drop count items)
+
+dropped_at : (count k n : ℕ) (items : List Item) → n ≡ count + k → slice_get (drop count items) k ≡ slice_get items n
+dropped_at zero k n items e = ap (slice_get items) (let same : k ≡ n = omega arith in same)
+dropped_at (suc count) zero zero [] e = refl
+dropped_at (suc count) zero (suc n) [] e = refl
+dropped_at (suc count) (suc k) zero [] e = refl
+dropped_at (suc count) (suc k) (suc n) [] e = refl
+dropped_at (suc count) k zero (item ∷ items) e = absurd (omega arith)
+dropped_at (suc count) k (suc n) (item ∷ items) e = dropped_at count k n items (omega arith)
+
+first_bear : (log : List Slot) (first acknowledged count : ℕ) (state : RetransmissionState) → count ≤ length state.outstanding.items → Bears log first acknowledged state.outstanding → Bears log first (acknowledged + count) (without_first count state).outstanding
+first_bear log first acknowledged count state le b =
+    record {
+      tsn = (let at = b.tsn in grind (arith, at));
+      count = omega (arith, b.count, dropped_length count state.outstanding.items le);
+      items = λ k item at. (
+          let there = b.items (count + k) item (sym (dropped_at count k (count + k) state.outstanding.items refl) ∙ at) in
+          let same : acknowledged + (count + k) ≡ acknowledged + count + k = omega arith in
+          subst (λ (n : ℕ). SaysAt log n item.fragment) same there
+          );
+    }
+
+-- how many items are left in between
+reported_length : (count : ℕ) (blocks : List GapAckBlock) (items : List Item) → length (reported count blocks items) ≡ length items
+reported_length count [] items = refl
+reported_length count (block ∷ blocks) items =
+    reported_length count blocks (changed_between Acknowledge (count + block.start - 1) (count + block.end) items)
+    ∙ changed_length Acknowledge (count + block.start - 1) (count + block.end) items
+
+covered_length : (count : ℕ) (blocks : List GapAckBlock) (items : List Item) → length (covered count blocks items) ≡ length items
+covered_length count blocks items = reported_length count blocks (changed_between Acknowledge 0 count items) ∙ changed_length Acknowledge 0 count items
+
+missed_items : (count limit : ℕ) (newest : Option ℕ) (state : RetransmissionState) → length (missed_until count limit newest state).outstanding.items ≡ length state.outstanding.items
+missed_items count limit newest state =
+    go (nat_lt (marked_items state.outstanding.items) (marked_items (changed_between (Miss newest) count limit state.outstanding.items)))
+  where
+    items : List Item
+    items = changed_between (Miss newest) count limit state.outstanding.items
+
+    go : (c : Bool) → length (if c then lossy (with_items items state) else with_items items state).outstanding.items ≡ length state.outstanding.items
+    go true = changed_length (Miss newest) count limit state.outstanding.items
+    go false = changed_length (Miss newest) count limit state.outstanding.items
+
+pub acknowledged_bear : (log : List Slot) (first acknowledged now cumulative window : ℕ) (blocks : List GapAckBlock) (old new : RetransmissionState) → is_sack_valid old cumulative ≡ true → Bears log first acknowledged old.outstanding
+    → AcknowledgesItems now cumulative window blocks old new → Bears log first (acknowledged + acknowledged_by old.outstanding cumulative) new.outstanding
+acknowledged_bear log first acknowledged now cumulative window blocks old new valid b acknowledges =
+    subst (λ (s : RetransmissionState). Bears log first (acknowledged + acknowledged_by old.outstanding cumulative) s.outstanding) (sym acknowledges.is) (first_bear log first acknowledged count missed (omega (arith, within, missed_length)) missed_b)
+  where
+    count : ℕ
+    count = acknowledged_by old.outstanding cumulative
+
+    start : RetransmissionState
+    start = with_items (covered count blocks old.outstanding.items) (exiting cumulative old)
+
+    missed : RetransmissionState
+    missed = missed_until count acknowledges.limit (option_map (tsn_at old.outstanding) acknowledges.newest) start
+
+    start_b : Bears log first acknowledged start.outstanding
+    start_b = covered_bear log first acknowledged count blocks old.outstanding b
+
+    missed_b : Bears log first acknowledged missed.outstanding
+    missed_b = missed_bear log first acknowledged count acknowledges.limit (option_map (tsn_at old.outstanding) acknowledges.newest) start start_b
+
+    within : count ≤ length old.outstanding.items
+    within = grind (arith, nat_tests, valid)
+
+    missed_length : length missed.outstanding.items ≡ length old.outstanding.items
+    missed_length = missed_items count acknowledges.limit (option_map (tsn_at old.outstanding) acknowledges.newest) start ∙ covered_length count blocks old.outstanding.items
+
+pub lost_bear : (log : List Slot) (first acknowledged now : ℕ) (state : RetransmissionState) → Bears log first acknowledged state.outstanding → Bears log first acknowledged (after_expiry now state).outstanding
+lost_bear log first acknowledged now state b = bears_changed log first acknowledged Mark 0 (outstanding_count state) state.outstanding b

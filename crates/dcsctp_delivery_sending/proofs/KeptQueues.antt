@@ -1,0 +1,151 @@
+-- What waits outlasts an association, also in another numbering.
+use Rattle.std.proofs.Common.{◌≡◌, ◌==◌, ℕ, zero, suc, Bool, true, false, List, [], ◌∷◌, length, map, refl, sym, ◌∙◌, ap, arith, subst, inl}
+use Rattle.std.specs.Prelude.{Option, None, Some, if◌then◌else◌}
+use Rattle.dcsctp_machine.specs.declared.sending.UnderWay.{UnderWay}
+use Rattle.dcsctp_machine.specs.transfer.SendStreams.{counted, Stream, stream_at, unused, begun_anew, raised}
+use Rattle.dcsctp_machine.specs.transfer.SendQueue.{numbered_for, numbered_where, is_other, front_counted, is_front_unordered, SendQueueState, changed, put_back, restarted}
+use Rattle.dcsctp_delivery_sending.specs.Log.{Message, Slot}
+use Rattle.dcsctp_delivery_sending.specs.Pieces.{IsGoing, Going, HoldsQueued}
+use Rattle.dcsctp_delivery_sending.specs.Queueing.{QueueHolds}
+use Rattle.dcsctp_delivery_sending.proofs.Streams.{Alike, alike_hold}
+
+-- ---- another association
+
+fresh_going : (queued : List Message) (log : List Slot) (streams : List Stream) (u : Option UnderWay) → Going queued log streams u → Going queued [] streams u
+fresh_going queued log streams None g = tt
+fresh_going queued log streams (Some u) g =
+    record { place = g.place; message = g.message; at = g.at; unfinished = g.unfinished; begun = g.begun; there = g.there; came = inl refl; front = g.front }
+
+pub kept_hold : (queued : List Message) (log : List Slot) (queue : SendQueueState) → QueueHolds queued log queue → QueueHolds queued [] queue
+kept_hold queued log queue queues =
+    record {
+      queue_holds = record {
+        wait = queues.queue_holds.wait;
+        ascend = queues.queue_holds.ascend;
+        beyond = λ q n f at of. absurd (cc);
+        distinct = queues.queue_holds.distinct;
+        going = fresh_going queued log queue.streams queue.under_way queues.queue_holds.going;
+        room = (let room = queues.queue_holds.room in record { whole = room.whole; count = omega (arith, room.whole) });
+      };
+      next = queues.next;
+    }
+
+-- streams of which numbers and amounts alone changed
+pub mapped_alike : (f : Stream → Stream) → ((s : Stream) → (f s).id ≡ s.id) → ((s : Stream) → (f s).messages ≡ s.messages) → (f (unused 0 0 0)).messages ≡ [] → (streams : List Stream) → Alike streams (map f streams)
+mapped_alike f same_id same none streams = record { sizes = sizes streams; ids = ids streams; messages = messages streams }
+  where
+    sizes : (l : List Stream) → length (map f l) ≡ length l
+    sizes [] = refl
+    sizes (s ∷ l) = ap suc (sizes l)
+
+    ids : (l : List Stream) (q : ℕ) → (stream_at (map f l) q).id ≡ (stream_at l q).id
+    ids [] zero = refl
+    ids [] (suc q) = refl
+    ids (s ∷ l) zero = same_id s
+    ids (s ∷ l) (suc q) = ids l q
+
+    messages : (l : List Stream) (q : ℕ) → (stream_at (map f l) q).messages ≡ (stream_at l q).messages
+    messages [] zero = refl
+    messages [] (suc q) = refl
+    messages (s ∷ l) zero = same s
+    messages (s ∷ l) (suc q) = messages l q
+
+-- none is under way
+idle_hold : (queued : List Message) (streams : List Stream) (u : Option UnderWay) → HoldsQueued queued [] streams u → HoldsQueued queued [] streams None
+idle_hold queued streams u queue_holds =
+    record {
+      wait = queue_holds.wait;
+      ascend = queue_holds.ascend;
+      beyond = λ q n f at of. absurd (cc);
+      distinct = queue_holds.distinct;
+      going = tt;
+      room = (let room = queue_holds.room in record { whole = room.whole; count = omega (arith, room.whole) });
+    }
+
+back_streams : (queued : List Message) (u : Option UnderWay) (queue : SendQueueState) → HoldsQueued queued [] queue.streams None → HoldsQueued queued [] (put_back u queue).streams None
+back_streams queued None queue queue_holds = queue_holds
+back_streams queued (Some u) queue queue_holds =
+    alike_hold queued [] None queue.streams (changed u.stream_id.0 (raised u.sent) queue.streams)
+    (mapped_alike (λ s. if s.id == u.stream_id.0 then raised u.sent s else s) (λ s. one_id (s.id == u.stream_id.0) s) (λ s. one_messages (s.id == u.stream_id.0) s) (one_messages ((unused 0 0 0).id == u.stream_id.0) (unused 0 0 0)) queue.streams) queue_holds
+  where
+    one_id : (b : Bool) (s : Stream) → (if b then raised u.sent s else s).id ≡ s.id
+    one_id true s = refl
+    one_id false s = refl
+
+    one_messages : (b : Bool) (s : Stream) → (if b then raised u.sent s else s).messages ≡ s.messages
+    one_messages true s = refl
+    one_messages false s = refl
+
+back_idle : (u : Option UnderWay) (queue : SendQueueState) → queue.under_way ≡ u → (put_back u queue).under_way ≡ None
+back_idle None queue is = is
+back_idle (Some u) queue is = refl
+
+back_next : (u : Option UnderWay) (queue : SendQueueState) → (put_back u queue).next_message_id ≡ queue.next_message_id
+back_next None queue = refl
+back_next (Some u) queue = refl
+
+pub restarted_hold : (queued : List Message) (log : List Slot) (queue : SendQueueState) → QueueHolds queued log queue → QueueHolds queued [] (restarted queue)
+restarted_hold queued log queue queues =
+    let kept = kept_hold queued log queue queues in
+    let back = back_streams queued queue.under_way queue (idle_hold queued queue.streams queue.under_way kept.queue_holds) in
+    record {
+      queue_holds = subst (λ (u : Option UnderWay). HoldsQueued queued [] (map begun_anew (put_back queue.under_way queue).streams) u) (sym (back_idle queue.under_way queue refl))
+          (alike_hold queued [] None (put_back queue.under_way queue).streams (map begun_anew (put_back queue.under_way queue).streams)
+          (mapped_alike begun_anew (λ s. refl) (λ s. refl) refl (put_back queue.under_way queue).streams) back);
+      next = back_next queue.under_way queue ∙ queues.next;
+    }
+
+pub one_set : (f : Stream → Stream) → ((s : Stream) → (f s).id ≡ s.id) → ((s : Stream) → (f s).messages ≡ s.messages) → (id : ℕ) (streams : List Stream) → Alike streams (changed id f streams)
+one_set f same_id same id streams =
+    mapped_alike (λ s. if s.id == id then f s else s) (λ s. keeps_id (s.id == id) s) (λ s. keeps_messages (s.id == id) s) (keeps_messages ((unused 0 0 0).id == id) (unused 0 0 0)) streams
+  where
+    keeps_id : (b : Bool) (s : Stream) → (if b then f s else s).id ≡ s.id
+    keeps_id true s = same_id s
+    keeps_id false s = refl
+
+    keeps_messages : (b : Bool) (s : Stream) → (if b then f s else s).messages ≡ s.messages
+    keeps_messages true s = same s
+    keeps_messages false s = refl
+
+-- ---- whether messages are interleaved
+
+numbered_again : (queued : List Message) (u : UnderWay) (ssn mid : ℕ) (streams : List Stream) → HoldsQueued queued [] streams (Some u) → HoldsQueued queued [] streams (Some (record u { ssn = ssn; mid = mid }))
+numbered_again queued u ssn mid streams queue_holds =
+    let g : IsGoing queued [] streams u = queue_holds.going in
+    record {
+      wait = queue_holds.wait;
+      ascend = queue_holds.ascend;
+      beyond = λ q n f at of. absurd (cc);
+      distinct = queue_holds.distinct;
+      going = record { place = g.place; message = g.message; at = g.at; unfinished = g.unfinished; begun = g.begun; there = record { q = g.there.q; within = g.there.within; is = g.there.is; waiting = g.there.waiting; front = g.there.front }; came = inl refl; front = g.front };
+      room = (let room = queue_holds.room in record { whole = room.whole; count = room.count });
+    }
+
+pub numbered_hold : (queued : List Message) (enabled : Bool) (queue : SendQueueState) → QueueHolds queued [] queue → QueueHolds queued [] (numbered_for enabled queue)
+numbered_hold queued enabled queue queues = go queue.under_way (is_other queue.is_interleaved enabled) queues.queue_holds
+  where
+    same_id : (a b : Bool) (s : Stream) → (counted a b s).id ≡ s.id
+    same_id true true s = refl
+    same_id true false s = refl
+    same_id false true s = refl
+    same_id false false s = refl
+
+    same_messages : (a b : Bool) (s : Stream) → (counted a b s).messages ≡ s.messages
+    same_messages true true s = refl
+    same_messages true false s = refl
+    same_messages false true s = refl
+    same_messages false false s = refl
+
+    start : SendQueueState
+    start = record queue { is_interleaved = enabled }
+
+    go : (u : Option UnderWay) (b : Bool) → HoldsQueued queued [] queue.streams u → QueueHolds queued [] (numbered_where u b (record start { under_way = u }))
+    go None b queue_holds = record { queue_holds = queue_holds; next = queues.next }
+    go (Some u) false queue_holds = record { queue_holds = queue_holds; next = queues.next }
+    go (Some u) true queue_holds =
+        record {
+          queue_holds = numbered_again queued u _ _ (changed u.stream_id.0 (front_counted enabled) queue.streams)
+              (alike_hold queued [] (Some u) queue.streams (changed u.stream_id.0 (front_counted enabled) queue.streams)
+              (one_set (front_counted enabled) (λ s. same_id enabled (is_front_unordered s.messages) s) (λ s. same_messages enabled (is_front_unordered s.messages) s) u.stream_id.0 queue.streams) queue_holds);
+          next = queues.next;
+        }

@@ -1,0 +1,16 @@
+pub mod Places
+pub mod Weights
+pub mod Streams
+pub mod Produced
+pub mod Pieces
+pub mod Stages
+pub mod Filling
+pub mod Acknowledged
+pub mod Packets
+pub mod Flushes
+pub mod NextIdentifiers
+pub mod NewStreams
+pub mod Queueing
+pub mod KeptQueues
+pub mod Settings
+pub mod Marking

@@ -1,0 +1,9 @@
+pub mod Places
+pub mod Log
+pub mod Weights
+pub mod Pieces
+pub mod Stages
+pub mod Acknowledged
+pub mod Flushes
+pub mod Queueing
+pub mod Marking

@@ -1,0 +1,73 @@
+-- The log of an association: which piece of which message each TSN bears that its sender has assigned (RFC 9260, section 6.9). Lists have
+-- the newest first.
+use Rattle.std.specs.Prelude.{◌≡◌, ◌==◌, ◌<◌, ◌≤◌, ◌+◌, ℕ, Bool, false, Option, None, Some, List, [], ◌∷◌, length, take, drop, ◌^◌}
+use Rattle.dcsctp_delivery_sending.specs.Places.{at_place}
+use Rattle.std.specs.List.{AllByRecursion}
+
+-- a message that its user queued
+pub record Message : Type 0 where
+  pub stream : ℕ
+  pub ppid : ℕ
+  pub is_unordered : Bool
+  pub payload : List ℕ
+  -- Was it read in an earlier association? No piece of it is sent then.
+  pub is_spent : Bool
+
+-- A stretch of a message, which one fragment carries.
+pub record Piece : Type 0 where
+  -- how many messages were queued before its message
+  pub place : ℕ
+  pub message : Message
+  -- how many bytes of its message come before it
+  pub start : ℕ
+  pub size : ℕ
+
+-- What a TSN bears. The end of a message that is abandoned takes a TSN too, and is never sent.
+abbrev pub Slot : Type 0
+Slot = Option Piece
+
+-- the bits B and E of its fragment, and the payload
+abbrev pub is_beginning : Piece → Bool
+is_beginning piece = piece.start == 0
+
+abbrev pub is_end : Piece → Bool
+is_end piece = (piece.start + piece.size) == length piece.message.payload
+
+abbrev pub bytes_of : Piece → List ℕ
+bytes_of piece = take piece.size (drop piece.start piece.message.payload)
+
+-- what the newest TSN bears
+abbrev pub newest : List Slot → Option Slot
+newest [] = None
+newest (slot ∷ earlier) = Some slot
+
+-- It is a piece of the message that was queued at its place, which isn't spent.
+pub record IsPiece (queued : List Message) (piece : Piece) : Type 0 where
+  pub at : at_place piece.place queued ≡ Some piece.message
+  pub fresh : piece.message.is_spent ≡ false
+  pub some : 0 < piece.size
+  pub within : piece.start + piece.size ≤ length piece.message.payload
+
+-- The TSN before this one bears what comes before the piece in its message.
+pub record HasBefore (log : List Slot) (number : ℕ) (piece : Piece) : Type 0 where
+  pub earlier : ℕ
+  pub is : earlier + 1 ≡ number
+  pub before : Piece
+  pub at : at_place earlier log ≡ Some (Some before)
+  pub start : before.start + before.size ≡ piece.start
+  pub place : before.place ≡ piece.place
+  pub message : before.message ≡ piece.message
+
+-- The log is one of messages that were queued. The pieces of a message follow one another; only the first TSN of an association may bear
+-- the rest of a message whose beginning was sent in an earlier one. Of two messages of a stream the one that is begun later was queued later.
+pub record Cut (queued : List Message) (log : List Slot) : Type 0 where
+  pub pieces : (n : ℕ) (f : Piece) → at_place n log ≡ Some (Some f) → IsPiece queued f
+  pub rows : (n : ℕ) (f : Piece) → 0 < n → at_place n log ≡ Some (Some f) → 0 < f.start → HasBefore log n f
+  pub ascends : (m n : ℕ) (f g : Piece) → m < n → at_place m log ≡ Some (Some f) → at_place n log ≡ Some (Some g) → g.start ≡ 0
+      → f.message.stream ≡ g.message.stream → f.place < g.place
+
+-- The message fits the fields of a chunk, as one in memory does.
+pub record Fits (message : Message) : Type 0 where
+  pub stream : message.stream < 2 ^ 16
+  pub ppid : message.ppid < 2 ^ 32
+  pub payload : AllByRecursion (λ byte. byte < 2 ^ 8) message.payload

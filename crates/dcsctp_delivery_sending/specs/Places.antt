@@ -1,0 +1,16 @@
+-- Lists with the newest first, and tables of numbers.
+use Rattle.std.specs.Prelude.{◌≡◌, ◌==◌, ℕ, Option, None, Some, List, [], ◌∷◌, ◌⊎◌, length, if◌then◌else◌}
+
+-- The entry is in the list.
+abbrev pub Has : {A : Type 0} → A → List A → Type 0
+Has entry [] = ⊥
+Has entry (newest ∷ earlier) = (entry ≡ newest) ⊎ Has entry earlier
+
+-- the entry at this place: so many came before it
+abbrev pub at_place : {A : Type 0} → ℕ → List A → Option A
+at_place place [] = None
+at_place place (newest ∷ earlier) = if place == length earlier then Some newest else at_place place earlier
+
+-- the table, with this entry at the number
+abbrev pub set_at : {A : Type 0} → ℕ → A → (ℕ → A) → (ℕ → A)
+set_at number entry table = λ other. if other == number then entry else table other

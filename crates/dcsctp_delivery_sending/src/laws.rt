@@ -1,0 +1,55 @@
+//! The laws of this crate.
+
+ghost use Rattle.dcsctp_delivery_sending.specs.Acknowledged.{AcknowledgingKeeps, LosingKeeps};
+ghost use Rattle.dcsctp_delivery_sending.specs.Flushes.{FlushesSendPieces};
+ghost use Rattle.dcsctp_delivery_sending.specs.Marking.{MarkingKeeps, MarkedIsSpent, MarkingFits};
+ghost use Rattle.dcsctp_delivery_sending.specs.Pieces.{PiecesFollow};
+ghost use Rattle.dcsctp_delivery_sending.specs.Queueing.{QueueingKeeps, KeptQueuesHold, RestartedQueuesHold, SettingKeeps, PreparingKeeps, CommittingKeeps, RollingBackKeeps};
+ghost use Rattle.dcsctp_delivery_sending.specs.Stages.{PacketsBearPieces, GivingUpKeeps};
+
+/// What the send queue hands out is the next piece of a message that was queued: the pieces of a message follow one
+/// another, and messages of a stream are begun in the order in which they were queued, each once.
+pub fn pieces_follow()
+    ensures { PiecesFollow }
+{}
+
+/// A packet that is filled carries pieces of what was queued, each under its TSN.
+pub fn packets_bear_pieces()
+    ensures { PacketsBearPieces }
+{}
+
+/// Messages that are abandoned leave in flight what the log has (RFC 3758, section 3.5).
+pub fn giving_up_keeps()
+    ensures { GivingUpKeeps }
+{}
+
+/// A SACK, or a retransmission timer that expires, leaves in flight what the log has.
+pub fn acknowledging_keeps()
+    ensures acknowledged { AcknowledgingKeeps }
+    ensures lost { LosingKeeps }
+{}
+
+/// All data of a flush carries pieces of what was queued, each under its TSN. A FORWARD-TSN passes TSNs that were
+/// assigned.
+pub fn flushes_send_pieces()
+    ensures { FlushesSendPieces }
+{}
+
+/// A message that is queued waits after the others of its stream, under the next identifier. What waits outlasts
+/// settings, resets of own streams, and the association.
+pub fn queueing_keeps()
+    ensures added { QueueingKeeps }
+    ensures kept { KeptQueuesHold }
+    ensures restarted { RestartedQueuesHold }
+    ensures setting { SettingKeeps }
+    ensures prepared { PreparingKeeps }
+    ensures committed { CommittingKeeps }
+    ensures rolled_back { RollingBackKeeps }
+{}
+
+/// A message that no longer waits may be marked as spent where an association begins. No piece of it is sent then.
+pub fn marking_keeps()
+    ensures marked { MarkingKeeps }
+    ensures spent { MarkedIsSpent }
+    ensures fits { MarkingFits }
+{}

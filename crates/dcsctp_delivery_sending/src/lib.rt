@@ -1,0 +1,10 @@
+//! The log of an association: which piece of which message each TSN bears that its sender assigns. What waits in
+//! the send queue was queued, what is in flight and what a packet carries is of the log. TSNs are counted.
+#![tactic(auto)]
+
+mod laws;
+
+pub use laws::{
+    acknowledging_keeps, flushes_send_pieces, giving_up_keeps, marking_keeps, packets_bear_pieces,
+    pieces_follow, queueing_keeps,
+};
