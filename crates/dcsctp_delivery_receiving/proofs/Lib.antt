@@ -1,0 +1,13 @@
+pub mod Joining
+pub mod Rows
+pub mod SpentRows
+pub mod Distinct
+pub mod Waiting
+pub mod Ready
+pub mod Skipping
+pub mod Tracked
+pub mod Reassembled
+pub mod Received
+pub mod Taking
+pub mod Growing
+pub mod Arriving

@@ -1,0 +1,208 @@
+-- A DATA chunk and a FORWARD-TSN, with the tracker.
+use Rattle.std.proofs.Common.{◌≡◌, ℕ, Bool, true, false, List, [], ◌∷◌, ◌++◌, length, refl, sym, ◌∙◌, ap, subst, inl, inr}
+use Rattle.std.specs.Prelude.{◌&&◌, not, if◌then◌else◌, Option, Some}
+use Rattle.std.proofs.lemmas.List.{append-nil}
+use Rattle.dcsctp_machine.specs.declared.arrivals.SkippedTo.{SkippedTo}
+use Rattle.dcsctp_machine.specs.transfer.Arrivals.{Arrival}
+use Rattle.dcsctp_machine.specs.transfer.IncomingStreams.{ChunkModel}
+use Rattle.dcsctp_machine.specs.transfer.Reassembly.{DeferralModel, ReassemblyState, can_count, is_deferred, is_forward_deferred, is_above_watermark, AddsData, SkipsData, actions_of}
+use Rattle.dcsctp_machine.specs.transfer.Tracker.{TrackerState, is_new_tsn, observed, is_forward, is_valid_tsn, after_forward, delay_over, moved_forward}
+use Rattle.dcsctp_machine.specs.transfer.Transfer.{Transfer}
+use Rattle.dcsctp_machine.specs.turns.TransferMoves.{AddsWhere, ReceivesWhere, SkipsWhere, GoesForward, MovesWhere, ReceivesData, MovesForward, TakesData as TakesArrival}
+use Rattle.dcsctp_delivery_sending.specs.Places.{Has}
+use Rattle.dcsctp_delivery_sending.specs.Log.{Message, Slot, Cut}
+use Rattle.dcsctp_delivery_receiving.specs.Ready.{AreDistinct}
+use Rattle.dcsctp_delivery_receiving.specs.Tracked.{Tracks}
+use Rattle.dcsctp_delivery_receiving.specs.Received.{Carries, IsTsn, Defers, Received, Few}
+use Rattle.dcsctp_delivery_sending.proofs.Places.{at_below}
+use Rattle.dcsctp_delivery_receiving.proofs.Distinct.{has_either, distinct_with}
+use Rattle.dcsctp_delivery_receiving.proofs.Tracked.{new_is_new, passing_keeps}
+use Rattle.dcsctp_delivery_receiving.proofs.Reassembled.{waiting_forward, forward_handled, waiting_data, data_handled}
+
+module _ (queued : List Message) (log : List Slot) (first : ℕ) (cut : Cut queued log) (f : Few log first) (read : List ℕ) where
+  -- a chunk whose TSN is new
+  added : (offset tsn : ℕ) (chunk : ChunkModel) (tracker now : TrackerState) (old new : ReassemblyState) → Carries log first offset tsn chunk → (r : Received queued log first read tracker old)
+      → Tracks first (length log) (offset ∷ r.taken) now → (Has offset r.taken → ⊥) → AddsData tsn chunk old new → Received queued log first read now new
+  added offset tsn chunk tracker now old new c r tracks fresh adds = go (can_count (length chunk.payload) old) refl (is_deferred tsn chunk.stream old.deferral) refl
+    where
+      unhandled : Has offset r.got → ⊥
+      unhandled h = fresh (r.got_taken offset h)
+
+      go : (counts : Bool) → can_count (length chunk.payload) old ≡ counts → (waits : Bool) → is_deferred tsn chunk.stream old.deferral ≡ waits → Received queued log first read now new
+      go false counts waits deferred =
+          subst (λ (s : ReassemblyState). Received queued log first read now s) (sym (adds.too_much counts))
+          (record {
+            taken = offset ∷ r.taken;
+            got = r.got;
+            later = r.later;
+            tracks = tracks;
+            got_taken = λ k h. inr (r.got_taken k h);
+            later_taken = λ k h. inr (r.later_taken k h);
+            apart = r.apart;
+            distinct = r.distinct;
+            holds = r.holds;
+            defers = r.defers;
+          })
+      go true counts true deferred =
+          subst (λ (s : ReassemblyState). Received queued log first read now s) (sym (adds.deferred counts deferred))
+          (record {
+            taken = offset ∷ r.taken;
+            got = r.got;
+            later = r.later ++ offset ∷ [];
+            tracks = tracks;
+            got_taken = λ k h. inr (r.got_taken k h);
+            later_taken = λ k h. elim (has_either k r.later (offset ∷ []) h) [
+              | inl l ↦ inr (r.later_taken k l)
+              | inr e ↦ elim e [ inl e' ↦ inl e' | inr t ↦ absurd t ]
+            ];
+            apart = λ k h g. elim (has_either k r.later (offset ∷ []) h) [
+              | inl l ↦ r.apart k l g
+              | inr e ↦ elim e [ inl e' ↦ unhandled (subst (λ (j : ℕ). Has j r.got) e' g) | inr t ↦ absurd t ]
+            ];
+            distinct = distinct_with offset r.later [] (subst (λ (l : List ℕ). AreDistinct l) (sym (append-nil r.later)) r.distinct)
+                (λ h. fresh (r.later_taken offset (subst (λ (l : List ℕ). Has offset l) (append-nil r.later) h)));
+            holds = r.holds;
+            defers = waiting_data log first offset tsn chunk r.later old.deferral deferred c r.defers;
+          })
+      go true counts false deferred =
+          let takes = adds.taken counts deferred in
+          record {
+            taken = offset ∷ r.taken;
+            got = offset ∷ r.got;
+            later = r.later;
+            tracks = tracks;
+            got_taken = λ k h. elim h [ inl e ↦ inl e | inr t ↦ inr (r.got_taken k t) ];
+            later_taken = λ k h. inr (r.later_taken k h);
+            apart = λ k h g. elim g [ inl e ↦ fresh (r.later_taken offset (subst (λ (j : ℕ). Has j r.later) e h)) | inr t ↦ r.apart k h t ];
+            distinct = r.distinct;
+            holds = data_handled queued log first cut f read r.got offset tsn chunk old.incoming new.incoming c unhandled r.holds takes.incoming;
+            defers = subst (λ (d : Option DeferralModel). Defers log first r.later (actions_of d)) (sym takes.deferral) r.defers;
+          }
+
+  -- the tracker moves alone
+  tracked_on : (tracker now : TrackerState) (reassembly : ReassemblyState) (r : Received queued log first read tracker reassembly) (offset : ℕ) → Tracks first (length log) (offset ∷ r.taken) now → Received queued log first read now reassembly
+  tracked_on tracker now reassembly r offset tracks =
+      record {
+        taken = offset ∷ r.taken;
+        got = r.got;
+        later = r.later;
+        tracks = tracks;
+        got_taken = λ k h. inr (r.got_taken k h);
+        later_taken = λ k h. inr (r.later_taken k h);
+        apart = r.apart;
+        distinct = r.distinct;
+        holds = r.holds;
+        defers = r.defers;
+      }
+
+  taken_keeps : (offset : ℕ) (arrival : Arrival) (old new : Transfer) → Carries log first offset arrival.tsn arrival.chunk → Received queued log first read old.tracker old.reassembly → TakesArrival arrival old new
+      → Received queued log first read new.tracker new.reassembly
+  taken_keeps offset arrival old new c r takes =
+      let told = new_is_new first (length log) offset arrival.immediate_ack r.taken old.tracker f.small f.few (at_below offset (Some c.piece) log c.at) r.tracks in
+      let tracks : Tracks first (length log) (offset ∷ r.taken) (observed arrival.tsn arrival.immediate_ack old.tracker) =
+      subst (λ (t : ℕ). Tracks first (length log) (offset ∷ r.taken) (observed t arrival.immediate_ack old.tracker)) (sym c.is) told.0 in
+      subst (λ (t : TrackerState). Received queued log first read t new.reassembly) (sym (ap (λ (t : Transfer). t.tracker) takes.rest))
+      (go (is_new_tsn arrival.tsn old.tracker) refl tracks (λ new_tsn. told.1 (subst (λ (t : ℕ). is_new_tsn t old.tracker ≡ true) c.is new_tsn)) takes.reassembly)
+    where
+      go : (b : Bool) → is_new_tsn arrival.tsn old.tracker ≡ b → Tracks first (length log) (offset ∷ r.taken) (observed arrival.tsn arrival.immediate_ack old.tracker)
+          → (is_new_tsn arrival.tsn old.tracker ≡ true → Has offset r.taken → ⊥) → AddsWhere b arrival.tsn arrival.chunk old.reassembly new.reassembly
+          → Received queued log first read (observed arrival.tsn arrival.immediate_ack old.tracker) new.reassembly
+      go true is tracks fresh adds = added offset arrival.tsn arrival.chunk old.tracker (observed arrival.tsn arrival.immediate_ack old.tracker) old.reassembly new.reassembly c r tracks (fresh is) adds
+      go false is tracks fresh adds =
+          subst (λ (s : ReassemblyState). Received queued log first read (observed arrival.tsn arrival.immediate_ack old.tracker) s) (sym adds)
+          (tracked_on old.tracker (observed arrival.tsn arrival.immediate_ack old.tracker) old.reassembly r offset tracks)
+
+  same_transfer : (old new : Transfer) → new ≡ old → Received queued log first read old.tracker old.reassembly → Received queued log first read new.tracker new.reassembly
+  same_transfer old new same r = subst (λ (t : Transfer). Received queued log first read t.tracker t.reassembly) (sym same) r
+
+  pub receiving_keeps : (offset : ℕ) (arrival : Arrival) (old new : Transfer) → Carries log first offset arrival.tsn arrival.chunk → Received queued log first read old.tracker old.reassembly → ReceivesData arrival old new
+      → Received queued log first read new.tracker new.reassembly
+  receiving_keeps offset arrival old new c r receives = go (not (is_above_watermark old.reassembly) && is_valid_tsn old.tracker.cumulative arrival.tsn) receives
+    where
+      go : (b : Bool) → ReceivesWhere b arrival old new → Received queued log first read new.tracker new.reassembly
+      go true takes = taken_keeps offset arrival old new c r takes
+      go false same = same_transfer old new same r
+
+  -- ---- a FORWARD-TSN
+
+  skipped_keeps : (tsn : ℕ) (entries : List SkippedTo) (tracker now : TrackerState) (old new : ReassemblyState) → IsTsn log first tsn → (r : Received queued log first read tracker old) → Tracks first (length log) r.taken now
+      → SkipsData tsn entries old new → Received queued log first read now new
+  skipped_keeps tsn entries tracker now old new t r tracks skips = go (is_forward_deferred tsn old.deferral) refl
+    where
+      go : (b : Bool) → is_forward_deferred tsn old.deferral ≡ b → Received queued log first read now new
+      go true is =
+          subst (λ (s : ReassemblyState). Received queued log first read now s) (sym (skips.deferred is))
+          (record {
+            taken = r.taken;
+            got = r.got;
+            later = r.later;
+            tracks = tracks;
+            got_taken = r.got_taken;
+            later_taken = r.later_taken;
+            apart = r.apart;
+            distinct = r.distinct;
+            holds = r.holds;
+            defers = waiting_forward log first tsn entries r.later old.deferral is t r.defers;
+          })
+      go false is =
+          let moved = skips.moved is in
+          record {
+            taken = r.taken;
+            got = r.got;
+            later = r.later;
+            tracks = tracks;
+            got_taken = r.got_taken;
+            later_taken = r.later_taken;
+            apart = r.apart;
+            distinct = r.distinct;
+            holds = forward_handled queued log first cut f read r.got tsn entries old.incoming new.incoming t r.holds moved.incoming;
+            defers = subst (λ (d : Option DeferralModel). Defers log first r.later (actions_of d)) (sym moved.deferral) r.defers;
+          }
+
+  delayed_tracks : (taken : List ℕ) (tracker : TrackerState) → Tracks first (length log) taken tracker → Tracks first (length log) taken (delay_over tracker)
+  delayed_tracks taken tracker tracks = record { beyond = tracks.beyond; reached = tracks.reached; started = tracks.started; sent = tracks.sent; received = tracks.received }
+
+  with_tracks : (tracker now : TrackerState) (reassembly : ReassemblyState) (r : Received queued log first read tracker reassembly) → Tracks first (length log) r.taken now → Received queued log first read now reassembly
+  with_tracks tracker now reassembly r tracks =
+      record {
+        taken = r.taken;
+        got = r.got;
+        later = r.later;
+        tracks = tracks;
+        got_taken = r.got_taken;
+        later_taken = r.later_taken;
+        apart = r.apart;
+        distinct = r.distinct;
+        holds = r.holds;
+        defers = r.defers;
+      }
+
+  gone_forward : (tsn : ℕ) (entries : List SkippedTo) (old new : Transfer) → IsTsn log first tsn → Received queued log first read old.tracker old.reassembly → GoesForward tsn entries old new
+      → Received queued log first read new.tracker new.reassembly
+  gone_forward tsn entries old new t r goes =
+      subst (λ (k : TrackerState). Received queued log first read k new.reassembly) (sym (ap (λ (k : Transfer). k.tracker) goes.rest)) (go (is_forward old.tracker.cumulative tsn) refl goes.reassembly)
+    where
+      passed : is_forward old.tracker.cumulative tsn ≡ true → Tracks first (length log) r.taken (after_forward tsn old.tracker)
+      passed is =
+          subst (λ (n : ℕ). Tracks first (length log) r.taken (after_forward n old.tracker)) (sym t.is)
+          (passing_keeps first (length log) t.offset r.taken old.tracker f.small f.few t.below r.tracks (subst (λ (n : ℕ). is_forward old.tracker.cumulative n ≡ true) t.is is))
+
+      not_passed : (b : Bool) → is_forward old.tracker.cumulative tsn ≡ b → b ≡ false → after_forward tsn old.tracker ≡ delay_over old.tracker
+      not_passed b is clear = subst (λ (c : Bool). (if c then moved_forward tsn old.tracker else delay_over old.tracker) ≡ delay_over old.tracker) (sym (is ∙ clear)) refl
+
+      go : (b : Bool) → is_forward old.tracker.cumulative tsn ≡ b → SkipsWhere b tsn entries old.reassembly new.reassembly → Received queued log first read (after_forward tsn old.tracker) new.reassembly
+      go true is skips = skipped_keeps tsn entries old.tracker (after_forward tsn old.tracker) old.reassembly new.reassembly t r (passed is) skips
+      go false is same =
+          subst (λ (s : ReassemblyState). Received queued log first read (after_forward tsn old.tracker) s) (sym same)
+          (with_tracks old.tracker (after_forward tsn old.tracker) old.reassembly r
+          (subst (λ (k : TrackerState). Tracks first (length log) r.taken k) (sym (not_passed false is refl)) (delayed_tracks r.taken old.tracker r.tracks)))
+
+  pub forwarding_keeps : (tsn : ℕ) (entries : List SkippedTo) (old new : Transfer) → IsTsn log first tsn → Received queued log first read old.tracker old.reassembly → MovesForward tsn entries old new
+      → Received queued log first read new.tracker new.reassembly
+  forwarding_keeps tsn entries old new t r moves = go (is_valid_tsn old.tracker.cumulative tsn) moves
+    where
+      go : (b : Bool) → MovesWhere b tsn entries old new → Received queued log first read new.tracker new.reassembly
+      go true goes = gone_forward tsn entries old new t r goes
+      go false same = same_transfer old new same r
+
+-- a FORWARD-TSN that passes nothing

@@ -1,0 +1,207 @@
+-- What a FORWARD-TSN skips, and streams that are reset.
+use Rattle.std.proofs.Common.{◌≡◌, ◌≢◌, ◌==◌, ℕ, Bool, true, false, List, [], ◌∷◌, ◌++◌, map, refl, sym, ◌∙◌, ap, subst, inl, inr}
+use Rattle.std.specs.Prelude.{nat_le, not, if◌then◌else◌}
+use Rattle.std.specs.List.{filter}
+use Rattle.std.proofs.lemmas.List.{append-nil}
+use Rattle.std.proofs.lemmas.Bool.Decides.{eqb_tells}
+use Rattle.dcsctp_machine.specs.transfer.Messages.{MessageContent}
+use Rattle.dcsctp_machine.specs.declared.arrivals.SkippedTo.{SkippedTo}
+use Rattle.dcsctp_machine.specs.declared.arrivals.SkippedTo.TheVariants.{Ssn, Mid}
+use Rattle.dcsctp_machine.specs.transfer.Numbers.{number_near, short_number_near}
+use Rattle.dcsctp_machine.specs.transfer.Runs.{RunModel, WholeModel, behind_place}
+use Rattle.dcsctp_machine.specs.transfer.IncomingStreams.{StreamModel, new_stream, delivered_as, due, next_past, skipped_stream, skipped, skip_deliveries}
+use Rattle.dcsctp_machine.specs.transfer.Incoming.{IncomingModel, stream_on, skipped_on, skipped_by, deliveries_by, MovesOn, is_named, ResetsStreams}
+use Rattle.dcsctp_delivery_sending.specs.Places.{Has, set_at}
+use Rattle.dcsctp_delivery_sending.specs.Log.{Message, Piece, Slot}
+use Rattle.dcsctp_delivery_receiving.specs.Rows.{AreRows}
+use Rattle.dcsctp_delivery_receiving.specs.Ready.{IsOn, IsOfStream, AreDistinct, WereQueued, StreamHolds, HoldsAll, Holds}
+use Rattle.dcsctp_delivery_sending.proofs.Places.{decide, set_same, set_other}
+use Rattle.dcsctp_delivery_receiving.proofs.Distinct.{has_left, has_either, appended, distinct_left, distinct_apart, distinct_front}
+use Rattle.dcsctp_delivery_receiving.proofs.Waiting.{both_queued, other_streams, wait_on_stream, wait_spent, Split, split_due, Leaves, leaves_none}
+
+module _ (queued : List Message) (log : List Slot) (got : List ℕ) (base : ℕ) (read : List ℕ) where
+  rows_filter : (Named : Piece → ℕ → Type 0) (test : RunModel → Bool) (runs : List RunModel) → AreRows log got base Named runs → AreRows log got base Named (filter test runs)
+  rows_filter Named test [] are = tt
+  rows_filter Named test (r ∷ runs) are = go (test r) (rows_filter Named test runs are.1)
+    where
+      go : (b : Bool) → AreRows log got base Named (filter test runs) → AreRows log got base Named (if b then r ∷ filter test runs else filter test runs)
+      go true rest = (are.0, rest)
+      go false rest = rest
+
+  rows_behind : (Named : Piece → ℕ → Type 0) (place : ℕ) (runs : List RunModel) → AreRows log got base Named runs → AreRows log got base Named (behind_place place runs)
+  rows_behind Named place [] are = tt
+  rows_behind Named place (r ∷ runs) are = go (nat_le r.first place) (rows_behind Named place runs are.1)
+    where
+      go : (b : Bool) → AreRows log got base Named (behind_place place runs) → AreRows log got base Named (if b then behind_place place runs else r ∷ runs)
+      go true rest = rest
+      go false rest = are
+
+  -- streams that are the same
+  pub holds_same : (streams others : ℕ → StreamModel) (unordered : List RunModel) (ready : List MessageContent) → ((id : ℕ) → others id ≡ streams id) → HoldsAll queued log got base read streams unordered ready
+      → HoldsAll queued log got base read others unordered ready
+  holds_same streams others unordered ready same holds =
+      record {
+        waits = holds.waits;
+        streams_hold = λ id. subst (λ (s : StreamModel). StreamHolds queued log got base id (holds.waits id) s) (sym (same id)) (holds.streams_hold id);
+        rows = holds.rows;
+        places = holds.places;
+        were_queued = holds.were_queued;
+        spent = holds.spent;
+        once = holds.once;
+      }
+
+  -- one stream is left so
+  holds_left : (id : ℕ) (streams later : ℕ → StreamModel) (unordered : List RunModel) (ready after : List MessageContent) (holds : HoldsAll queued log got base read streams unordered ready)
+      → (later id).id ≡ id → AreRows log got base (IsOn id) (later id).ordered → ((other : ℕ) → other ≢ id → later other ≡ streams other)
+      → Leaves queued log got (read ++ holds.places) holds.places id (later id).waiting after → HoldsAll queued log got base read later unordered after
+  holds_left id streams later unordered ready after holds same rows others leaves =
+      record {
+        waits = set_at id leaves.waits holds.waits;
+        streams_hold = λ other. elim (decide other id) [
+          | inl e ↦
+              subst (λ (k : ℕ). StreamHolds queued log got base k (set_at id leaves.waits holds.waits k) (later k)) (sym e)
+              (subst (λ (l : List ℕ). StreamHolds queued log got base id l (later id)) (sym (set_same id leaves.waits holds.waits)) (record { is = same; rows = rows; wait = leaves.wait }))
+          | inr ne ↦
+              subst (λ (l : List ℕ). StreamHolds queued log got base other l (later other)) (sym (set_other id other leaves.waits holds.waits ne))
+              (subst (λ (s : StreamModel). StreamHolds queued log got base other (holds.waits other) s) (sym (others other ne)) (holds.streams_hold other))
+        ];
+        rows = holds.rows;
+        places = holds.places ++ leaves.more;
+        were_queued = leaves.were;
+        spent = λ q h. elim (has_either q (read ++ holds.places) leaves.more (subst (λ (l : List ℕ). Has q l) (sym (appended read holds.places leaves.more)) h)) [
+          | inl l ↦ holds.spent q l
+          | inr r ↦ leaves.spent q r
+        ];
+        once = λ other. subst (λ (l : List ℕ). AreDistinct (l ++ set_at id leaves.waits holds.waits other)) (appended read holds.places leaves.more)
+            (elim (decide other id) [
+              | inl e ↦
+                  subst (λ (l : List ℕ). AreDistinct (((read ++ holds.places) ++ leaves.more) ++ l)) (sym (ap (set_at id leaves.waits holds.waits) e ∙ set_same id leaves.waits holds.waits)) leaves.once
+              | inr ne ↦
+                  subst (λ (l : List ℕ). AreDistinct (((read ++ holds.places) ++ leaves.more) ++ l)) (sym (set_other id other leaves.waits holds.waits ne))
+                  (distinct_apart (read ++ holds.places) leaves.more (holds.waits other) (distinct_left ((read ++ holds.places) ++ leaves.more) leaves.waits leaves.once) (holds.once other)
+                  (λ q l r. other_streams queued id other q (leaves.on q l) (wait_on_stream queued log got other q (holds.waits other) (streams other).waiting (holds.streams_hold other).wait r) (λ same'. ne (sym same'))))
+            ]);
+      }
+
+  -- what is due becomes ready
+  leaves_due : (all places waits : List ℕ) (id next : ℕ) (stream : StreamModel) (before : List MessageContent) → StreamHolds queued log got base id waits stream → WereQueued queued places before → AreDistinct (all ++ waits)
+      → (left : List WholeModel) (split : Split queued log got id waits (due next stream.waiting) left) → Leaves queued log got all places id left (before ++ map (delivered_as stream.id) (due next stream.waiting))
+  leaves_due all places waits id next stream before holds were once left split =
+      record {
+        more = split.front;
+        waits = split.back;
+        were = both_queued queued places split.front before (map (delivered_as stream.id) (due next stream.waiting)) were
+            (subst (λ (k : ℕ). WereQueued queued split.front (map (delivered_as k) (due next stream.waiting))) (sym holds.is) split.due_queued);
+        wait = split.left_queued;
+        once = subst (λ (l : List ℕ). AreDistinct l) (sym (appended all split.front split.back)) (subst (λ (l : List ℕ). AreDistinct (all ++ l)) split.parts once);
+        on = λ q h. wait_on_stream queued log got id q waits stream.waiting holds.wait (subst (λ (l : List ℕ). Has q l) (sym split.parts) (has_left q split.front split.back h));
+        spent = λ q h. wait_spent queued log got id q waits stream.waiting holds.wait (subst (λ (l : List ℕ). Has q l) (sym split.parts) (has_left q split.front split.back h));
+      }
+
+  skipped_leaves : (all places waits : List ℕ) (id : ℕ) (entry : SkippedTo) (stream : StreamModel) (before : List MessageContent) → StreamHolds queued log got base id waits stream → WereQueued queued places before → AreDistinct (all ++ waits)
+      → Leaves queued log got all places id (skipped entry stream).waiting (before ++ skip_deliveries entry stream)
+  skipped_leaves all places waits id (Ssn on ssn) stream before holds were once =
+      leaves_due all places waits id (next_past (short_number_near stream.next ssn) stream.next) stream before holds were once _
+      (split_due queued log got id (next_past (short_number_near stream.next ssn) stream.next) waits stream.waiting holds.wait)
+  skipped_leaves all places waits id (Mid on false mid) stream before holds were once =
+      leaves_due all places waits id (next_past (number_near stream.next mid) stream.next) stream before holds were once _
+      (split_due queued log got id (next_past (number_near stream.next mid) stream.next) waits stream.waiting holds.wait)
+  skipped_leaves all places waits id (Mid on true mid) stream before holds were once =
+      leaves_none queued log got all places waits id stream.waiting before (before ++ []) were holds.wait once (append-nil before)
+
+  skipped_rows : (id : ℕ) (waits : List ℕ) (entry : SkippedTo) (stream : StreamModel) → StreamHolds queued log got base id waits stream → AreRows log got base (IsOn id) (skipped entry stream).ordered
+  skipped_rows id waits (Ssn on ssn) stream holds = rows_filter (IsOn id) (λ run. not (nat_le run.number (short_number_near stream.next ssn))) stream.ordered holds.rows
+  skipped_rows id waits (Mid on false mid) stream holds = rows_filter (IsOn id) (λ run. not (nat_le run.number (number_near stream.next mid))) stream.ordered holds.rows
+  skipped_rows id waits (Mid on true mid) stream holds = holds.rows
+
+  skipped_id : (entry : SkippedTo) (stream : StreamModel) → (skipped entry stream).id ≡ stream.id
+  skipped_id (Ssn on ssn) stream = refl
+  skipped_id (Mid on false mid) stream = refl
+  skipped_id (Mid on true mid) stream = refl
+
+  on_itself : (entry : SkippedTo) (stream : StreamModel) → skipped_on entry (skipped_stream entry) stream ≡ skipped entry stream
+  on_itself entry stream = go (skipped_stream entry == skipped_stream entry) (elim (eqb_tells (skipped_stream entry) (skipped_stream entry)) [ inl e ↦ e.0 | inr e ↦ absurd (e.1 refl) ])
+    where
+      go : (b : Bool) → b ≡ true → (if b then skipped entry stream else stream) ≡ skipped entry stream
+      go true e = refl
+      go false e = absurd (cc)
+
+  on_others : (entry : SkippedTo) (other : ℕ) (stream : StreamModel) → other ≢ skipped_stream entry → skipped_on entry other stream ≡ stream
+  on_others entry other stream ne = go (skipped_stream entry == other) (elim (eqb_tells (skipped_stream entry) other) [ inl e ↦ absurd (ne (sym e.1)) | inr e ↦ e.0 ])
+    where
+      go : (b : Bool) → b ≡ false → (if b then skipped entry stream else stream) ≡ stream
+      go true e = absurd (cc)
+      go false e = refl
+
+  one_skipped : (entry : SkippedTo) (streams : ℕ → StreamModel) (unordered : List RunModel) (ready : List MessageContent) → HoldsAll queued log got base read streams unordered ready
+      → HoldsAll queued log got base read (λ id. skipped_on entry id (streams id)) unordered (ready ++ skip_deliveries entry (streams (skipped_stream entry)))
+  one_skipped entry streams unordered ready holds =
+      let id : ℕ = skipped_stream entry in
+      let here : StreamHolds queued log got base id (holds.waits id) (streams id) = holds.streams_hold id in
+      let is = on_itself entry (streams id) in
+      holds_left id streams (λ other. skipped_on entry other (streams other)) unordered ready (ready ++ skip_deliveries entry (streams id)) holds
+      (ap (λ (s : StreamModel). s.id) is ∙ skipped_id entry (streams id) ∙ here.is)
+      (subst (λ (s : StreamModel). AreRows log got base (IsOn id) s.ordered) (sym is) (skipped_rows id (holds.waits id) entry (streams id) here))
+      (λ other ne. on_others entry other (streams other) ne)
+      (subst (λ (s : StreamModel). Leaves queued log got (read ++ holds.places) holds.places id s.waiting (ready ++ skip_deliveries entry (streams id))) (sym is)
+      (skipped_leaves (read ++ holds.places) holds.places (holds.waits id) id entry (streams id) ready here holds.were_queued (holds.once id)))
+
+  all_skipped : (entries : List SkippedTo) (streams : ℕ → StreamModel) (unordered : List RunModel) (ready : List MessageContent) → HoldsAll queued log got base read streams unordered ready
+      → HoldsAll queued log got base read (λ id. skipped_by entries id (streams id)) unordered (ready ++ deliveries_by entries streams)
+  all_skipped [] streams unordered ready holds = subst (λ (l : List MessageContent). HoldsAll queued log got base read streams unordered l) (sym (append-nil ready)) holds
+  all_skipped (entry ∷ entries) streams unordered ready holds =
+      subst (λ (l : List MessageContent). HoldsAll queued log got base read (λ id. skipped_by (entry ∷ entries) id (streams id)) unordered l)
+      (messages_appended ready (skip_deliveries entry (streams (skipped_stream entry))) (deliveries_by entries (λ id. skipped_on entry id (streams id))))
+      (all_skipped entries (λ id. skipped_on entry id (streams id)) unordered (ready ++ skip_deliveries entry (streams (skipped_stream entry))) (one_skipped entry streams unordered ready holds))
+    where
+      messages_appended : (xs ys zs : List MessageContent) → (xs ++ ys) ++ zs ≡ xs ++ (ys ++ zs)
+      messages_appended [] ys zs = refl
+      messages_appended (x ∷ xs) ys zs = ap (λ (l : List MessageContent). x ∷ l) (messages_appended xs ys zs)
+
+  -- the runs of unordered messages are others
+  apart_rows : (streams : ℕ → StreamModel) (unordered others : List RunModel) (ready : List MessageContent) → HoldsAll queued log got base read streams unordered ready → AreRows log got base IsOfStream others
+      → HoldsAll queued log got base read streams others ready
+  apart_rows streams unordered others ready holds rows =
+      record { waits = holds.waits; streams_hold = holds.streams_hold; rows = rows; places = holds.places; were_queued = holds.were_queued; spent = holds.spent; once = holds.once }
+
+  pub skips_on : (tsn : ℕ) (entries : List SkippedTo) (old new : IncomingModel) → Holds queued log got base read old → MovesOn tsn entries old new → Holds queued log got base read new
+  skips_on tsn entries old new holds moves =
+      let skipped_all = all_skipped entries (λ id. stream_on id old.streams) old.unordered old.ready holds in
+      let rows : AreRows log got base IsOfStream new.unordered = subst (λ (l : List RunModel). AreRows log got base IsOfStream l) (sym moves.unordered) (rows_behind IsOfStream (number_near old.last_tsn_number tsn) old.unordered holds.rows) in
+      subst (λ (l : List MessageContent). HoldsAll queued log got base read (λ id. stream_on id new.streams) new.unordered l) (sym moves.ready)
+      (apart_rows (λ id. stream_on id new.streams) old.unordered new.unordered (old.ready ++ deliveries_by entries (λ id. stream_on id old.streams))
+      (holds_same (λ id. skipped_by entries id (stream_on id old.streams)) (λ id. stream_on id new.streams) old.unordered (old.ready ++ deliveries_by entries (λ id. stream_on id old.streams)) moves.streams skipped_all) rows)
+
+  -- ---- streams that start anew
+
+  -- these streams are new, and the others unchanged
+  renewed : (named : ℕ → Bool) (streams later : ℕ → StreamModel) (unordered others : List RunModel) (ready : List MessageContent) → ((id : ℕ) → later id ≡ (if named id then new_stream id else streams id))
+      → AreRows log got base IsOfStream others → HoldsAll queued log got base read streams unordered ready → HoldsAll queued log got base read later others ready
+  renewed named streams later unordered others ready are rows holds =
+      record {
+        waits = λ id. if named id then [] else holds.waits id;
+        streams_hold = λ id. subst (λ (s : StreamModel). StreamHolds queued log got base id (if named id then [] else holds.waits id) s) (sym (are id)) (left_stream id (named id));
+        rows = rows;
+        places = holds.places;
+        were_queued = holds.were_queued;
+        spent = holds.spent;
+        once = λ id. left_once id (named id);
+      }
+    where
+      left_stream : (id : ℕ) (b : Bool) → StreamHolds queued log got base id (if b then [] else holds.waits id) (if b then new_stream id else streams id)
+      left_stream id true = record { is = refl; rows = tt; wait = tt }
+      left_stream id false = holds.streams_hold id
+
+      left_once : (id : ℕ) (b : Bool) → AreDistinct ((read ++ holds.places) ++ (if b then [] else holds.waits id))
+      left_once id true = distinct_front (read ++ holds.places) (holds.waits id) (holds.once id)
+      left_once id false = holds.once id
+
+  pub resets_on : (streams : List ℕ) (old new : IncomingModel) → Holds queued log got base read old → ResetsStreams streams old new → Holds queued log got base read new
+  resets_on [] old new holds resets =
+      subst (λ (l : List MessageContent). HoldsAll queued log got base read (λ id. stream_on id new.streams) new.unordered l) (sym resets.kept.ready)
+      (renewed (λ id. true) (λ id. stream_on id old.streams) (λ id. stream_on id new.streams) old.unordered new.unordered old.ready resets.streams
+      (subst (λ (l : List RunModel). AreRows log got base IsOfStream l) (sym resets.unordered) tt) holds)
+  resets_on (reset ∷ others) old new holds resets =
+      subst (λ (l : List MessageContent). HoldsAll queued log got base read (λ id. stream_on id new.streams) new.unordered l) (sym resets.kept.ready)
+      (renewed (is_named (reset ∷ others)) (λ id. stream_on id old.streams) (λ id. stream_on id new.streams) old.unordered new.unordered old.ready resets.streams
+      (subst (λ (l : List RunModel). AreRows log got base IsOfStream l) (sym resets.unordered) (rows_filter IsOfStream (λ run. not (is_named (reset ∷ others) run.number)) old.unordered holds.rows)) holds)

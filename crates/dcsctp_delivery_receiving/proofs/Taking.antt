@@ -1,0 +1,212 @@
+-- What the user reads, what a new association has received, and what else a tracker does.
+use Rattle.std.proofs.Common.{◌≡◌, ℕ, Bool, true, false, ◌<◌, ◌≤◌, ◌+◌, ◌-◌, ◌%◌, ◌^◌, List, [], ◌∷◌, ◌++◌, length, refl, sym, ◌∙◌, ap, arith, subst, inl, inr}
+use Rattle.std.specs.Prelude.{if◌then◌else◌, Option, None, Some}
+use Rattle.std.proofs.lemmas.Bool.Decides.{nat_tests}
+use Rattle.dcsctp_machine.specs.declared.arrivals.SkippedTo.{SkippedTo}
+use Rattle.dcsctp_machine.specs.declared.options.Options.{Options}
+use Rattle.dcsctp_machine.specs.transfer.Messages.{MessageContent}
+use Rattle.dcsctp_machine.specs.transfer.Incoming.{IncomingModel}
+use Rattle.dcsctp_machine.specs.transfer.Reassembly.{entered, deferring, DeferralModel, ReassemblyState, actions_of, new_reassembly}
+use Rattle.dcsctp_machine.specs.declared.tracking.TsnRange.{TsnRange}
+use Rattle.dcsctp_machine.specs.transfer.Ranges.{IsBeyond, is_received}
+use Rattle.dcsctp_machine.specs.transfer.Tracker.{has_received, TrackerState, new_tracker, is_forward, is_valid_tsn, after_forward, delay_over, moved_forward}
+use Rattle.dcsctp_machine.specs.transfer.Transfer.{Transfer}
+use Rattle.dcsctp_machine.specs.turns.TransferMoves.{SkipsWhere, MovesWhere, MovesForward}
+use Rattle.dcsctp_delivery_sending.specs.Places.{Has}
+use Rattle.dcsctp_delivery_sending.specs.Log.{Message, Slot}
+use Rattle.dcsctp_delivery_receiving.specs.Ready.{AreDistinct, WereQueued, WasQueued, Holds}
+use Rattle.dcsctp_delivery_receiving.specs.Tracked.{tracked, Tracks}
+use Rattle.dcsctp_delivery_receiving.specs.Received.{Reassembles, untouched, placed, Defers, Received, Few, Reads}
+use Rattle.dcsctp_delivery_receiving.proofs.Distinct.{has_left, has_right, appended, distinct_left}
+
+nothing_passed : (first count cumulative tsn : ℕ) → first < 2 ^ 32 → count < 2 ^ 31 → cumulative + 1 ≤ tracked first count → tracked first 0 ≤ cumulative + 1 → tsn ≡ (first + 0 + (2 ^ 32 - 1)) % 2 ^ 32 → is_forward cumulative tsn ≡ false
+nothing_passed first count cumulative tsn small few reached started is = grind (arith, nat_tests, is)
+
+pub passing_nothing : (queued : List Message) (log : List Slot) (first : ℕ) (f : Few log first) (read : List ℕ) (tsn : ℕ) (entries : List SkippedTo) (old new : Transfer) → tsn ≡ (first + 0 + (2 ^ 32 - 1)) % 2 ^ 32
+    → Received queued log first read old.tracker old.reassembly → MovesForward tsn entries old new → Received queued log first read new.tracker new.reassembly
+passing_nothing queued log first f read tsn entries old new is r moves = go (is_valid_tsn old.tracker.cumulative tsn) moves
+  where
+    none : is_forward old.tracker.cumulative tsn ≡ false
+    none = nothing_passed first (length log) old.tracker.cumulative tsn f.small f.few r.tracks.reached r.tracks.started is
+
+    now : after_forward tsn old.tracker ≡ delay_over old.tracker
+    now = subst (λ (c : Bool). (if c then moved_forward tsn old.tracker else delay_over old.tracker) ≡ delay_over old.tracker) (sym none) refl
+
+    delayed : Tracks first (length log) r.taken (delay_over old.tracker)
+    delayed = record { beyond = r.tracks.beyond; reached = r.tracks.reached; started = r.tracks.started; sent = r.tracks.sent; received = r.tracks.received }
+
+    kept : Received queued log first read (delay_over old.tracker) old.reassembly
+    kept =
+        record {
+          taken = r.taken;
+          got = r.got;
+          later = r.later;
+          tracks = delayed;
+          got_taken = r.got_taken;
+          later_taken = r.later_taken;
+          apart = r.apart;
+          distinct = r.distinct;
+          holds = r.holds;
+          defers = r.defers;
+        }
+
+    go : (b : Bool) → MovesWhere b tsn entries old new → Received queued log first read new.tracker new.reassembly
+    go false same = subst (λ (t : Transfer). Received queued log first read t.tracker t.reassembly) (sym same) r
+    go true goes =
+        let same : new.reassembly ≡ old.reassembly = subst (λ (c : Bool). SkipsWhere c tsn entries old.reassembly new.reassembly) none goes.reassembly in
+        subst (λ (k : TrackerState). Received queued log first read k new.reassembly) (sym (ap (λ (k : Transfer). k.tracker) goes.rest ∙ now))
+        (subst (λ (s : ReassemblyState). Received queued log first read (delay_over old.tracker) s) (sym same) kept)
+
+-- ---- what the user takes
+
+-- the first that is ready
+record Taken' (queued : List Message) (log : List Slot) (got : List ℕ) (base : ℕ) (read : List ℕ) (incoming : IncomingModel) (message : MessageContent) (messages : List MessageContent) : Type 0 where
+  place : ℕ
+  was : WasQueued queued place message
+  fresh : Has place read → ⊥
+  holds : Holds queued log got base (read ++ place ∷ []) (record incoming { ready = messages })
+
+taken_first : (queued : List Message) (log : List Slot) (got : List ℕ) (base : ℕ) (read : List ℕ) (incoming : IncomingModel) (message : MessageContent) (messages : List MessageContent) → incoming.ready ≡ message ∷ messages
+    → Holds queued log got base read incoming → Taken' queued log got base read incoming message messages
+taken_first queued log got base read incoming message messages is holds =
+    go holds.places refl (subst (λ (l : List MessageContent). WereQueued queued holds.places l) is holds.were_queued)
+  where
+    not_twice : (p : ℕ) (xs ys : List ℕ) → AreDistinct (xs ++ (p ∷ ys)) → Has p xs → ⊥
+    not_twice p [] ys distinct h = h
+    not_twice p (x ∷ xs) ys distinct h =
+        elim h [
+          | inl e ↦ distinct.0 (has_right x xs (p ∷ ys) (inl (sym e)))
+          | inr t ↦ not_twice p xs ys distinct.1 t
+        ]
+
+    go : (places : List ℕ) → holds.places ≡ places → WereQueued queued places (message ∷ messages) → Taken' queued log got base read incoming message messages
+    go [] e were = absurd were
+    go (p ∷ places) e were =
+        let all : read ++ holds.places ≡ (read ++ p ∷ []) ++ places = ap (λ (l : List ℕ). read ++ l) e ∙ sym (appended read (p ∷ []) places) in
+        record {
+          place = p;
+          was = were.0;
+          fresh = not_twice p read places (subst (λ (l : List ℕ). AreDistinct (read ++ l)) e (distinct_left (read ++ holds.places) (holds.waits 0) (holds.once 0)));
+          holds = record {
+            waits = holds.waits;
+            streams_hold = holds.streams_hold;
+            rows = holds.rows;
+            places = places;
+            were_queued = were.1;
+            spent = λ q h. holds.spent q (subst (λ (l : List ℕ). Has q l) (sym all) h);
+            once = λ id. subst (λ (l : List ℕ). AreDistinct (l ++ holds.waits id)) all (holds.once id);
+          };
+        }
+
+pub reads_on : (queued : List Message) (log : List Slot) (first : ℕ) (read : List ℕ) (tracker : TrackerState) (reassembly : ReassemblyState) (message : MessageContent) (messages : List MessageContent)
+    → reassembly.incoming.ready ≡ message ∷ messages → Received queued log first read tracker reassembly → Reads queued log first read tracker reassembly message messages
+reads_on queued log first read tracker reassembly message messages is r = go r.holds
+  where
+    go : Reassembles queued log first r.got read reassembly.incoming → Reads queued log first read tracker reassembly message messages
+    go (placed base at holds) =
+        let t = taken_first queued log r.got base read reassembly.incoming message messages is holds in
+        record {
+          place = t.place;
+          sent = t.was.message;
+          at = t.was.at;
+          stream = t.was.stream;
+          ppid = t.was.ppid;
+          payload = t.was.payload;
+          fresh = t.fresh;
+          received = record {
+            taken = r.taken;
+            got = r.got;
+            later = r.later;
+            tracks = r.tracks;
+            got_taken = r.got_taken;
+            later_taken = r.later_taken;
+            apart = r.apart;
+            distinct = r.distinct;
+            holds = placed base at t.holds;
+            defers = r.defers;
+          };
+        }
+    go (untouched none last empty) =
+        let t = taken_first queued log [] 0 read reassembly.incoming message messages is (empty 0) in
+        let spent = t.holds.spent t.place (has_left t.place (read ++ t.place ∷ []) t.holds.places (has_right t.place read (t.place ∷ []) (inl refl))) in
+        absurd (spent.covered spent.offset (omega arith) spent.order)
+
+-- ---- a new association
+
+pub nothing_received : (options : Options) (queued : List Message) (log : List Slot) (first size : ℕ) → first < 2 ^ 32 → Received queued log first [] (new_tracker options first) (new_reassembly size)
+nothing_received options queued log first size small =
+    record {
+      taken = [];
+      got = [];
+      later = [];
+      tracks = record {
+        beyond = tt;
+        reached = omega arith;
+        started = omega arith;
+        sent = λ number is. (let up : number ≤ (first + (2 ^ 32 - 1)) % 2 ^ 32 = grind (arith, nat_tests, is) in omega arith);
+        received = λ offset h. absurd h;
+      };
+      got_taken = λ k h. absurd h;
+      later_taken = λ k h. absurd h;
+      apart = λ k h g. absurd h;
+      distinct = tt;
+      holds = untouched refl refl
+          (λ base. record {
+            waits = λ id. [];
+            streams_hold = λ id. record { is = refl; rows = tt; wait = tt };
+            rows = tt;
+            places = [];
+            were_queued = tt;
+            spent = λ p h. absurd h;
+            once = λ id. tt;
+          });
+      defers = tt;
+    }
+
+-- ---- the rest of what a tracker and a deferral do
+
+-- when an acknowledgement is due is another matter
+pub tracked_so : (queued : List Message) (log : List Slot) (first : ℕ) (read : List ℕ) (tracker now : TrackerState) (reassembly : ReassemblyState) → now.cumulative ≡ tracker.cumulative → now.ranges ≡ tracker.ranges
+    → Received queued log first read tracker reassembly → Received queued log first read now reassembly
+tracked_so queued log first read tracker now reassembly same same' r =
+    record {
+      taken = r.taken;
+      got = r.got;
+      later = r.later;
+      tracks = record {
+        beyond = subst (λ (c : ℕ). IsBeyond c now.ranges) (sym same) (subst (λ (l : List TsnRange). IsBeyond tracker.cumulative l) (sym same') r.tracks.beyond);
+        reached = omega (arith, same, r.tracks.reached);
+        started = omega (arith, same, r.tracks.started);
+        sent = λ number is. r.tracks.sent number (sym (alike number) ∙ is);
+        received = λ offset h. alike (tracked first offset) ∙ r.tracks.received offset h;
+      };
+      got_taken = r.got_taken;
+      later_taken = r.later_taken;
+      apart = r.apart;
+      distinct = r.distinct;
+      holds = r.holds;
+      defers = r.defers;
+    }
+  where
+    alike : (number : ℕ) → has_received now number ≡ has_received tracker number
+    alike number = ap (λ (c : ℕ). is_received c number now.ranges) same ∙ ap (λ (l : List TsnRange). is_received tracker.cumulative number l) same'
+
+pub deferring_keeps : (queued : List Message) (log : List Slot) (first : ℕ) (read : List ℕ) (last_tsn : ℕ) (streams : List ℕ) (tracker : TrackerState) (reassembly : ReassemblyState) → Received queued log first read tracker reassembly
+    → Received queued log first read tracker (deferring last_tsn streams reassembly)
+deferring_keeps queued log first read last_tsn streams tracker reassembly r =
+    record {
+      taken = r.taken;
+      got = r.got;
+      later = r.later;
+      tracks = r.tracks;
+      got_taken = r.got_taken;
+      later_taken = r.later_taken;
+      apart = r.apart;
+      distinct = r.distinct;
+      holds = r.holds;
+      defers = go reassembly.deferral r.later r.defers;
+    }
+  where
+    go : (d : Option DeferralModel) (later : List ℕ) → Defers log first later (actions_of d) → Defers log first later (actions_of (entered last_tsn streams d))
+    go None later defers = defers
+    go (Some d) later defers = defers

@@ -1,0 +1,147 @@
+-- Which TSNs are new.
+use Rattle.std.proofs.Common.{◌≡◌, ◌==◌, ℕ, Bool, true, false, ◌<◌, ◌≤◌, ◌+◌, ◌%◌, ◌^◌, List, [], ◌∷◌, refl, sym, ◌∙◌, ap, arith, subst, inl, inr}
+use Rattle.std.specs.Prelude.{◌||◌, not, nat_le, if◌then◌else◌}
+use Rattle.std.proofs.lemmas.Bool.Decides.{nat_tests, leb_tells}
+use Rattle.dcsctp_machine.specs.declared.tracking.TsnRange.{TsnRange}
+use Rattle.dcsctp_machine.specs.transfer.Numbers.{number_near}
+use Rattle.dcsctp_machine.specs.transfer.Ranges.{IsBeyond, is_in, is_received, received}
+use Rattle.dcsctp_machine.specs.transfer.Tracker.{TrackerState, has_received, number_of, is_new_tsn, observed, is_forward, moved_forward, delay_over, after_forward}
+use Rattle.dcsctp_machine.proofs.RangesLemmas.{received_beyond, received_members, forwarded_beyond, forwarded_members}
+use Rattle.dcsctp_delivery_sending.specs.Places.{Has}
+use Rattle.dcsctp_delivery_receiving.specs.Tracked.{tracked, Tracks}
+
+number_is : (first count offset cumulative : ℕ) → first < 2 ^ 32 → count < 2 ^ 31 → offset < count → cumulative + 1 ≤ tracked first count → tracked first 0 ≤ cumulative + 1
+    → number_of cumulative ((first + offset) % 2 ^ 32) ≡ tracked first offset
+number_is first count offset cumulative small few below reached started = grind (arith, nat_tests)
+
+-- the number after those before the ranges is missing
+is_missing : (from number : ℕ) (ranges : List TsnRange) → IsBeyond from ranges → number ≤ from + 1 → is_in number ranges ≡ false
+is_missing from number [] beyond up = refl
+is_missing from number (range ∷ ranges) beyond up =
+    let rest = is_missing range.last number ranges beyond.2 (omega (arith, beyond.0, beyond.1)) in
+    let before : nat_le range.first number ≡ false = (let above = beyond.0 in grind (arith, nat_tests)) in
+    grind (arith, rest, before)
+
+-- what is received goes on from where all is
+all_received : (cumulative number : ℕ) (ranges : List TsnRange) → IsBeyond cumulative ranges → is_received cumulative (cumulative + 1) ranges ≡ false
+all_received cumulative number ranges beyond =
+    let missing = is_missing cumulative (cumulative + 1) ranges beyond (omega arith) in
+    let past : nat_le (cumulative + 1) cumulative ≡ false = grind (arith, nat_tests) in
+    grind (arith, missing, past)
+
+is_itself : (cumulative : ℕ) (ranges : List TsnRange) → is_received cumulative cumulative ranges ≡ true
+is_itself cumulative ranges =
+    let here : nat_le cumulative cumulative ≡ true = grind (arith, nat_tests) in
+    grind (arith, here)
+
+up_to : (cumulative number : ℕ) (ranges : List TsnRange) → number ≤ cumulative → is_received cumulative number ranges ≡ true
+up_to cumulative number ranges up =
+    let here : nat_le number cumulative ≡ true = grind (arith, nat_tests) in
+    grind (arith, here)
+
+-- a set of received numbers that grew by such as were sent
+grown : (first count : ℕ) (taken now : List ℕ) (old new : TrackerState) (Fresh : ℕ → Bool) → Tracks first count taken old → IsBeyond new.cumulative new.ranges
+    → ((other : ℕ) → has_received new other ≡ (has_received old other || Fresh other)) → ((other : ℕ) → Fresh other ≡ true → other + 1 ≤ tracked first count)
+    → ((offset : ℕ) → Has offset now → has_received new (tracked first offset) ≡ true) → Tracks first count now new
+grown first count taken now old new Fresh tracks beyond members fresh received =
+    let sent : (number : ℕ) → has_received new number ≡ true → number + 1 ≤ tracked first count = λ number is. go number (has_received old number) refl (sym (members number) ∙ is) in
+    record {
+      beyond = beyond;
+      reached = sent new.cumulative (is_itself new.cumulative new.ranges);
+      started = elim (leb_tells (tracked first 0) (new.cumulative + 1)) [
+        | inl e ↦ e.1
+        | inr e ↦
+            (let less : new.cumulative + 1 < tracked first 0 = e.1 in
+            let missing : has_received new (new.cumulative + 1) ≡ false = all_received new.cumulative 0 new.ranges beyond in
+            let there : has_received old (new.cumulative + 1) ≡ true = up_to old.cumulative (new.cumulative + 1) old.ranges (omega (arith, tracks.started)) in
+            let clash : true ≡ false = sym (ap (λ (b : Bool). b || Fresh (new.cumulative + 1)) there) ∙ sym (members (new.cumulative + 1)) ∙ missing in
+            absurd (cc))
+      ];
+      sent = sent;
+      received = received;
+    }
+  where
+    go : (number : ℕ) (b : Bool) → has_received old number ≡ b → (has_received old number || Fresh number) ≡ true → number + 1 ≤ tracked first count
+    go number true is either = tracks.sent number is
+    go number false is either = fresh number (sym (ap (λ (c : Bool). c || Fresh number) is) ∙ either)
+
+still_received : (old fresh : Bool) → old ≡ true → (old || fresh) ≡ true
+still_received true fresh e = refl
+still_received false fresh e = absurd (cc)
+
+or_fresh : (old fresh : Bool) → fresh ≡ true → (old || fresh) ≡ true
+or_fresh true fresh e = refl
+or_fresh false fresh e = e
+
+equals : (n : ℕ) → (n == n) ≡ true
+equals n = grind (arith, nat_tests)
+
+is_equal : (m n : ℕ) → (m == n) ≡ true → m ≡ n
+is_equal m n e = grind (arith, nat_tests, e)
+
+pub new_is_new : (first count offset : ℕ) (immediate : Bool) (taken : List ℕ) (tracker : TrackerState) → first < 2 ^ 32 → count < 2 ^ 31 → offset < count → Tracks first count taken tracker
+    → Tracks first count (offset ∷ taken) (observed ((first + offset) % 2 ^ 32) immediate tracker)
+    × (is_new_tsn ((first + offset) % 2 ^ 32) tracker ≡ true → Has offset taken → ⊥)
+new_is_new first count offset immediate taken tracker small few below tracks = (
+  grown first count taken (offset ∷ taken) tracker (observed tsn immediate tracker) (λ other. other == number) tracks (received_beyond number tracker.cumulative tracker.ranges tracks.beyond) members
+      (λ other e. (let same : other ≡ number = is_equal other number e in omega (arith, here)))
+      (λ k h. elim h [
+        | inl e ↦ members (tracked first k) ∙ or_fresh (has_received tracker (tracked first k)) (tracked first k == number) (ap (λ (n : ℕ). tracked first n == number) e ∙ ap (λ (n : ℕ). n == number) (sym here) ∙ equals number)
+        | inr t ↦ members (tracked first k) ∙ still_received (has_received tracker (tracked first k)) (tracked first k == number) (tracks.received k t)
+      ]),
+  λ new h. (
+      let known : has_received tracker number ≡ true = ap (has_received tracker) here ∙ tracks.received offset h in
+      let clash : false ≡ true = sym (ap not known) ∙ new in
+      absurd (cc)
+      ),
+)
+  where
+    tsn : ℕ
+    tsn = (first + offset) % 2 ^ 32
+
+    number : ℕ
+    number = number_of tracker.cumulative ((first + offset) % 2 ^ 32)
+
+    here : number ≡ tracked first offset
+    here = number_is first count offset tracker.cumulative small few below tracks.reached tracks.started
+
+    members : (other : ℕ) → has_received (observed tsn immediate tracker) other ≡ (has_received tracker other || (other == number))
+    members other = received_members number tracker.cumulative tracker.ranges tracks.beyond other
+
+pub passing_keeps : (first count offset : ℕ) (taken : List ℕ) (tracker : TrackerState) → first < 2 ^ 32 → count < 2 ^ 31 → offset < count → Tracks first count taken tracker
+    → is_forward tracker.cumulative ((first + offset) % 2 ^ 32) ≡ true → Tracks first count taken (after_forward ((first + offset) % 2 ^ 32) tracker)
+passing_keeps first count offset taken tracker small few below tracks forward =
+    subst (λ (t : TrackerState). Tracks first count taken t) (sym moved)
+    (grown first count taken taken tracker (moved_forward ((first + offset) % 2 ^ 32) tracker) (λ other. nat_le other number) tracks (forwarded_beyond number tracker.cumulative tracker.ranges tracks.beyond)
+    (λ other. forwarded_members number tracker.cumulative tracker.ranges ahead tracks.beyond other)
+    (λ other e. (let up : other ≤ number = grind (arith, nat_tests, e) in omega (arith, here)))
+    (λ k h. forwarded_members number tracker.cumulative tracker.ranges ahead tracks.beyond (tracked first k) ∙ still_received (has_received tracker (tracked first k)) (nat_le (tracked first k) number) (tracks.received k h)))
+  where
+    number : ℕ
+    number = number_of tracker.cumulative ((first + offset) % 2 ^ 32)
+
+    here : number ≡ tracked first offset
+    here = number_is first count offset tracker.cumulative small few below tracks.reached tracks.started
+
+    ahead : tracker.cumulative < number
+    ahead = grind (arith, nat_tests, forward)
+
+    moved : after_forward ((first + offset) % 2 ^ 32) tracker ≡ moved_forward ((first + offset) % 2 ^ 32) tracker
+    moved = go (is_forward tracker.cumulative ((first + offset) % 2 ^ 32)) forward
+      where
+        go : (b : Bool) → b ≡ true → (if b then moved_forward ((first + offset) % 2 ^ 32) tracker else delay_over tracker) ≡ moved_forward ((first + offset) % 2 ^ 32) tracker
+        go true e = refl
+        go false e = absurd (cc)
+
+pub more_given_out : (first count more : ℕ) (taken : List ℕ) (tracker : TrackerState) → count ≤ more → Tracks first count taken tracker → Tracks first more taken tracker
+more_given_out first count more taken tracker up tracks =
+    record {
+      beyond = tracks.beyond;
+      reached = omega (arith, tracks.reached);
+      started = tracks.started;
+      sent = λ number is. omega (arith, tracks.sent number is);
+      received = tracks.received;
+    }
+
+pub tsns_read : (base worked offset : ℕ) → worked < 2 ^ 31 → offset < 2 ^ 31 → base + 2 ^ 32 < 2 ^ 64 → number_near (base + worked) ((base + offset) % 2 ^ 32) ≡ base + offset
+tsns_read base worked offset a b far = grind (arith, nat_tests)

@@ -1,0 +1,5 @@
+pub mod Rows
+pub mod Ready
+pub mod Tracked
+pub mod Received
+pub mod Arriving

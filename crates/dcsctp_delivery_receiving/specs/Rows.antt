@@ -1,0 +1,75 @@
+-- The runs that a reassembly queue holds are rows of pieces of the peer's log (RFC 9260, section 6.9).
+use Rattle.std.specs.Prelude.{◌≡◌, ◌<◌, ◌≤◌, ◌+◌, ◌-◌, ℕ, true, Some, List, [], ◌∷◌, length, take, drop}
+use Rattle.dcsctp_machine.specs.transfer.Runs.{RunModel, PartModel, WholeModel, Assembled, part_dropped, part_kept, message_whole, joined_bytes}
+use Rattle.dcsctp_delivery_sending.specs.Places.{Has, at_place}
+use Rattle.dcsctp_delivery_sending.specs.Log.{Message, Piece, Slot, is_beginning, is_end, bytes_of}
+
+-- The part that is held is the piece of its TSN. `base` is the number that the reassembly queue has for the first TSN, and `Named` what it
+-- knows of a piece by the number of its part.
+pub record IsPart (log : List Slot) (base : ℕ) (Named : Piece → ℕ → Type 0) (part : PartModel) : Type 0 where
+  pub offset : ℕ
+  pub piece : Piece
+  pub at : at_place offset log ≡ Some (Some piece)
+  pub place : part.place ≡ base + offset
+  pub number : Named piece part.number
+  pub ppid : part.ppid ≡ piece.message.ppid
+  pub payload : part.payload ≡ bytes_of piece
+  pub beginning : part.is_beginning ≡ is_beginning piece
+  pub end : part.is_end ≡ is_end piece
+
+-- The run that is held is a row of pieces of one message. `got` has the offsets from the first TSN of all that were handled.
+pub record IsRow (log : List Slot) (got : List ℕ) (base : ℕ) (Named : Piece → ℕ → Type 0) (run : RunModel) : Type 0 where
+  pub offset : ℕ
+  pub head : Piece
+  pub last_offset : ℕ
+  pub last : Piece
+  pub at_head : at_place offset log ≡ Some (Some head)
+  pub at_last : at_place last_offset log ≡ Some (Some last)
+  pub first : run.first ≡ base + offset
+  pub ends : last_offset + 1 ≡ offset + length run.payloads
+  pub some : 0 < length run.payloads
+  pub covered : (k : ℕ) → offset ≤ k → k ≤ last_offset → Has k got
+  pub place : last.place ≡ head.place
+  pub message : last.message ≡ head.message
+  pub order : head.start ≤ last.start
+  pub payload : joined_bytes run.payloads ≡ take (last.start + last.size - head.start) (drop head.start head.message.payload)
+  pub number : Named head run.number
+  pub ppid : run.ppid ≡ head.message.ppid
+  pub beginning : run.has_beginning ≡ is_beginning head
+  pub end : run.has_end ≡ is_end last
+
+-- Each of these is one.
+abbrev pub AreRows : List Slot → List ℕ → ℕ → (Piece → ℕ → Type 0) → List RunModel → Type 0
+AreRows log got base Named [] = Unit {0}
+AreRows log got base Named (run ∷ runs) = IsRow log got base Named run × AreRows log got base Named runs
+
+-- All pieces of the message of this place were handled.
+pub record Spent (log : List Slot) (got : List ℕ) (place : ℕ) : Type 0 where
+  pub offset : ℕ
+  pub head : Piece
+  pub last_offset : ℕ
+  pub last : Piece
+  pub at_head : at_place offset log ≡ Some (Some head)
+  pub at_last : at_place last_offset log ≡ Some (Some last)
+  pub is : head.place ≡ place
+  pub starts : head.start ≡ 0
+  pub same : last.place ≡ place
+  pub ends : is_end last ≡ true
+  pub order : offset ≤ last_offset
+  pub covered : (k : ℕ) → offset ≤ k → k ≤ last_offset → Has k got
+
+-- The whole is the message that was queued at this place, and all its pieces were handled.
+pub record IsQueued (queued : List Message) (log : List Slot) (got : List ℕ) (Named : Piece → ℕ → Type 0) (place : ℕ) (whole : WholeModel) : Type 0 where
+  pub head : Piece
+  pub is : head.place ≡ place
+  pub queued_at : at_place place queued ≡ Some head.message
+  pub number : Named head whole.number
+  pub ppid : whole.ppid ≡ head.message.ppid
+  pub payload : whole.payload ≡ head.message.payload
+  pub spent : Spent log got place
+
+-- What a part makes, if it makes a message whole, was queued at this place.
+abbrev pub MakesQueued : List Message → List Slot → List ℕ → (Piece → ℕ → Type 0) → ℕ → Assembled → Type 0
+MakesQueued queued log got Named place part_dropped = Unit {0}
+MakesQueued queued log got Named place part_kept = Unit {0}
+MakesQueued queued log got Named place (message_whole whole) = IsQueued queued log got Named place whole
