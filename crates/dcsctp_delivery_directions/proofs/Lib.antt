@@ -1,0 +1,4 @@
+pub mod Standing
+pub mod Steps
+pub mod Directions
+pub mod Marking

@@ -1,0 +1,7 @@
+//! One direction of an association: one side queues and sends, the other receives, and its user reads. Over every
+//! schedule each message that is read was queued, and none is read twice. So far without interleaving.
+#![tactic(auto)]
+
+mod laws;
+
+pub use laws::{directions_deliver, directions_deliver_for_good};
