@@ -1,0 +1,176 @@
+-- The turns of data, SACKs and the timers of both, as actions.
+use Rattle.dcsctp_delivery_turns.specs.Actions as actions
+use Rattle.std.proofs.Common.{◌≡◌, ◌≢◌, ℕ, Bool, true, false, Option, None, Some, List, [], ◌∷◌, ◌++◌, take, refl, sym, ◌∙◌, subst, ap}
+use Rattle.dcsctp_wire.specs.Content.{SackContent, DataContent, IDataContent, data_chunk, i_data_chunk, forward_tsn_chunk, i_forward_tsn_chunk, no_user_data}
+use Rattle.dcsctp_machine.specs.declared.arrivals.SkippedTo.{SkippedTo}
+use Rattle.dcsctp_machine.specs.declared.association.Held.{Held}
+use Rattle.dcsctp_machine.specs.declared.kinds.ErrorKind.TheVariants.{ProtocolViolation}
+use Rattle.dcsctp_machine.specs.Event.{Event, error, packets_in}
+use Rattle.dcsctp_machine.specs.Packet.{Content, Plain, plain, unworked, error_of, Emission}
+use Rattle.dcsctp_machine.specs.Endpoint.{Endpoint, Core, held_in}
+use Rattle.dcsctp_machine.specs.Outcome.{Outcome, emits, to_peer}
+use Rattle.dcsctp_machine.specs.control.Choices.{plain_contents}
+use Rattle.dcsctp_machine.specs.transfer.Acknowledging.{is_sack_valid, delivered_by}
+use Rattle.dcsctp_machine.specs.transfer.Arrivals.{Arrival, data_arrival, i_data_arrival, skipped_in, messages_skipped_in}
+use Rattle.dcsctp_machine.specs.transfer.Outstanding.{acknowledged_by}
+use Rattle.dcsctp_machine.specs.transfer.Retransmission.{has_fast_retransmit}
+use Rattle.dcsctp_machine.specs.transfer.Tracker.{TrackerState, after_packet_end, is_acknowledgement_due, sacked, delay_over}
+use Rattle.dcsctp_machine.specs.transfer.Transfer.{Transfer, Below}
+use Rattle.dcsctp_machine.specs.turns.DataOutcomes.{DataWhere, with_transfer, with_tracker, flush_by, AnswersTo, FlushTurn, no_user_data_text, no_user_data_outcome, ReceiveTurn, DataTurn, ForwardTurn, FastRetransmits, sack_taken, AcknowledgesBy, SackWhere, SackBy, SackTurn, acknowledging, EndWhere, EndsBy, delay_outcome, LossTurn}
+use Rattle.dcsctp_machine.specs.turns.FlushOutcomes.{own_sack, Answer, goes_out, draft_to, flush_of, room_in}
+use Rattle.dcsctp_machine.specs.turns.TransferMoves.{ReceivesData, MovesForward}
+use Rattle.dcsctp_machine_refinement.proofs.Bursts.{packets_in-append}
+use Rattle.dcsctp_delivery_turns.specs.Actions.{ledger_of, with_below, Actions, nothing, further, Makes, MakesAlso, Becomes, goes_on, queued_where, queued_together, with_first, read_where}
+use Rattle.dcsctp_delivery_turns.specs.Tags.{IsPeerTag}
+use Rattle.dcsctp_delivery_turns.proofs.Actions.{Goes, MakesTo, both, bit, rests, emitted, flushed, makes_behind}
+use Rattle.dcsctp_delivery_turns.proofs.Shutdown.{step_makes, step_below, step_peer}
+use Rattle.dcsctp_delivery_turns.proofs.Fixed.{held_tag, sack_no_data, delivered_none, fast_core, Alike, sack_no_end, delayed_alike}
+
+module _ (came : Option Content) (to : ℕ) where
+  -- ---- a flush by itself
+
+  pub to_makes : (e : Endpoint) (peer : Option Held) (answers : List Answer) → IsPeerTag e.core to → held_in e.core ≡ peer → AnswersTo e peer answers → MakesTo came to e.below (flush_by e peer answers)
+  to_makes e None answers at holds allowed = rests came to e.below
+  to_makes e (Some held) answers at holds allowed = flushed came to e (draft_to held) answers at (held_tag e.core held to holds at) tt tt allowed
+
+  pub flush_makes : (e : Endpoint) (o : Outcome) → IsPeerTag e.core to → FlushTurn e o → MakesTo came to e.below o
+  flush_makes e o at turn = subst (MakesTo came to e.below) (sym turn.2) (to_makes e (held_in e.core) turn.0 at refl turn.1)
+
+  -- ---- DATA and FORWARD-TSN
+
+  no_data_goes : (e : Endpoint) (peer : Option Held) (tsn : ℕ) → Goes came to e (no_user_data_outcome e peer tsn)
+  no_data_goes e None tsn = goes_on (rests came to e.below)
+  no_data_goes e (Some held) tsn =
+      goes_on (makes_behind came to e.below [] (error ProtocolViolation no_user_data_text ∷ []) (emits e [] (to_peer held (plain (error_of (no_user_data tsn ∷ []))))) refl
+      (emitted came to e [] (to_peer held (plain (error_of (no_user_data tsn ∷ [])))) (tt, tt)))
+
+  receive_goes : (e : Endpoint) (transfer : Option Transfer) (arrived : Arrival) (o : Outcome)
+      → ((old new : Transfer) → transfer ≡ Some old → ReceivesData arrived old new → Makes came to e.below [] (with_transfer e new).below)
+      → ReceiveTurn e transfer arrived o → Goes came to e o
+  receive_goes e None arrived o does turn = subst (Goes came to e) (sym turn) (goes_on (rests came to e.below))
+  receive_goes e (Some transfer) arrived o does turn = subst (Goes came to e) (sym turn.2) (goes_on (does transfer turn.0 refl turn.1))
+
+  data_where_goes : (e : Endpoint) (arrived : Arrival) (payload : List ℕ) (o : Outcome)
+      → ((old new : Transfer) → payload ≢ [] → e.below.transfer ≡ Some old → ReceivesData arrived old new → Makes came to e.below [] (with_transfer e new).below)
+      → DataWhere e arrived payload o → Goes came to e o
+  data_where_goes e arrived [] o does turn = subst (Goes came to e) (sym turn) (no_data_goes e (held_in e.core) arrived.tsn)
+  data_where_goes e arrived (byte ∷ bytes) o does turn = receive_goes e e.below.transfer arrived o (λ old new. does old new (λ is. absurd (cc))) turn
+
+  pub data_goes : (e : Endpoint) (chunk : DataContent) (o : Outcome) → came ≡ Some (plain (unworked (data_chunk chunk))) → DataTurn e (data_arrival chunk) o → Goes came to e o
+  data_goes e chunk o is turn =
+      data_where_goes e (data_arrival chunk) chunk.payload o
+      (λ old new some known does. bit came to e.below (with_transfer e new).below (λ queued sent read. actions.receives chunk old new is some known does)) turn
+
+  pub i_data_goes : (e : Endpoint) (chunk : IDataContent) (o : Outcome) → came ≡ Some (plain (unworked (i_data_chunk chunk))) → DataTurn e (i_data_arrival chunk) o → Goes came to e o
+  i_data_goes e chunk o is turn =
+      data_where_goes e (i_data_arrival chunk) (i_data_arrival chunk).chunk.payload o
+      (λ old new some known does. bit came to e.below (with_transfer e new).below (λ queued sent read. actions.receives_interleaved chunk old new is known does)) turn
+
+  forward_where_goes : (e : Endpoint) (transfer : Option Transfer) (tsn : ℕ) (entries : List SkippedTo) (o : Outcome)
+      → ((old new : Transfer) → transfer ≡ Some old → MovesForward tsn entries old new → Makes came to e.below [] (with_transfer e new).below)
+      → ForwardTurn e transfer tsn entries o → Goes came to e o
+  forward_where_goes e None tsn entries o does turn = subst (Goes came to e) (sym turn) (goes_on (rests came to e.below))
+  forward_where_goes e (Some transfer) tsn entries o does turn = subst (Goes came to e) (sym turn.2) (goes_on (does transfer turn.0 refl turn.1))
+
+  pub forward_goes : (e : Endpoint) (tsn : ℕ) (streams : List ℕ) (o : Outcome) → came ≡ Some (plain (unworked (forward_tsn_chunk tsn streams))) → ForwardTurn e e.below.transfer tsn (skipped_in streams) o → Goes came to e o
+  forward_goes e tsn streams o is turn =
+      forward_where_goes e e.below.transfer tsn (skipped_in streams) o
+      (λ old new known does. bit came to e.below (with_transfer e new).below (λ queued sent read. actions.forwards tsn streams old new is known does)) turn
+
+  pub i_forward_goes : (e : Endpoint) (tsn : ℕ) (streams : List ℕ) (o : Outcome) → came ≡ Some (plain (unworked (i_forward_tsn_chunk tsn streams))) → ForwardTurn e e.below.transfer tsn (messages_skipped_in streams) o → Goes came to e o
+  i_forward_goes e tsn streams o is turn =
+      forward_where_goes e e.below.transfer tsn (messages_skipped_in streams) o
+      (λ old new known does. bit came to e.below (with_transfer e new).below (λ queued sent read. actions.forwards_interleaved tsn streams old new is known does)) turn
+
+  -- ---- SACK
+
+  out_makes : (e : Endpoint) (held : Held) (transfer : Transfer) (o : Outcome) (turn : FastRetransmits true e held transfer o) → held.peer.tag ≡ to → e.below.transfer ≡ Some transfer → (chunks : List Plain) → turn.chunks ≡ chunks
+      → MakesTo came to e.below (goes_out (with_transfer e (record transfer { retransmission = turn.left })) [] (draft_to held).with_checksum (draft_to held).packet.tag (plain_contents chunks))
+  out_makes e held transfer o turn tag known [] is =
+      bit came to e.below (with_below (record transfer { retransmission = turn.left }) e.below)
+      (λ queued sent read. actions.resends_nothing e.moment (room_in e (draft_to held)) transfer turn.left turn.tsns known turn.sends)
+  out_makes e held transfer o turn tag known (chunk ∷ chunks) is =
+      let emission : Emission = record { with_checksum = (draft_to held).with_checksum; packet = record { tag = (draft_to held).packet.tag; contents = plain_contents (chunk ∷ chunks) } } in
+      λ queued sent read.
+      further (ledger_of queued e.below sent read) (ledger_of queued (with_below (record transfer { retransmission = turn.left }) e.below) (sent ++ emission ∷ []) read) nothing
+      (actions.resends e.moment (room_in e (draft_to held)) transfer turn.left turn.tsns turn.chunks emission tag known turn.sends turn.are (ap plain_contents (sym is)))
+
+  fast_makes : (b : Bool) (e : Endpoint) (held : Held) (transfer : Transfer) (o : Outcome) → held.peer.tag ≡ to → e.below.transfer ≡ Some transfer → FastRetransmits b e held transfer o → MakesTo came to e.below o
+  fast_makes false e held transfer o tag known turn = subst (MakesTo came to e.below) (sym turn) (rests came to e.below)
+  fast_makes true e held transfer o tag known turn = subst (MakesTo came to e.below) (sym turn.is) (out_makes e held transfer o turn tag known turn.chunks refl)
+
+  acknowledges_goes : (e : Endpoint) (held : Held) (transfer : Transfer) (sack : SackContent) (o : Outcome) → IsPeerTag e.core to → held_in e.core ≡ Some held → e.below.transfer ≡ Some transfer
+      → is_sack_valid transfer.retransmission sack.cumulative_tsn_ack ≡ true → AcknowledgesBy e held transfer sack o → Goes came to e o
+  acknowledges_goes e held transfer sack o at holds known valid turn =
+      let tag : held.peer.tag ≡ to = held_tag e.core held to holds at in
+      let later : IsPeerTag turn.stepped.after.core to =
+      subst (λ (x : Outcome). IsPeerTag x.after.core to) (sym turn.steps) (step_peer (sack_taken e transfer turn.left) e.core to at at) in
+      let last_at : IsPeerTag turn.fast.after.core to =
+      subst (λ (c : Core). IsPeerTag c to) (sym (fast_core (has_fast_retransmit turn.left.retransmission) turn.stepped.after held turn.left turn.fast turn.resends)) later in
+      let taken : Endpoint = sack_taken e transfer turn.left in
+      let first : Makes came to e.below [] taken.below = bit came to e.below taken.below (λ queued sent read. actions.acknowledges e.moment sack transfer turn.left known valid turn.takes) in
+      let step : MakesTo came to taken.below turn.stepped = subst (MakesTo came to taken.below) (sym turn.steps) (step_makes came to taken e.core) in
+      let same : turn.stepped.after.below ≡ taken.below = ap (λ (x : Outcome). x.after.below) turn.steps ∙ step_below taken e.core in
+      let fast : MakesTo came to turn.stepped.after.below turn.fast =
+      fast_makes (has_fast_retransmit turn.left.retransmission) turn.stepped.after held turn.left turn.fast tag (ap (λ (b : Below). b.transfer) same) turn.resends in
+      let last : MakesTo came to turn.fast.after.below (flush_of turn.fast.after (draft_to held) turn.answers) = flushed came to turn.fast.after (draft_to held) turn.answers last_at tag tt tt turn.allowed in
+      let flush : Outcome = flush_of turn.fast.after (draft_to held) turn.answers in
+      let told : List (Event Emission) = delivered_by sack.cumulative_tsn_ack transfer.retransmission in
+      let none : packets_in told ≡ [] = delivered_none (take (acknowledged_by transfer.retransmission.outstanding sack.cumulative_tsn_ack) transfer.retransmission.outstanding.items) in
+      let fronts : packets_in (told ++ (turn.stepped.events ++ turn.fast.events)) ≡ packets_in turn.stepped.events ++ packets_in turn.fast.events =
+      packets_in-append told (turn.stepped.events ++ turn.fast.events)
+      ∙ ap (λ (l : List Emission). l ++ packets_in (turn.stepped.events ++ turn.fast.events)) none ∙ packets_in-append turn.stepped.events turn.fast.events in
+      let whole : Makes came to e.below ((packets_in turn.stepped.events ++ packets_in turn.fast.events) ++ packets_in flush.events) flush.after.below =
+      both came to e.below turn.fast.after.below flush.after.below (packets_in turn.stepped.events ++ packets_in turn.fast.events) (packets_in flush.events)
+      (both came to e.below turn.stepped.after.below turn.fast.after.below (packets_in turn.stepped.events) (packets_in turn.fast.events)
+      (both came to e.below taken.below turn.stepped.after.below [] (packets_in turn.stepped.events) first step) fast) last in
+      subst (Goes came to e) (sym turn.is)
+      (goes_on (subst (λ (l : List Emission). Makes came to e.below l flush.after.below)
+      (sym (packets_in-append (told ++ (turn.stepped.events ++ turn.fast.events)) flush.events ∙ ap (λ (l : List Emission). l ++ packets_in flush.events) fronts)) whole))
+
+  sack_where_goes : (b : Bool) (e : Endpoint) (held : Held) (transfer : Transfer) (sack : SackContent) (o : Outcome) → IsPeerTag e.core to → held_in e.core ≡ Some held → e.below.transfer ≡ Some transfer
+      → is_sack_valid transfer.retransmission sack.cumulative_tsn_ack ≡ b → SackWhere b e held transfer sack o → Goes came to e o
+  sack_where_goes false e held transfer sack o at holds known valid turn = subst (Goes came to e) (sym turn) (goes_on (rests came to e.below))
+  sack_where_goes true e held transfer sack o at holds known valid turn = acknowledges_goes e held transfer sack o at holds known valid turn
+
+  sack_by_goes : (e : Endpoint) (peer : Option Held) (transfer : Transfer) (sack : SackContent) (o : Outcome) → IsPeerTag e.core to → held_in e.core ≡ peer → e.below.transfer ≡ Some transfer → SackBy e peer transfer sack o → Goes came to e o
+  sack_by_goes e None transfer sack o at holds known turn = subst (Goes came to e) (sym turn) (goes_on (rests came to e.below))
+  sack_by_goes e (Some held) transfer sack o at holds known turn = sack_where_goes (is_sack_valid transfer.retransmission sack.cumulative_tsn_ack) e held transfer sack o at holds known refl turn
+
+  pub sack_goes : (e : Endpoint) (transfer : Option Transfer) (sack : SackContent) (o : Outcome) → IsPeerTag e.core to → e.below.transfer ≡ transfer → SackTurn e transfer sack o → Goes came to e o
+  sack_goes e None sack o at known turn = subst (Goes came to e) (sym turn) (goes_on (rests came to e.below))
+  sack_goes e (Some transfer) sack o at known turn = sack_by_goes e (held_in e.core) transfer sack o at refl known turn
+
+  -- ---- the end of a packet
+
+  tracked : (e : Endpoint) (transfer : Transfer) (tracker : TrackerState) → e.below.transfer ≡ Some transfer → Alike tracker transfer.tracker → Makes came to e.below [] (with_tracker e transfer tracker).below
+  tracked e transfer tracker known alike = bit came to e.below (with_tracker e transfer tracker).below (λ queued sent read. actions.tracks transfer tracker known alike.cumulative alike.ranges)
+
+  end_where_goes : (b : Bool) (e : Endpoint) (peer : Option Held) (transfer : Transfer) (tracker : TrackerState) (o : Outcome) → IsPeerTag e.core to → held_in e.core ≡ peer → e.below.transfer ≡ Some transfer → Alike tracker transfer.tracker
+      → EndWhere b e peer transfer tracker o → Goes came to e o
+  end_where_goes true e (Some held) transfer tracker o at holds known alike turn =
+      let base : Endpoint = with_tracker e transfer (sacked tracker) in
+      let draft : Emission = acknowledging e held (own_sack (record transfer { tracker = tracker })) in
+      subst (Goes came to e) (sym turn.is)
+      (goes_on (both came to e.below base.below (flush_of base draft turn.answers).after.below [] (packets_in (flush_of base draft turn.answers).events)
+      (tracked e transfer (sacked tracker) known (record { cumulative = alike.cumulative; ranges = alike.ranges }))
+      (flushed came to base draft turn.answers at (held_tag e.core held to holds at) (sack_no_data _ _) (sack_no_end _ _) turn.allowed)))
+  end_where_goes true e None transfer tracker o at holds known alike turn = subst (Goes came to e) (sym turn) (goes_on (tracked e transfer tracker known alike))
+  end_where_goes false e peer transfer tracker o at holds known alike turn = subst (Goes came to e) (sym turn) (goes_on (tracked e transfer tracker known alike))
+
+  pub end_goes : (e : Endpoint) (transfer : Option Transfer) (o : Outcome) → IsPeerTag e.core to → e.below.transfer ≡ transfer → EndsBy e transfer o → Goes came to e o
+  end_goes e None o at known turn = subst (Goes came to e) (sym turn) (goes_on (rests came to e.below))
+  end_goes e (Some transfer) o at known turn =
+      let tracker = after_packet_end e.moment transfer.tracker in
+      end_where_goes (is_acknowledgement_due tracker) e (held_in e.core) transfer tracker o at refl known (delayed_alike e.moment transfer.tracker transfer.tracker.acknowledgement) turn
+
+  -- ---- timers
+
+  pub delay_goes : (e : Endpoint) (transfer : Option Transfer) → e.below.transfer ≡ transfer → Goes came to e (delay_outcome e transfer)
+  delay_goes e None known = goes_on (rests came to e.below)
+  delay_goes e (Some transfer) known = goes_on (tracked e transfer (delay_over transfer.tracker) known (record { cumulative = refl; ranges = refl }))
+
+  pub loss_goes : (e : Endpoint) (transfer : Option Transfer) (o : Outcome) → e.below.transfer ≡ transfer → LossTurn e transfer o → Goes came to e o
+  loss_goes e None o known turn = subst (Goes came to e) (sym turn) (goes_on (rests came to e.below))
+  loss_goes e (Some transfer) o known turn =
+      subst (Goes came to e) (sym turn) (goes_on (bit came to e.below _ (λ queued sent read. actions.loses e.moment transfer known)))

@@ -1,0 +1,93 @@
+-- Events that are no packets, and what a tracker keeps.
+use Rattle.std.proofs.Common.{◌≡◌, ℕ, Bool, true, false, Option, None, Some, List, [], ◌∷◌, ◌++◌, map, refl, sym, ◌∙◌, ap, append-nil}
+use Rattle.std.specs.Prelude.{if◌then◌else◌}
+use Rattle.dcsctp_wire.specs.Content.{SackContent, sack_chunk}
+use Rattle.dcsctp_machine.specs.declared.association.Held.{Held}
+use Rattle.dcsctp_machine.specs.declared.tracking.AckState.{AckState}
+use Rattle.dcsctp_machine.specs.declared.tracking.AckState.TheVariants.{Idle, BecomingDelayed, Delayed, Immediate}
+use Rattle.dcsctp_machine.specs.Event.{Event, packets_in}
+use Rattle.dcsctp_machine.specs.Packet.{Content, unworked, Emission}
+use Rattle.dcsctp_machine.specs.Endpoint.{Endpoint, Core, closed, cookie_wait, cookie_echoed, open_in, held_in}
+use Rattle.dcsctp_machine.specs.Outcome.{Outcome}
+use Rattle.dcsctp_machine.specs.control.Choices.{plain_contents}
+use Rattle.dcsctp_machine.specs.transfer.Acknowledging.{ends_delivery, told_by, delivered}
+use Rattle.dcsctp_machine.specs.transfer.Items.{Item}
+use Rattle.dcsctp_machine.specs.transfer.OwnResets.{prepare_all_events}
+use Rattle.dcsctp_machine.specs.transfer.SendQueue.{SendQueueState}
+use Rattle.dcsctp_machine.specs.transfer.Tracker.{TrackerState, delayed_from}
+use Rattle.dcsctp_machine.specs.transfer.Transfer.{Transfer}
+use Rattle.dcsctp_machine.specs.turns.DataOutcomes.{with_transfer, FastRetransmits}
+use Rattle.dcsctp_machine.specs.turns.FlushOutcomes.{goes_out, draft_to, told_event}
+use Rattle.dcsctp_machine.specs.turns.MessageOutcomes.{MessageRefusal, refusal_events, sending_refusal, Sending, queue_by, queue_one, queue_all}
+use Rattle.dcsctp_machine.proofs.SendEventLemmas.{told_prepared}
+use Rattle.dcsctp_machine_refinement.proofs.Bursts.{packets_in-append, told_none}
+use Rattle.dcsctp_delivery_turns.specs.Actions.{NoEnd}
+use Rattle.dcsctp_delivery_turns.specs.Tags.{IsPeerTag}
+use Rattle.dcsctp_delivery_sending.specs.Flushes.{NoData}
+
+-- ---- events that are no packets
+
+told_by_none : (name : Option ℕ) (over : Bool) → packets_in {P = Emission} (told_by name over) ≡ []
+told_by_none None over = refl
+told_by_none (Some id) true = refl
+told_by_none (Some id) false = refl
+
+pub delivered_none : (items : List Item) → packets_in {P = Emission} (delivered items) ≡ []
+delivered_none [] = refl
+delivered_none (item ∷ items) =
+    packets_in-append (told_by item.fragment.lifecycle (ends_delivery item)) (delivered items)
+    ∙ ap (λ (l : List Emission). l ++ packets_in (delivered items)) (told_by_none item.fragment.lifecycle (ends_delivery item)) ∙ delivered_none items
+
+pub prepared_none : (ids : List ℕ) (queue : SendQueueState) → packets_in {P = Emission} (prepare_all_events ids queue) ≡ []
+prepared_none ids queue =
+    let told = told_prepared ids queue in
+    ap (λ (l : List (Event Emission)). packets_in l) told.is ∙ ap (λ (l : List (Event Emission)). packets_in l) (sym (append-nil (map told_event told.told))) ∙ told_none told.told []
+
+pub refusal_none : (why : MessageRefusal) (name : Option ℕ) → packets_in (refusal_events why name) ≡ []
+refusal_none why None = refl
+refusal_none why (Some id) = refl
+
+-- a SACK in front, if it fits
+pub sack_no_data : (b : Bool) (sack : SackContent) → NoData (plain_contents (if b then unworked (sack_chunk sack) ∷ [] else []))
+sack_no_data true sack = (tt, tt)
+sack_no_data false sack = tt
+
+-- a tracker that has received the same
+pub record Alike (new old : TrackerState) : Type 0 where
+  pub cumulative : new.cumulative ≡ old.cumulative
+  pub ranges : new.ranges ≡ old.ranges
+
+pub delayed_alike : (moment : ℕ) (tracker : TrackerState) (state : AckState) → Alike (delayed_from moment tracker state) tracker
+delayed_alike moment tracker Idle = record { cumulative = refl; ranges = refl }
+delayed_alike moment tracker BecomingDelayed = record { cumulative = refl; ranges = refl }
+delayed_alike moment tracker Delayed = record { cumulative = refl; ranges = refl }
+delayed_alike moment tracker Immediate = record { cumulative = refl; ranges = refl }
+
+-- the peer, where one is held
+pub held_tag : (core : Core) (held : Held) (to : ℕ) → held_in core ≡ Some held → IsPeerTag core to → held.peer.tag ≡ to
+held_tag closed held to holds is = absurd (cc)
+held_tag (cookie_wait my) held to holds is = absurd (cc)
+held_tag (cookie_echoed my own cookie) held to holds is = (let same : own ≡ held = cc in ap (λ (h : Held). h.peer.tag) (sym same) ∙ is)
+held_tag (open_in phase my own) held to holds is = (let same : own ≡ held = cc in ap (λ (h : Held). h.peer.tag) (sym same) ∙ is)
+
+out_core : (e : Endpoint) (with_checksum : Bool) (tag : ℕ) (contents : List Content) → (goes_out e [] with_checksum tag contents).after.core ≡ e.core
+out_core e with_checksum tag [] = refl
+out_core e with_checksum tag (content ∷ contents) = refl
+
+pub fast_core : (b : Bool) (e : Endpoint) (held : Held) (transfer : Transfer) (o : Outcome) → FastRetransmits b e held transfer o → o.after.core ≡ e.core
+fast_core false e held transfer o turn = ap (λ (x : Outcome). x.after.core) turn
+fast_core true e held transfer o turn =
+    ap (λ (x : Outcome). x.after.core) turn.is
+    ∙ out_core (with_transfer e (record transfer { retransmission = turn.left })) (draft_to held).with_checksum (draft_to held).packet.tag (plain_contents turn.chunks)
+
+queue_one_core : (e : Endpoint) (sending : Sending) (refusal : Option MessageRefusal) → (queue_by e sending refusal).after.core ≡ e.core
+queue_one_core e sending None = refl
+queue_one_core e sending (Some refusal) = refl
+
+pub queue_all_core : (e : Endpoint) (sendings : List Sending) → (queue_all e sendings).after.core ≡ e.core
+queue_all_core e [] = refl
+queue_all_core e (sending ∷ sendings) = queue_all_core (queue_one e sending).after sendings ∙ queue_one_core e sending (sending_refusal e sending)
+
+pub sack_no_end : (b : Bool) (sack : SackContent) → NoEnd (plain_contents (if b then unworked (sack_chunk sack) ∷ [] else []))
+sack_no_end true sack = tt
+sack_no_end false sack = tt

@@ -1,0 +1,187 @@
+-- The turns of the handshake, and ends, as actions.
+use Rattle.std.proofs.Common.{subst, sym, ◌≡◌, ℕ, Bool, true, false, cond, Option, None, Some, Result, Ok, Err, List, [], ◌∷◌, refl, inl, inr, ◌==◌, ◌∙◌}
+use Rattle.std.specs.Duration.{as_nanos}
+use Rattle.dcsctp_machine.proofs.ControlEcho.{kept_by_age}
+use Rattle.dcsctp_machine.specs.declared.association.Pair.{Pair}
+use Rattle.dcsctp_machine.specs.declared.word.Word.{Word}
+use Rattle.dcsctp_machine.specs.declared.word.Word.TheVariants.{U32, U64}
+use Rattle.dcsctp_machine.specs.declared.ends.AbortReason.{AbortReason}
+use Rattle.dcsctp_machine.specs.Cause.{Cause}
+use Rattle.dcsctp_machine.specs.Cookie.{Cookie, is_stale}
+use Rattle.dcsctp_machine.specs.Event.{Event, packets_in, connected, connection_restarted, aborted}
+use Rattle.dcsctp_machine.specs.transfer.SendQueue.{restarted, numbered_for}
+use Rattle.dcsctp_machine.specs.Packet.{Introduction, Content, cookie_echo, shutdown_ack, Emission}
+use Rattle.dcsctp_machine.specs.Endpoint.{Endpoint, Core, closed, cookie_wait, cookie_echoed, open_in, established, shutdown_pending, shutdown_sent, shutdown_received, shutdown_ack_sent}
+use Rattle.dcsctp_machine.specs.Outcome.{quiet, emits, fits, to_peer}
+use Rattle.dcsctp_machine.specs.turns.FlushOutcomes.{Answer, draft_to, flush_of, flush_answered}
+use Rattle.dcsctp_machine.specs.turns.EndOutcomes.{abort_outcome, aborting_outcome, abort_to, end_of}
+use Rattle.dcsctp_machine.specs.turns.HandoverOutcomes.{hand_over_outcome}
+use Rattle.dcsctp_machine.specs.turns.HandshakeOutcomes.{pair_from, renewed_pair, init_ack_emission, init_outcome, init_emission, awaits_init_ack, connect_outcome, awaits_cookie_ack, echo_emission, EchoAnswers, InitAckAnswers, accepted_init_ack_by, init_ack_by, connected_after, CookieAckAnswers, cookie_ack_by, abort_emission, no_cookie_text}
+use Rattle.dcsctp_machine.specs.turns.TimerOutcomes.{AgainAnswers, again_by, t1_gives_up_outcome}
+use Rattle.dcsctp_machine.specs.turns.CookieEchoOutcomes.{established_by, acknowledgement, EstablishAnswers, establish_by, queue_kept, queue_begun, RestartAnswers, restart_by_where, MaintainAnswers, maintain_by, ResolvedAnswers, resolved_by, EchoedAnswers, cookie_echo_by, resolved_now, shutting_down_emission, window_by_cookie}
+use Rattle.dcsctp_machine.specs.control.CookieEchoChanges.{held_by_cookie, Resolution, establish_new, restart, simultaneous_init, discard, maintain_existing, invalid_tag, stale, aged, resolve, case_by}
+use Rattle.dcsctp_machine.specs.control.HandshakeChanges.{held_by_init_ack}
+use Rattle.std.proofs.lemmas.Bool.{eqb-true}
+use Rattle.dcsctp_delivery_turns.specs.Tags.{IsPeerTag}
+use Rattle.dcsctp_delivery_turns.specs.Actions.{goes_on, ends, begins}
+use Rattle.dcsctp_delivery_turns.proofs.Actions.{Goes, MakesTo, rests, spoken, emitted, flushed, makes_behind, ended, end_silent}
+
+-- A cookie of the existing association has the peer's tag.
+is_the_peer : (own peer tie zero : Bool) → case_by own peer tie zero ≡ maintain_existing → peer ≡ true
+is_the_peer true true tie zero e = refl
+is_the_peer true false tie zero e = absurd (cc)
+is_the_peer false true tie true e = absurd (cc)
+is_the_peer false true tie false e = absurd (cc)
+is_the_peer false false true zero e = absurd (cc)
+is_the_peer false false false zero e = absurd (cc)
+
+module _ (came : Option Content) (to : ℕ) where
+  -- ---- the handshake
+
+  pub init_goes : (e : Endpoint) (theirs : Introduction) (core : Core) (word next : ℕ) → Goes came to e (init_outcome e theirs core word next)
+  init_goes e theirs closed word next = goes_on (emitted came to e (U32 word ∷ U32 next ∷ []) (init_ack_emission e theirs (pair_from word next) 0) (tt, tt))
+  init_goes e theirs (cookie_wait my) word next = goes_on (emitted came to e [] (init_ack_emission e theirs my 0) (tt, tt))
+  init_goes e theirs (cookie_echoed my held cookie) word next = goes_on (emitted came to e [] (init_ack_emission e theirs my 0) (tt, tt))
+  init_goes e theirs (open_in established my held) word next = goes_on (emitted came to e (U32 word ∷ []) (init_ack_emission e theirs (renewed_pair e word) e.tie) (tt, tt))
+  init_goes e theirs (open_in shutdown_pending my held) word next = goes_on (emitted came to e (U32 word ∷ []) (init_ack_emission e theirs (renewed_pair e word) e.tie) (tt, tt))
+  init_goes e theirs (open_in shutdown_sent my held) word next = goes_on (emitted came to e (U32 word ∷ []) (init_ack_emission e theirs (renewed_pair e word) e.tie) (tt, tt))
+  init_goes e theirs (open_in shutdown_received my held) word next = goes_on (emitted came to e (U32 word ∷ []) (init_ack_emission e theirs (renewed_pair e word) e.tie) (tt, tt))
+  init_goes e theirs (open_in shutdown_ack_sent my held) word next = goes_on (emitted came to e [] (to_peer held shutdown_ack) (tt, tt))
+
+  pub connect_goes : (e : Endpoint) (core : Core) (word next : ℕ) → Goes came to e (connect_outcome e core word next)
+  connect_goes e closed word next = goes_on (emitted came to (awaits_init_ack e (pair_from word next)) (U32 word ∷ U32 next ∷ []) (init_emission e (pair_from word next)) (tt, tt))
+  connect_goes e (cookie_wait my) word next = goes_on (rests came to e.below)
+  connect_goes e (cookie_echoed my held cookie) word next = goes_on (rests came to e.below)
+  connect_goes e (open_in phase my held) word next = goes_on (rests came to e.below)
+
+  echoed_makes : (b : Bool) (e : Endpoint) (words : List Word) (tag : ℕ) (cookie : List ℕ) (answers : List Answer) → IsPeerTag e.core tag → EchoAnswers b e tag cookie answers
+      → MakesTo came tag e.below (cond b (flush_answered answers e words [] true tag (cookie_echo cookie ∷ [])) (quiet e words []))
+  echoed_makes true e words tag cookie answers at allowed = flushed came tag e (echo_emission tag cookie) answers at refl (tt, tt) tt allowed
+  echoed_makes false e words tag cookie answers at allowed = rests came tag e.below
+
+  accepted_goes : (e : Endpoint) (my : Pair) (theirs : Introduction) (cookie : Option (List ℕ)) (word : ℕ) (answers : List Answer) → InitAckAnswers e theirs cookie (cookie_wait my) word answers
+      → Goes came to e (accepted_init_ack_by (flush_answered answers) e my theirs cookie word)
+  accepted_goes e my theirs None word answers allowed = ended came to e (emits e [] (abort_emission theirs.pair.tag)) (aborted _ no_cookie_text) refl (emitted came to e [] (abort_emission theirs.pair.tag) (tt, tt))
+  accepted_goes e my theirs (Some cookie) word answers allowed =
+      let awaiting : Endpoint = awaits_cookie_ack e my theirs cookie word in
+      begins (record {
+        my = my;
+        held = held_by_init_ack e.options my theirs;
+        window = theirs.window;
+        later = _;
+        noted = refl;
+        queue = numbered_for (held_by_init_ack e.options my theirs).capabilities.message_interleaving (restarted e.below.queue);
+        keeps = inr refl;
+      }) (λ queued. refl) (echoed_makes (fits awaiting (echo_emission theirs.pair.tag cookie)) awaiting (U64 word ∷ []) theirs.pair.tag cookie answers refl allowed)
+
+  pub init_ack_goes : (e : Endpoint) (theirs : Introduction) (cookie : Option (List ℕ)) (core : Core) (word : ℕ) (answers : List Answer) → InitAckAnswers e theirs cookie core word answers
+      → Goes came to e (init_ack_by (flush_answered answers) e theirs cookie core word)
+  init_ack_goes e theirs cookie closed word answers allowed = goes_on (rests came to e.below)
+  init_ack_goes e theirs cookie (cookie_wait my) word answers allowed = accepted_goes e my theirs cookie word answers allowed
+  init_ack_goes e theirs cookie (cookie_echoed my held echoed) word answers allowed = goes_on (rests came to e.below)
+  init_ack_goes e theirs cookie (open_in phase my held) word answers allowed = goes_on (rests came to e.below)
+
+  pub cookie_ack_goes : (e : Endpoint) (core : Core) (answers : List Answer) → IsPeerTag core to → CookieAckAnswers e core answers → Goes came to e (cookie_ack_by (flush_answered answers) e core)
+  cookie_ack_goes e closed answers is allowed = goes_on (rests came to e.below)
+  cookie_ack_goes e (cookie_wait my) answers is allowed = goes_on (rests came to e.below)
+  cookie_ack_goes e (cookie_echoed my held cookie) answers is allowed = goes_on (flushed came to (connected_after e my held) (draft_to held) answers is is tt tt allowed)
+  cookie_ack_goes e (open_in phase my held) answers is allowed = goes_on (rests came to e.below)
+
+  -- ---- COOKIE ECHO
+
+  kept_goes : (e : Endpoint) (cookie : Cookie) (tie : ℕ) (answers : List Answer) → EstablishAnswers e cookie (queue_kept e cookie) tie answers
+      → Goes came to e (establish_by (flush_answered answers) e cookie (queue_kept e cookie) tie (connected ∷ []))
+  kept_goes e cookie tie answers allowed =
+      begins (record {
+        my = cookie.maker;
+        held = held_by_cookie e.options cookie;
+        window = window_by_cookie e.options cookie;
+        later = _;
+        noted = refl;
+        queue = queue_kept e cookie;
+        keeps = inl refl;
+      }) (λ queued. refl) (flushed came cookie.addressee.tag (established_by e cookie (queue_kept e cookie) tie) (acknowledgement (held_by_cookie e.options cookie) cookie) answers refl refl (tt, tt) tt allowed)
+
+  anew_goes : (e : Endpoint) (cookie : Cookie) (tie : ℕ) (told : List (Event Emission)) (answers : List Answer) → packets_in told ≡ [] → EstablishAnswers e cookie (queue_begun e cookie) tie answers
+      → Goes came to e (establish_by (flush_answered answers) e cookie (queue_begun e cookie) tie told)
+  anew_goes e cookie tie told answers none allowed =
+      begins (record {
+        my = cookie.maker;
+        held = held_by_cookie e.options cookie;
+        window = window_by_cookie e.options cookie;
+        later = _;
+        noted = refl;
+        queue = queue_begun e cookie;
+        keeps = inr refl;
+      }) (λ queued. refl) (makes_behind came cookie.addressee.tag _ (U64 tie ∷ []) told (flush_of (established_by e cookie (queue_begun e cookie) tie) (acknowledgement (held_by_cookie e.options cookie) cookie) answers) none
+      (flushed came cookie.addressee.tag (established_by e cookie (queue_begun e cookie) tie) (acknowledgement (held_by_cookie e.options cookie) cookie) answers refl refl (tt, tt) tt allowed))
+
+  restarted_goes : (e : Endpoint) (cookie : Cookie) (tie : ℕ) (core : Core) (answers : List Answer) → RestartAnswers e cookie tie core answers
+      → Goes came to e (restart_by_where (flush_answered answers) e cookie tie core)
+  restarted_goes e cookie tie closed answers allowed = anew_goes e cookie tie (connection_restarted ∷ connected ∷ []) answers refl allowed
+  restarted_goes e cookie tie (cookie_wait my) answers allowed = anew_goes e cookie tie (connection_restarted ∷ connected ∷ []) answers refl allowed
+  restarted_goes e cookie tie (cookie_echoed my held echoed) answers allowed = anew_goes e cookie tie (connection_restarted ∷ connected ∷ []) answers refl allowed
+  restarted_goes e cookie tie (open_in established my held) answers allowed = anew_goes e cookie tie (connection_restarted ∷ connected ∷ []) answers refl allowed
+  restarted_goes e cookie tie (open_in shutdown_pending my held) answers allowed = anew_goes e cookie tie (connection_restarted ∷ connected ∷ []) answers refl allowed
+  restarted_goes e cookie tie (open_in shutdown_sent my held) answers allowed = anew_goes e cookie tie (connection_restarted ∷ connected ∷ []) answers refl allowed
+  restarted_goes e cookie tie (open_in shutdown_received my held) answers allowed = anew_goes e cookie tie (connection_restarted ∷ connected ∷ []) answers refl allowed
+  restarted_goes e cookie tie (open_in shutdown_ack_sent my held) answers allowed = goes_on (spoken came to e.below (shutting_down_emission held) (tt, (tt, tt)))
+
+  maintained_goes : (e : Endpoint) (cookie : Cookie) (header : ℕ) (core : Core) (answers : List Answer) → IsPeerTag e.core to → IsPeerTag core to → resolve core e.tie header cookie ≡ maintain_existing → MaintainAnswers e cookie core answers → Goes came to e (maintain_by (flush_answered answers) e cookie core)
+  maintained_goes e cookie header closed answers at is resolved allowed = goes_on (rests came to e.below)
+  maintained_goes e cookie header (cookie_wait my) answers at is resolved allowed = goes_on (rests came to e.below)
+  maintained_goes e cookie header (cookie_echoed my held echoed) answers at is resolved allowed = goes_on (flushed came to (connected_after e my held) (acknowledgement held cookie) answers is (eqb-true cookie.addressee.tag held.peer.tag (is_the_peer (header == my.tag) (cookie.addressee.tag == held.peer.tag) (cookie.tie == e.tie) (cookie.tie == 0) resolved) ∙ is) (tt, tt) tt allowed)
+  maintained_goes e cookie header (open_in phase my held) answers at is resolved allowed = goes_on (flushed came to e (acknowledgement held cookie) answers at (eqb-true cookie.addressee.tag held.peer.tag (is_the_peer (header == my.tag) (cookie.addressee.tag == held.peer.tag) (cookie.tie == e.tie) (cookie.tie == 0) resolved) ∙ is) (tt, tt) tt allowed)
+
+  resolved_goes : (e : Endpoint) (cookie : Cookie) (header : ℕ) (core : Core) (word : ℕ) (old : Bool) (resolution : Resolution) (answers : List Answer) → IsPeerTag e.core to → IsPeerTag core to → aged old (resolve core e.tie header cookie) ≡ resolution → ResolvedAnswers e cookie core word resolution answers
+      → Goes came to e (resolved_by (flush_answered answers) e cookie core word resolution)
+  resolved_goes e cookie header core word old establish_new answers at is resolved allowed = kept_goes e cookie word answers allowed
+  resolved_goes e cookie header core word old restart answers at is resolved allowed = restarted_goes e cookie word core answers allowed
+  resolved_goes e cookie header core word old simultaneous_init answers at is resolved allowed = anew_goes e cookie word (connected ∷ []) answers refl allowed
+  resolved_goes e cookie header core word old discard answers at is resolved allowed = goes_on (rests came to e.below)
+  resolved_goes e cookie header core word old maintain_existing answers at is resolved allowed = maintained_goes e cookie header core answers at is (kept_by_age old (resolve core e.tie header cookie) resolved) allowed
+  resolved_goes e cookie header core word old invalid_tag answers at is resolved allowed = goes_on (rests came to e.below)
+  resolved_goes e cookie header core word old stale answers at is resolved allowed = goes_on (rests came to e.below)
+
+  pub echo_goes : (e : Endpoint) (core : Core) (header : ℕ) (found : Result Cookie (List ℕ)) (word : ℕ) (answers : List Answer) → IsPeerTag e.core to → IsPeerTag core to → EchoedAnswers e core header found word answers
+      → Goes came to e (cookie_echo_by (flush_answered answers) e core header found word)
+  echo_goes e core header (Err text) word answers at is allowed = goes_on (rests came to e.below)
+  echo_goes e core header (Ok cookie) word answers at is allowed = resolved_goes e cookie header core word (is_stale (as_nanos e.options.cookie_lifetime) e.moment cookie) (resolved_now e core header cookie) answers at is refl allowed
+
+  -- ---- ends, and T1
+
+  pub abort_goes : (e : Endpoint) (causes : List Cause) (core : Core) → Goes came to e (abort_outcome e causes core)
+  abort_goes e causes closed = goes_on (rests came to e.below)
+  abort_goes e causes (cookie_wait my) = goes_on (rests came to e.below)
+  abort_goes e causes (cookie_echoed my held cookie) = ends e.below (rests came to e.below) refl
+  abort_goes e causes (open_in phase my held) = ends e.below (rests came to e.below) refl
+
+  pub aborting_goes : (e : Endpoint) (core : Core) (reason : AbortReason) → Goes came to e (aborting_outcome e core reason)
+  aborting_goes e closed reason = goes_on (rests came to e.below)
+  aborting_goes e (cookie_wait my) reason = ended came to e (quiet e [] []) (end_of reason) (end_silent came to reason) (rests came to e.below)
+  aborting_goes e (cookie_echoed my held cookie) reason = ended came to e (emits e [] (abort_to held reason)) (end_of reason) (end_silent came to reason) (emitted came to e [] (abort_to held reason) (tt, tt))
+  aborting_goes e (open_in phase my held) reason = ended came to e (emits e [] (abort_to held reason)) (end_of reason) (end_silent came to reason) (emitted came to e [] (abort_to held reason) (tt, tt))
+
+  pub again_goes : (e : Endpoint) (core : Core) (answers : List Answer) → IsPeerTag e.core to → IsPeerTag core to → AgainAnswers e core answers → MakesTo came to e.below (again_by (flush_answered answers) e core)
+  again_goes e closed answers at is allowed = rests came to e.below
+  again_goes e (cookie_wait my) answers at is allowed = emitted came to e [] (init_emission e my) (tt, tt)
+  again_goes e (cookie_echoed my held cookie) answers at is allowed =
+      subst (λ (t : ℕ). MakesTo came t e.below (again_by (flush_answered answers) e (cookie_echoed my held cookie))) is
+      (echoed_makes (fits e (echo_emission held.peer.tag cookie)) e [] held.peer.tag cookie answers (subst (λ (t : ℕ). IsPeerTag e.core t) (sym is) at) allowed)
+  again_goes e (open_in phase my held) answers at is allowed = rests came to e.below
+
+  pub gives_up_goes : (e : Endpoint) (core : Core) → Goes came to e (t1_gives_up_outcome e core)
+  gives_up_goes e closed = goes_on (rests came to e.below)
+  gives_up_goes e (cookie_wait my) = ends e.below (rests came to e.below) refl
+  gives_up_goes e (cookie_echoed my held cookie) = ends e.below (rests came to e.below) refl
+  gives_up_goes e (open_in phase my held) = goes_on (rests came to e.below)
+
+  pub hand_over_goes : (e : Endpoint) (core : Core) → Goes came to e (hand_over_outcome e core)
+  hand_over_goes e closed = goes_on (rests came to e.below)
+  hand_over_goes e (cookie_wait my) = goes_on (rests came to e.below)
+  hand_over_goes e (cookie_echoed my held cookie) = goes_on (rests came to e.below)
+  hand_over_goes e (open_in established my held) = ends e.below (rests came to e.below) refl
+  hand_over_goes e (open_in shutdown_pending my held) = goes_on (rests came to e.below)
+  hand_over_goes e (open_in shutdown_sent my held) = goes_on (rests came to e.below)
+  hand_over_goes e (open_in shutdown_received my held) = goes_on (rests came to e.below)
+  hand_over_goes e (open_in shutdown_ack_sent my held) = goes_on (rests came to e.below)

@@ -1,0 +1,12 @@
+pub mod Tags
+pub mod Actions
+pub mod Handshake
+pub mod Shutdown
+pub mod Fixed
+pub mod Data
+pub mod Messages
+pub mod Resets
+pub mod Turns
+pub mod Sides
+pub mod Addressed
+pub mod Runs

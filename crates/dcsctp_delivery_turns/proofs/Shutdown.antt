@@ -1,0 +1,147 @@
+-- The turns of a shutdown, as actions.
+use Rattle.dcsctp_machine.specs.Event as events
+use Rattle.std.proofs.Common.{◌≡◌, ℕ, Bool, true, false, Option, [], ◌∷◌, refl, sym, subst}
+use Rattle.dcsctp_machine.specs.declared.association.Pair.{Pair}
+use Rattle.dcsctp_machine.specs.declared.association.Held.{Held}
+use Rattle.dcsctp_machine.specs.Packet.{Content, shutdown, shutdown_ack, shutdown_complete}
+use Rattle.dcsctp_machine.specs.Endpoint.{Endpoint, Core, closed, cookie_wait, cookie_echoed, open_in, OpenPhase, established, shutdown_pending, shutdown_sent, shutdown_received, shutdown_ack_sent}
+use Rattle.dcsctp_machine.specs.Outcome.{Outcome, sends, to_peer}
+use Rattle.dcsctp_machine.specs.Turn.{BeginTurn}
+use Rattle.dcsctp_machine.specs.turns.EndOutcomes.{reflected_outcome}
+use Rattle.dcsctp_machine.specs.turns.ShutdownOutcomes.{phase_at, received_tsn, is_all_acknowledged, step_by, step_outcome, t1_stopped, shut_down_outcome, shutdown_outcome, shutdown_ack_outcome, completed_outcome, shutdown_complete_outcome, t2_goes_on, sent_again, t2_again_outcome}
+use Rattle.dcsctp_delivery_turns.specs.Tags.{IsPeerTag}
+use Rattle.dcsctp_delivery_turns.specs.Actions.{Makes, goes_on, ends}
+use Rattle.dcsctp_delivery_turns.proofs.Actions.{Goes, MakesTo, rests, spoken, ended}
+
+-- a step changes nothing below
+step_by_below : (b : Bool) (e : Endpoint) (phase : OpenPhase) (my : Pair) (held : Held) → (step_by b e phase my held).after.below ≡ e.below
+step_by_below false e phase my held = refl
+step_by_below true e established my held = refl
+step_by_below true e shutdown_pending my held = refl
+step_by_below true e shutdown_sent my held = refl
+step_by_below true e shutdown_received my held = refl
+step_by_below true e shutdown_ack_sent my held = refl
+
+pub step_below : (e : Endpoint) (core : Core) → (step_outcome e core).after.below ≡ e.below
+step_below e closed = refl
+step_below e (cookie_wait my) = refl
+step_below e (cookie_echoed my held cookie) = refl
+step_below e (open_in phase my held) = step_by_below (is_all_acknowledged e.below.transfer) e phase my held
+
+-- and the peer stays
+step_by_peer : (b : Bool) (e : Endpoint) (phase : OpenPhase) (my : Pair) (held : Held) (to : ℕ) → IsPeerTag e.core to → held.peer.tag ≡ to → IsPeerTag (step_by b e phase my held).after.core to
+step_by_peer false e phase my held to at is = at
+step_by_peer true e established my held to at is = at
+step_by_peer true e shutdown_pending my held to at is = is
+step_by_peer true e shutdown_sent my held to at is = at
+step_by_peer true e shutdown_received my held to at is = is
+step_by_peer true e shutdown_ack_sent my held to at is = at
+
+pub step_peer : (e : Endpoint) (core : Core) (to : ℕ) → IsPeerTag e.core to → IsPeerTag core to → IsPeerTag (step_outcome e core).after.core to
+step_peer e closed to at is = at
+step_peer e (cookie_wait my) to at is = at
+step_peer e (cookie_echoed my held cookie) to at is = at
+step_peer e (open_in phase my held) to at is = step_by_peer (is_all_acknowledged e.below.transfer) e phase my held to at is
+
+module _ (came : Option Content) (to : ℕ) where
+  says_shutdown : (e : Endpoint) (held : Held) → Makes came to e.below (to_peer held (shutdown (received_tsn e.below.transfer)) ∷ []) e.below
+  says_shutdown e held = spoken came to e.below (to_peer held (shutdown (received_tsn e.below.transfer))) (tt, tt)
+
+  says_ack : (e : Endpoint) (held : Held) → Makes came to e.below (to_peer held shutdown_ack ∷ []) e.below
+  says_ack e held = spoken came to e.below (to_peer held shutdown_ack) (tt, tt)
+
+  -- ---- a step of it
+
+  step_by_makes : (b : Bool) (e : Endpoint) (phase : OpenPhase) (my : Pair) (held : Held) → MakesTo came to e.below (step_by b e phase my held)
+  step_by_makes false e phase my held = rests came to e.below
+  step_by_makes true e established my held = rests came to e.below
+  step_by_makes true e shutdown_pending my held = says_shutdown e held
+  step_by_makes true e shutdown_sent my held = rests came to e.below
+  step_by_makes true e shutdown_received my held = says_ack e held
+  step_by_makes true e shutdown_ack_sent my held = rests came to e.below
+
+  pub step_makes : (e : Endpoint) (core : Core) → MakesTo came to e.below (step_outcome e core)
+  step_makes e closed = rests came to e.below
+  step_makes e (cookie_wait my) = rests came to e.below
+  step_makes e (cookie_echoed my held cookie) = rests came to e.below
+  step_makes e (open_in phase my held) = step_by_makes (is_all_acknowledged e.below.transfer) e phase my held
+
+  -- ---- the user's call
+
+  step_from_goes : (e base : Endpoint) (phase : OpenPhase) (my : Pair) (held : Held) → base.below ≡ e.below
+      → Makes came to base.below (events.packets_in (step_by (is_all_acknowledged base.below.transfer) (phase_at base phase my held) phase my held).events) (step_by (is_all_acknowledged base.below.transfer) (phase_at base phase my held) phase my held).after.below
+  step_from_goes e base phase my held same = step_by_makes (is_all_acknowledged base.below.transfer) (phase_at base phase my held) phase my held
+
+  pub shut_down_goes : (e : Endpoint) (core : Core) → Goes came to e (shut_down_outcome e core)
+  shut_down_goes e closed = goes_on (rests came to e.below)
+  shut_down_goes e (cookie_wait my) = ends e.below (rests came to e.below) refl
+  shut_down_goes e (cookie_echoed my held cookie) = goes_on (step_from_goes e (t1_stopped e) shutdown_pending my held refl)
+  shut_down_goes e (open_in established my held) = goes_on (step_from_goes e e shutdown_pending my held refl)
+  shut_down_goes e (open_in shutdown_pending my held) = goes_on (rests came to e.below)
+  shut_down_goes e (open_in shutdown_sent my held) = goes_on (rests came to e.below)
+  shut_down_goes e (open_in shutdown_received my held) = goes_on (rests came to e.below)
+  shut_down_goes e (open_in shutdown_ack_sent my held) = goes_on (rests came to e.below)
+
+  -- ---- chunks
+
+  pub shutdown_goes : (e : Endpoint) (core : Core) → Goes came to e (shutdown_outcome e core)
+  shutdown_goes e closed = goes_on (rests came to e.below)
+  shutdown_goes e (cookie_wait my) = goes_on (rests came to e.below)
+  shutdown_goes e (cookie_echoed my held cookie) = goes_on (rests came to e.below)
+  shutdown_goes e (open_in established my held) = goes_on (step_from_goes e e shutdown_received my held refl)
+  shutdown_goes e (open_in shutdown_pending my held) = goes_on (step_from_goes e e shutdown_received my held refl)
+  shutdown_goes e (open_in shutdown_sent my held) = goes_on (says_ack e held)
+  shutdown_goes e (open_in shutdown_received my held) = goes_on (rests came to e.below)
+  shutdown_goes e (open_in shutdown_ack_sent my held) = goes_on (says_ack e held)
+
+  completed_goes : (e : Endpoint) (held : Held) → Goes came to e (completed_outcome e held)
+  completed_goes e held = ended came to e (sends e [] [] (to_peer held (shutdown_complete false))) events.closed refl (spoken came to e.below (to_peer held (shutdown_complete false)) (tt, tt))
+
+  reflected_goes : (e : Endpoint) (tag : ℕ) → Goes came to e (reflected_outcome e tag)
+  reflected_goes e tag = goes_on (spoken came to e.below (record { with_checksum = true; packet = record { tag = tag; contents = shutdown_complete true ∷ [] } }) (tt, tt))
+
+  pub shutdown_ack_goes : (e : Endpoint) (core : Core) (tag : ℕ) → Goes came to e (shutdown_ack_outcome e core tag)
+  shutdown_ack_goes e closed tag = reflected_goes e tag
+  shutdown_ack_goes e (cookie_wait my) tag = reflected_goes e tag
+  shutdown_ack_goes e (cookie_echoed my held cookie) tag = reflected_goes e tag
+  shutdown_ack_goes e (open_in established my held) tag = reflected_goes e tag
+  shutdown_ack_goes e (open_in shutdown_pending my held) tag = reflected_goes e tag
+  shutdown_ack_goes e (open_in shutdown_sent my held) tag = completed_goes e held
+  shutdown_ack_goes e (open_in shutdown_received my held) tag = reflected_goes e tag
+  shutdown_ack_goes e (open_in shutdown_ack_sent my held) tag = completed_goes e held
+
+  pub shutdown_complete_goes : (e : Endpoint) (core : Core) → Goes came to e (shutdown_complete_outcome e core)
+  shutdown_complete_goes e closed = goes_on (rests came to e.below)
+  shutdown_complete_goes e (cookie_wait my) = goes_on (rests came to e.below)
+  shutdown_complete_goes e (cookie_echoed my held cookie) = goes_on (rests came to e.below)
+  shutdown_complete_goes e (open_in established my held) = goes_on (rests came to e.below)
+  shutdown_complete_goes e (open_in shutdown_pending my held) = goes_on (rests came to e.below)
+  shutdown_complete_goes e (open_in shutdown_sent my held) = goes_on (rests came to e.below)
+  shutdown_complete_goes e (open_in shutdown_received my held) = goes_on (rests came to e.below)
+  shutdown_complete_goes e (open_in shutdown_ack_sent my held) = ends e.below (rests came to e.below) refl
+
+  -- ---- T2, and data while a SHUTDOWN waits for its answer
+
+  again_makes : (e : Endpoint) (core : Core) → MakesTo came to e.below (sent_again e core)
+  again_makes e closed = rests came to e.below
+  again_makes e (cookie_wait my) = rests came to e.below
+  again_makes e (cookie_echoed my held cookie) = rests came to e.below
+  again_makes e (open_in established my held) = rests came to e.below
+  again_makes e (open_in shutdown_pending my held) = rests came to e.below
+  again_makes e (open_in shutdown_sent my held) = says_shutdown e held
+  again_makes e (open_in shutdown_received my held) = rests came to e.below
+  again_makes e (open_in shutdown_ack_sent my held) = says_ack e held
+
+  pub t2_again_goes : (e : Endpoint) → Goes came to e (t2_again_outcome e)
+  t2_again_goes e = goes_on (again_makes (t2_goes_on e) e.core)
+
+  pub begin_goes : (e : Endpoint) (core : Core) (has : Bool) (o : Outcome) → BeginTurn e core has o → Goes came to e o
+  begin_goes e closed has o turn = subst (Goes came to e) (sym turn) (goes_on (rests came to e.below))
+  begin_goes e (cookie_wait my) has o turn = subst (Goes came to e) (sym turn) (goes_on (rests came to e.below))
+  begin_goes e (cookie_echoed my held cookie) has o turn = subst (Goes came to e) (sym turn) (goes_on (rests came to e.below))
+  begin_goes e (open_in established my held) has o turn = subst (Goes came to e) (sym turn) (goes_on (rests came to e.below))
+  begin_goes e (open_in shutdown_pending my held) has o turn = subst (Goes came to e) (sym turn) (goes_on (rests came to e.below))
+  begin_goes e (open_in shutdown_sent my held) true o turn = subst (Goes came to e) (sym turn) (goes_on (says_shutdown e held))
+  begin_goes e (open_in shutdown_sent my held) false o turn = subst (Goes came to e) (sym turn) (goes_on (rests came to e.below))
+  begin_goes e (open_in shutdown_received my held) has o turn = subst (Goes came to e) (sym turn) (goes_on (rests came to e.below))
+  begin_goes e (open_in shutdown_ack_sent my held) has o turn = subst (Goes came to e) (sym turn) (goes_on (rests came to e.below))

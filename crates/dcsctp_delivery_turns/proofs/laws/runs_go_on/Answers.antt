@@ -1,0 +1,11 @@
+use Rattle.dcsctp_delivery_turns.proofs.Runs.{senders_begin, senders_go_on, receivers_go_on}
+use Rattle.dcsctp_delivery_turns.proofs.laws.runs_go_on.Goals as goal
+
+pub returns-clause-made : goal.returns-clause-made
+returns-clause-made c = senders_begin
+
+pub returns-clause-sends : goal.returns-clause-sends
+returns-clause-sends c = senders_go_on
+
+pub returns-clause-receives : goal.returns-clause-receives
+returns-clause-receives c = receivers_go_on

@@ -1,0 +1,185 @@
+-- What a turn of a socket does to its queues, action by action. Each action is a step of the direction on which the socket sends, and of the
+-- one on which it receives (specs/Sides).
+use Rattle.std.specs.Prelude.{◌≡◌, ◌≢◌, ◌<◌, ◌⊎◌, ℕ, true, Option, None, Some, List, [], ◌∷◌, ◌++◌, length}
+use Rattle.std.specs.List.{AllByRecursion}
+use Rattle.dcsctp_wire.specs.Content.{DataContent, IDataContent, SackContent, data_chunk, i_data_chunk, forward_tsn_chunk, i_forward_tsn_chunk}
+use Rattle.dcsctp_machine.specs.declared.association.Held.{Held}
+use Rattle.dcsctp_machine.specs.declared.association.Pair.{Pair}
+use Rattle.dcsctp_machine.specs.Endpoint.{Endpoint, Core, closed, cookie_wait, cookie_echoed, open_in}
+use Rattle.dcsctp_machine.specs.Event.{packets_in}
+use Rattle.dcsctp_machine.specs.Outcome.{Outcome}
+use Rattle.dcsctp_machine.specs.Packet.{Content, init, abort, shutdown_complete, Plain, unworked, plain, Emission}
+use Rattle.dcsctp_machine.specs.Turn.{Input, chunk_input, act_input, user_sends, user_takes, restores, Turn}
+use Rattle.dcsctp_machine.specs.control.Acts.{request_again}
+use Rattle.dcsctp_machine.specs.control.Choices.{plain_contents}
+use Rattle.dcsctp_machine.specs.control.Effect.{Effect, holds, link_of}
+use Rattle.dcsctp_machine.specs.transfer.Acknowledging.{is_sack_valid}
+use Rattle.dcsctp_machine.specs.transfer.Arrivals.{data_arrival, i_data_arrival, skipped_in, messages_skipped_in}
+use Rattle.dcsctp_machine.specs.transfer.AtOnce.{SendsAtOnce}
+use Rattle.dcsctp_machine.specs.transfer.Chunks.{AreChunks}
+use Rattle.dcsctp_machine.specs.transfer.Messages.{MessageContent}
+use Rattle.dcsctp_machine.specs.transfer.OwnResets.{prepared_all, queue_committed, queue_rolled_back}
+use Rattle.dcsctp_machine.specs.transfer.Reassembly.{ReassemblyState, with_ready, deferring, Leaves}
+use Rattle.dcsctp_machine.specs.transfer.Retransmission.{RetransmissionState}
+use Rattle.dcsctp_machine.specs.transfer.SendQueue.{SendQueueState, restarted, numbered_for}
+use Rattle.dcsctp_machine.specs.transfer.Tracker.{TrackerState}
+use Rattle.dcsctp_machine.specs.transfer.Transfer.{Transfer, Below, new_transfer}
+use Rattle.dcsctp_machine.specs.turns.FlushOutcomes.{Answer, FlushAnswers, flush_of}
+use Rattle.dcsctp_machine.specs.turns.MessageOutcomes.{MessageRefusal, Sending, sending_queued, sending_refusal, queue_one}
+use Rattle.dcsctp_machine.specs.turns.SettingOutcomes.{Setting, set_in_queue}
+use Rattle.dcsctp_machine.specs.turns.TransferMoves.{ReceivesData, MovesForward, TakesSack, lost_all}
+use Rattle.dcsctp_delivery_sending.specs.Log.{Fits, Message}
+use Rattle.dcsctp_delivery_sending.specs.Flushes.{NoData}
+use Rattle.dcsctp_delivery_sending.specs.Queueing.{message_of}
+use Rattle.dcsctp_delivery_turns.specs.Tags.{IsPeerTag}
+
+-- What a socket has queued since it was made, newest first; its queues and trackers; what it has sent in its association, and what its user
+-- has read in it, oldest first.
+pub record Ledger : Type 0 where
+  pub queued : List Message
+  pub below : Below
+  pub sent : List Emission
+  pub read : List MessageContent
+
+abbrev pub ledger_of : List Message → Below → List Emission → List MessageContent → Ledger
+ledger_of queued below sent read = record { queued = queued; below = below; sent = sent; read = read }
+
+-- with this in place of what the association has
+abbrev pub with_below : Transfer → Below → Below
+with_below transfer below = record below { transfer = Some transfer }
+
+-- None of these is an ABORT, a SHUTDOWN COMPLETE or an INIT.
+abbrev pub NoEnd : List Content → Type 0
+NoEnd [] = Unit {0}
+NoEnd (init introduction ∷ contents) = ⊥
+NoEnd (abort reflected causes ∷ contents) = ⊥
+NoEnd (shutdown_complete reflected ∷ contents) = ⊥
+NoEnd (content ∷ contents) = NoEnd contents
+
+-- One action of a turn in which the chunk `came` is handled, if one is, and in whose association the peer has the tag `to`.
+pub data Action (came : Option Content) (to : ℕ) (old : Ledger) : Ledger → Type 0 where
+  queues : (now : ℕ) (sending : Sending) → Fits (message_of sending) → 0 < length sending.message.payload
+      → Action came to old (record old { queued = message_of sending ∷ old.queued; below = record old.below { queue = sending_queued now sending old.below.queue } })
+  sets : (setting : Setting) → Action came to old (record old { below = record old.below { queue = set_in_queue setting old.below.queue } })
+  prepares : (ids : List ℕ) → Action came to old (record old { below = record old.below { queue = prepared_all ids old.below.queue } })
+  commits : Action came to old (record old { below = record old.below { queue = queue_committed old.below.queue } })
+  rolls_back : Action came to old (record old { below = record old.below { queue = queue_rolled_back old.below.queue } })
+  flushes : (e : Endpoint) (draft : Emission) (answers : List Answer) → e.below ≡ old.below → IsPeerTag e.core to → draft.packet.tag ≡ to → NoData draft.packet.contents → NoEnd draft.packet.contents → FlushAnswers e draft answers
+      → Action came to old (record old { below = (flush_of e draft answers).after.below; sent = old.sent ++ packets_in (flush_of e draft answers).events })
+  resends : (now room : ℕ) (transfer : Transfer) (left : RetransmissionState) (tsns : List ℕ) (chunks : List Plain) (emission : Emission) → emission.packet.tag ≡ to → old.below.transfer ≡ Some transfer
+      → SendsAtOnce now room old.below.queue transfer.retransmission left tsns → AreChunks left.outstanding tsns chunks → emission.packet.contents ≡ plain_contents chunks
+      → Action came to old (record old { below = with_below (record transfer { retransmission = left }) old.below; sent = old.sent ++ emission ∷ [] })
+  resends_nothing : (now room : ℕ) (transfer : Transfer) (left : RetransmissionState) (tsns : List ℕ) → old.below.transfer ≡ Some transfer
+      → SendsAtOnce now room old.below.queue transfer.retransmission left tsns → Action came to old (record old { below = with_below (record transfer { retransmission = left }) old.below })
+  speaks : (emission : Emission) → NoData emission.packet.contents → Action came to old (record old { sent = old.sent ++ emission ∷ [] })
+  acknowledges : (now : ℕ) (sack : SackContent) (transfer new : Transfer) → old.below.transfer ≡ Some transfer → is_sack_valid transfer.retransmission sack.cumulative_tsn_ack ≡ true
+      → TakesSack now sack transfer new → Action came to old (record old { below = with_below new old.below })
+  loses : (now : ℕ) (transfer : Transfer) → old.below.transfer ≡ Some transfer → Action came to old (record old { below = with_below (lost_all now transfer) old.below })
+  receives : (chunk : DataContent) (transfer new : Transfer) → came ≡ Some (plain (unworked (data_chunk chunk))) → chunk.payload ≢ [] → old.below.transfer ≡ Some transfer
+      → ReceivesData (data_arrival chunk) transfer new → Action came to old (record old { below = with_below new old.below })
+  receives_interleaved : (chunk : IDataContent) (transfer new : Transfer) → came ≡ Some (plain (unworked (i_data_chunk chunk))) → old.below.transfer ≡ Some transfer
+      → ReceivesData (i_data_arrival chunk) transfer new → Action came to old (record old { below = with_below new old.below })
+  forwards : (tsn : ℕ) (streams : List ℕ) (transfer new : Transfer) → came ≡ Some (plain (unworked (forward_tsn_chunk tsn streams))) → old.below.transfer ≡ Some transfer
+      → MovesForward tsn (skipped_in streams) transfer new → Action came to old (record old { below = with_below new old.below })
+  forwards_interleaved : (tsn : ℕ) (streams : List ℕ) (transfer new : Transfer) → came ≡ Some (plain (unworked (i_forward_tsn_chunk tsn streams))) → old.below.transfer ≡ Some transfer
+      → MovesForward tsn (messages_skipped_in streams) transfer new → Action came to old (record old { below = with_below new old.below })
+  -- When an acknowledgement is due may change.
+  tracks : (transfer : Transfer) (tracker : TrackerState) → old.below.transfer ≡ Some transfer → tracker.cumulative ≡ transfer.tracker.cumulative → tracker.ranges ≡ transfer.tracker.ranges
+      → Action came to old (record old { below = with_below (record transfer { tracker = tracker }) old.below })
+  defers : (transfer : Transfer) (last_tsn : ℕ) (streams : List ℕ) → old.below.transfer ≡ Some transfer
+      → Action came to old (record old { below = with_below (record transfer { reassembly = deferring last_tsn streams transfer.reassembly }) old.below })
+  resets : (transfer : Transfer) (streams : List ℕ) (reassembly : ReassemblyState) → old.below.transfer ≡ Some transfer → Leaves streams transfer.reassembly reassembly
+      → Action came to old (record old { below = with_below (record transfer { reassembly = reassembly }) old.below })
+  takes : (transfer : Transfer) (message : MessageContent) (messages : List MessageContent) → old.below.transfer ≡ Some transfer → transfer.reassembly.incoming.ready ≡ message ∷ messages
+      → Action came to old (record old { below = with_below (record transfer { reassembly = with_ready messages transfer.reassembly }) old.below; read = old.read ++ message ∷ [] })
+
+-- one after another
+pub data Actions (came : Option Content) (to : ℕ) (old : Ledger) : Ledger → Type 0 where
+  nothing : Actions came to old old
+  further : (between new : Ledger) → Actions came to old between → Action came to between new → Actions came to old new
+
+-- ---- what a turn does
+
+-- the peer's tag, 0 if there is none
+abbrev pub peer_tag : Core → ℕ
+peer_tag closed = 0
+peer_tag (cookie_wait my) = 0
+peer_tag (cookie_echoed my held cookie) = held.peer.tag
+peer_tag (open_in phase my held) = held.peer.tag
+
+-- the chunk that is handled
+abbrev pub came_by : Input → Option Content
+came_by (chunk_input tag content) = Some content
+came_by input = None
+
+-- the messages that were queued, newest first, with those of this call that aren't refused
+abbrev pub queued_where : Option MessageRefusal → Sending → List Message → List Message
+queued_where None sending queued = message_of sending ∷ queued
+queued_where (Some refusal) sending queued = queued
+
+abbrev pub queued_together : Endpoint → List Sending → List Message → List Message
+queued_together e [] queued = queued
+queued_together e (sending ∷ sendings) queued = queued_together (queue_one e sending).after sendings (queued_where (sending_refusal e sending) sending queued)
+
+abbrev pub queued_after : Endpoint → Input → List Message → List Message
+queued_after e (user_sends sendings) queued = queued_together e sendings queued
+queued_after e input queued = queued
+
+-- the messages that were read, oldest first, with the one that this call reads: the first that is ready
+abbrev pub with_first : List MessageContent → List MessageContent → List MessageContent
+with_first [] read = read
+with_first (message ∷ messages) read = read ++ message ∷ []
+
+abbrev pub read_where : Option Transfer → List MessageContent → List MessageContent
+read_where None read = read
+read_where (Some transfer) read = with_first transfer.reassembly.incoming.ready read
+
+abbrev pub read_after : Endpoint → Input → List MessageContent → List MessageContent
+read_after e user_takes read = read_where e.below.transfer read
+read_after e input read = read
+
+-- Whatever was queued, sent and read before, actions lead from the queues before to those after, with these packets.
+abbrev pub Makes : Option Content → ℕ → Below → List Emission → Below → Type 0
+Makes came to old packets new = (queued : List Message) (sent : List Emission) (read : List MessageContent) → Actions came to (ledger_of queued old sent read) (ledger_of queued new (sent ++ packets) read)
+
+-- So they do, with what a turn queues and reads.
+abbrev pub MakesAlso : Option Content → ℕ → (List Message → List Message) → (List MessageContent → List MessageContent) → Below → List Emission → Below → Type 0
+MakesAlso came to adds taken old packets new =
+    (queued : List Message) (sent : List Emission) (read : List MessageContent) → Actions came to (ledger_of queued old sent read) (ledger_of (adds queued) new (sent ++ packets) (taken read))
+
+-- An association begins: what waits to be sent is kept, or what is under way is put back for it.
+pub record Begun (e : Endpoint) (o : Outcome) : Type 0 where
+  pub my : Pair
+  pub held : Held
+  pub window : ℕ
+  pub later : List Effect
+  pub noted : o.effects ≡ holds (link_of my held) ∷ later
+  pub queue : SendQueueState
+  pub keeps : (queue ≡ numbered_for held.capabilities.message_interleaving e.below.queue) ⊎ (queue ≡ numbered_for held.capabilities.message_interleaving (restarted e.below.queue))
+
+-- its queues, with nothing in flight and nothing received
+abbrev pub begun_below : (e : Endpoint) (o : Outcome) → Begun e o → Below
+begun_below e o begun =
+    record {
+      queue = begun.queue;
+      transfer = Some (new_transfer e.options begun.held.capabilities begun.my.first_tsn begun.held.peer.first_tsn begun.window);
+    }
+
+-- What becomes of the association of a socket in a turn: it goes on, or there is none and none begins; it ends after its last packets; or
+-- another one begins, and takes its place.
+pub data Becomes (came : Option Content) (to : ℕ) (adds : List Message → List Message) (taken : List MessageContent → List MessageContent) (e : Endpoint) (o : Outcome) : Type 0 where
+  goes_on : MakesAlso came to adds taken e.below (packets_in o.events) o.after.below → Becomes came to adds taken e o
+  ends : (last : Below) → MakesAlso came to adds taken e.below (packets_in o.events) last → o.after.below ≡ record last { transfer = None } → Becomes came to adds taken e o
+  begins : (begun : Begun e o) → ((queued : List Message) → adds queued ≡ queued) → Makes came begun.held.peer.tag (begun_below e o begun) (packets_in o.events) o.after.below → Becomes came to adds taken e o
+
+-- The messages of a call fit their fields, as those in memory do; no snapshot is restored; and a request to reset streams is sent again
+-- by its timer alone.
+abbrev pub IsCall : Input → Type 0
+IsCall (user_sends sendings) = AllByRecursion (λ sending. Fits (message_of sending)) sendings
+IsCall (act_input (request_again reset)) = ⊥
+IsCall (restores state) = ⊥
+IsCall input = Unit {0}
+
+-- So it is of each turn.
+abbrev pub TurnsAreActions : Type 0
+TurnsAreActions = (e : Endpoint) (input : Input) (o : Outcome) → IsCall input → Turn e input o → Becomes (came_by input) (peer_tag e.core) (queued_after e input) (read_after e input) e o

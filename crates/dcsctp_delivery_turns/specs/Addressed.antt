@@ -1,0 +1,24 @@
+-- Where a socket's packets with data go, and under which tag they are handled (RFC 9260, section 8.5).
+use Rattle.std.specs.Prelude.{◌≡◌, ◌⊎◌, ℕ, false, Option, List, [], ◌∷◌}
+use Rattle.dcsctp_machine.specs.Admission.{all_chunks, admits, is_echo_in_front}
+use Rattle.dcsctp_machine.specs.Endpoint.{Core, own_tag}
+use Rattle.dcsctp_machine.specs.Packet.{Content, Packet, Emission}
+use Rattle.dcsctp_delivery_turns.specs.Actions.{Ledger, NoEnd, Actions}
+use Rattle.dcsctp_delivery_sending.specs.Flushes.{NoData}
+
+-- The packet has no data; or it goes to this tag, and has no ABORT, no SHUTDOWN COMPLETE and no INIT.
+abbrev pub IsAddressed : ℕ → Emission → Type 0
+IsAddressed to emission = NoData emission.packet.contents ⊎ ((emission.packet.tag ≡ to) × NoEnd emission.packet.contents)
+
+-- So it is of each packet.
+abbrev pub AreAddressed : ℕ → List Emission → Type 0
+AreAddressed to [] = Unit {0}
+AreAddressed to (emission ∷ emissions) = IsAddressed to emission × AreAddressed to emissions
+
+-- All data of an association goes to its peer's tag.
+abbrev pub DataGoesToPeer : Type 0
+DataGoesToPeer = (came : Option Content) (to : ℕ) (old new : Ledger) → AreAddressed to old.sent → Actions came to old new → AreAddressed to new.sent
+
+-- Such a packet with data has the own tag, if all its chunks are handled and it doesn't begin with a COOKIE ECHO.
+abbrev pub AddressedTagsAreOwn : Type 0
+AddressedTagsAreOwn = (core : Core) (packet : Packet) → NoEnd packet.contents → is_echo_in_front packet.contents ≡ false → admits core packet ≡ all_chunks → packet.tag ≡ own_tag core

@@ -1,0 +1,5 @@
+pub mod Tags
+pub mod Actions
+pub mod Sides
+pub mod Addressed
+pub mod Runs

@@ -1,0 +1,71 @@
+-- A turn of a socket, as what it does to runs of the two directions of its association.
+use Rattle.std.specs.Prelude.{◌≡◌, ◌<◌, ◌^◌, ℕ, None, Some, List, [], ◌++◌, length}
+use Rattle.dcsctp_machine.specs.declared.options.Options.{Options}
+use Rattle.dcsctp_machine.specs.Endpoint.{Endpoint}
+use Rattle.dcsctp_machine.specs.Event.{packets_in}
+use Rattle.dcsctp_machine.specs.Outcome.{Outcome}
+use Rattle.dcsctp_machine.specs.Packet.{Emission}
+use Rattle.dcsctp_machine.specs.Turn.{Input, Turn}
+use Rattle.dcsctp_machine.specs.transfer.Reassembly.{new_reassembly}
+use Rattle.dcsctp_machine.specs.transfer.SendQueue.{empty_queue}
+use Rattle.dcsctp_machine.specs.transfer.Tracker.{new_tracker}
+use Rattle.dcsctp_machine.specs.transfer.Transfer.{Transfer, Below}
+use Rattle.std.specs.List.{AllByRecursion}
+use Rattle.dcsctp_delivery_sending.specs.Log.{Fits, Message}
+use Rattle.dcsctp_delivery_turns.specs.Actions.{came_by, queued_after, read_after, Begun, IsCall}
+use Rattle.dcsctp_delivery_sending.specs.Queueing.{QueueHolds}
+use Rattle.dcsctp_delivery_turns.specs.Sides.{WasSent, receiving}
+use Rattle.dcsctp_delivery_directions.specs.Directions.{Direction, Run, IsAwaited}
+
+-- the direction, with this at its sender
+abbrev pub sender_at : Direction → List Message → Below → ℕ → List Emission → Direction
+sender_at direction queued below acknowledged sent = record direction { queued = queued; below = below; acknowledged = acknowledged; sent = sent }
+
+-- a direction on which nothing was received yet
+abbrev pub new_direction : Options → ℕ → ℕ → List Message → Below → ℕ → List Emission → Direction
+new_direction options first size queued below acknowledged sent =
+    record {
+      queued = queued;
+      below = below;
+      acknowledged = acknowledged;
+      sent = sent;
+      tracker = new_tracker options first;
+      reassembly = new_reassembly size;
+      read = [];
+    }
+
+-- A run goes on by a turn of the sender; or the association ends after its last packets, and there is none; or another one begins, whoever
+-- receives, and whatever that side has done before. What no longer waits may be marked as spent then.
+pub data SenderTurns (options : Options) (first size : ℕ) (direction : Direction) (e : Endpoint) (input : Input) (o : Outcome) : Type 0 where
+  run_goes_on : (acknowledged : ℕ) → Run options first size (sender_at direction (queued_after e input direction.queued) o.after.below acknowledged (direction.sent ++ packets_in o.events)) → SenderTurns options first size direction e input o
+  run_ends : (last : Below) (acknowledged : ℕ) → Run options first size (sender_at direction (queued_after e input direction.queued) last acknowledged (direction.sent ++ packets_in o.events))
+      → o.after.below ≡ record last { transfer = None }
+      → Run options first size (new_direction options first size (queued_after e input direction.queued) o.after.below 0 []) → SenderTurns options first size direction e input o
+  run_begins : (begun : Begun e o) → queued_after e input direction.queued ≡ direction.queued → QueueHolds direction.queued [] e.below.queue → AllByRecursion Fits direction.queued
+      → ((other : Options) (room : ℕ) (awaiting : Direction) (queued : List Message) → QueueHolds queued [] e.below.queue → AllByRecursion Fits queued → Run other begun.my.first_tsn room awaiting → IsAwaited awaiting
+      → (acknowledged : ℕ) × Run other begun.my.first_tsn room (sender_at awaiting queued o.after.below acknowledged (packets_in o.events)))
+      → SenderTurns options first size direction e input o
+
+-- So it is of each turn, also of a closed socket, with a direction on which nothing is in flight.
+abbrev pub SendersGoOn : Type 0
+SendersGoOn =
+    (options : Options) (first size : ℕ) (direction : Direction) (e : Endpoint) (input : Input) (o : Outcome) → Run options first size direction → first < 2 ^ 32 → direction.below ≡ e.below
+    → length (queued_after e input direction.queued) < 2 ^ 64 → IsCall input → Turn e input o → SenderTurns options first size direction e input o
+
+-- A run begins where the socket was just made.
+abbrev pub SendersBegin : Type 0
+SendersBegin =
+    (mine options : Options) (first size : ℕ) → Run options first size (new_direction options first size [] (record { queue = empty_queue mine; transfer = None }) 0 [])
+
+-- A run goes on by a turn of the receiver, where what is handled was sent; or the association ends, maybe after it has received more; or
+-- another one begins.
+pub data ReceiverTurns (options : Options) (first size : ℕ) (direction : Direction) (transfer : Transfer) (e : Endpoint) (input : Input) (o : Outcome) : Type 0 where
+  receiver_goes_on : (left : Transfer) → o.after.below.transfer ≡ Some left → Run options first size (receiving direction left (read_after e input direction.read)) → ReceiverTurns options first size direction transfer e input o
+  receiver_ends : o.after.below.transfer ≡ None → ReceiverTurns options first size direction transfer e input o
+  receiver_begins : Begun e o → ReceiverTurns options first size direction transfer e input o
+
+-- So it is of each turn.
+abbrev pub ReceiversGoOn : Type 0
+ReceiversGoOn =
+    (options : Options) (first size : ℕ) (direction : Direction) (transfer : Transfer) (e : Endpoint) (input : Input) (o : Outcome) → Run options first size (receiving direction transfer direction.read)
+    → e.below.transfer ≡ Some transfer → WasSent direction.sent (came_by input) → IsCall input → Turn e input o → ReceiverTurns options first size direction transfer e input o

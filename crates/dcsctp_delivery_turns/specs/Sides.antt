@@ -1,0 +1,71 @@
+-- The actions of a socket (specs/Actions) as steps of two directions: the one on which it sends, and the one on which it receives.
+use Rattle.std.specs.Prelude.{◌≡◌, ℕ, Option, Some, List}
+use Rattle.dcsctp_wire.specs.Content.{ChunkContent, data_chunk, i_data_chunk, forward_tsn_chunk, i_forward_tsn_chunk}
+use Rattle.dcsctp_machine.specs.declared.options.Options.{Options}
+use Rattle.dcsctp_machine.specs.Packet.{Content, unworked, plain, Emission}
+use Rattle.dcsctp_machine.specs.transfer.Messages.{MessageContent}
+use Rattle.dcsctp_machine.specs.transfer.Reassembly.{ReassemblyState}
+use Rattle.dcsctp_machine.specs.transfer.Tracker.{TrackerState}
+use Rattle.dcsctp_machine.specs.transfer.Transfer.{Transfer}
+use Rattle.dcsctp_delivery_turns.specs.Actions.{Ledger, Actions}
+use Rattle.dcsctp_delivery_sending.specs.Places.{Has}
+use Rattle.dcsctp_delivery_directions.specs.Directions.{Direction, Step, Run}
+
+-- one step after another
+pub data Steps (old : Direction) : Direction → Type 0 where
+  stays : Steps old old
+  moves : (between new : Direction) → Steps old between → Step between new → Steps old new
+
+-- Steps go on from a run.
+abbrev pub StepsGoOn : Type 0
+StepsGoOn = (options : Options) (first size : ℕ) (old new : Direction) → Run options first size old → Steps old new → Run options first size new
+
+-- ---- the direction on which it sends
+
+-- the direction, with what the other side has received
+abbrev pub sending : Ledger → ℕ → TrackerState → ReassemblyState → List MessageContent → Direction
+sending own acknowledged tracker reassembly read =
+    record { queued = own.queued; below = own.below; acknowledged = acknowledged; sent = own.sent; tracker = tracker; reassembly = reassembly; read = read }
+
+-- The socket comes there by steps; more TSNs may have been acknowledged.
+pub record SendingSteps (old new : Ledger) (acknowledged : ℕ) (tracker : TrackerState) (reassembly : ReassemblyState) (read : List MessageContent) : Type 0 where
+  pub later : ℕ
+  pub steps : Steps (sending old acknowledged tracker reassembly read) (sending new later tracker reassembly read)
+
+-- Whatever is received, the actions of a socket are steps of the direction on which it sends.
+abbrev pub ActionsSend : Type 0
+ActionsSend =
+    (came : Option Content) (to : ℕ) (old new : Ledger) (acknowledged : ℕ) (tracker : TrackerState) (reassembly : ReassemblyState) (read : List MessageContent) → Actions came to old new
+    → SendingSteps old new acknowledged tracker reassembly read
+
+-- ---- the direction on which it receives
+
+-- The chunk was in a packet that the other side sent.
+pub record WasIn (sent : List Emission) (chunk : ChunkContent) : Type 0 where
+  pub emission : Emission
+  pub was : Has emission sent
+  pub holds : Has (plain (unworked chunk)) emission.packet.contents
+
+-- The chunk that is handled, if it has data or passes TSNs, was sent by the other side. Without interleaving.
+abbrev pub WasSent : List Emission → Option Content → Type 0
+WasSent sent (Some (plain (unworked (data_chunk chunk)))) = WasIn sent (data_chunk chunk)
+WasSent sent (Some (plain (unworked (forward_tsn_chunk tsn streams)))) = WasIn sent (forward_tsn_chunk tsn streams)
+WasSent sent (Some (plain (unworked (i_data_chunk chunk)))) = ⊥
+WasSent sent (Some (plain (unworked (i_forward_tsn_chunk tsn streams)))) = ⊥
+WasSent sent came = Unit {0}
+
+-- the direction, with what its receiver has received and read
+abbrev pub receiving : Direction → Transfer → List MessageContent → Direction
+receiving direction transfer read = record direction { tracker = transfer.tracker; reassembly = transfer.reassembly; read = read }
+
+-- The socket comes there by steps.
+pub record ReceivingSteps (direction : Direction) (transfer : Transfer) (old new : Ledger) : Type 0 where
+  pub left : Transfer
+  pub is : new.below.transfer ≡ Some left
+  pub steps : Steps (receiving direction transfer old.read) (receiving direction left new.read)
+
+-- The actions of a socket in an association are steps of the direction on which it receives, where what is handled was sent.
+abbrev pub ActionsReceive : Type 0
+ActionsReceive =
+    (came : Option Content) (to : ℕ) (old new : Ledger) (direction : Direction) (transfer : Transfer) → WasSent direction.sent came → old.below.transfer ≡ Some transfer → Actions came to old new
+    → ReceivingSteps direction transfer old new

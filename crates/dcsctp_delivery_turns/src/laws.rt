@@ -1,0 +1,41 @@
+//! The laws of this crate.
+
+ghost use Rattle.dcsctp_delivery_turns.specs.Actions.{TurnsAreActions};
+ghost use Rattle.dcsctp_delivery_turns.specs.Addressed.{DataGoesToPeer, AddressedTagsAreOwn};
+ghost use Rattle.dcsctp_delivery_turns.specs.Runs.{SendersBegin, SendersGoOn, ReceiversGoOn};
+ghost use Rattle.dcsctp_delivery_turns.specs.Sides.{StepsGoOn, ActionsSend, ActionsReceive};
+ghost use Rattle.dcsctp_delivery_turns.specs.Tags.{TagsAreOwn, EchoesBearOwnTag, FlushesGoToPeer};
+
+/// A flush goes to the peer's tag, and what a packet with data says is handled under the own tag alone (RFC 9260,
+/// sections 5.2.4 and 8.5).
+pub fn tags_are_own()
+    ensures admitted { TagsAreOwn }
+    ensures echoed { EchoesBearOwnTag }
+    ensures sent { FlushesGoToPeer }
+{}
+
+/// Each turn of a socket is a list of actions, by which its association goes on, ends, or gives way to another one.
+pub fn turns_are_actions()
+    ensures { TurnsAreActions }
+{}
+
+/// These actions are steps of the direction on which the socket sends, and of the one on which it receives.
+pub fn actions_are_steps()
+    ensures more { StepsGoOn }
+    ensures sends { ActionsSend }
+    ensures receives { ActionsReceive }
+{}
+
+/// All data of an association goes to its peer's tag, in packets that are admitted under the own tag alone, but for one
+/// that begins with a COOKIE ECHO.
+pub fn data_goes_to_peer()
+    ensures sent { DataGoesToPeer }
+    ensures admitted { AddressedTagsAreOwn }
+{}
+
+/// A run of a direction goes on by every turn of either side; or the association ends, or gives way to another one.
+pub fn runs_go_on()
+    ensures made { SendersBegin }
+    ensures sends { SendersGoOn }
+    ensures receives { ReceiversGoOn }
+{}
