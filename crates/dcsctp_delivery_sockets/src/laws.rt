@@ -1,0 +1,25 @@
+//! The laws of this crate.
+
+ghost use Rattle.dcsctp_delivery_sockets.specs.Echoes.{EchoesGoToMakers};
+
+use dcsctp_machine::{
+    acts_are_controlled, admitted_packets_may_be_worked, answer_keeps_agreement, offer_reads_back,
+    packets_are_controlled,
+};
+use dcsctp_machine_agreement::effects_mean;
+use dcsctp_wire_laws::built_packet_reads_as_itself;
+
+/// Each COOKIE ECHO that a socket sends goes to the tag that its cookie's maker had drawn, and is the first chunk
+/// of its packet (RFC 9260, section 5.1). So it is over every schedule that loses, repeats, delays and reorders
+/// packets, as long as no act comes from outside and no tag is drawn twice.
+pub fn echoes_go_to_makers()
+    ensures { EchoesGoToMakers }
+{
+    effects_mean();
+    acts_are_controlled();
+    packets_are_controlled();
+    admitted_packets_may_be_worked();
+    offer_reads_back();
+    built_packet_reads_as_itself();
+    answer_keeps_agreement();
+}

@@ -1,0 +1,7 @@
+//! What two sockets send one another, over every list of honest acts: where a COOKIE ECHO goes. Each law is the
+//! contract of a function that only calls others.
+#![tactic(auto)]
+
+mod laws;
+
+pub use laws::echoes_go_to_makers;
