@@ -12,9 +12,10 @@ use Rattle.dcsctp_machine.specs.transfer.Messages.{MessageContent}
 use Rattle.dcsctp_machine.specs.transfer.Transfer.{Below}
 use Rattle.dcsctp_machine.specs.turns.EndOutcomes.{ended_outcome, end_of}
 use Rattle.dcsctp_machine.specs.turns.FlushOutcomes.{Answer, FlushAnswers, flush_of}
-use Rattle.dcsctp_machine_refinement.proofs.Bursts.{packets_in-append}
+use Rattle.dcsctp_machine_refinement.proofs.Bursts.{packets_in-append, emits_core}
 use Rattle.dcsctp_delivery_sending.specs.Log.{Message}
 use Rattle.dcsctp_delivery_turns.specs.Actions.{Ledger, ledger_of, Action, flushes, speaks, Actions, nothing, further, NoEnd, Makes, Becomes, ends}
+use Rattle.dcsctp_machine.specs.control.Effect.{link_in}
 use Rattle.dcsctp_delivery_sending.specs.Flushes.{NoData}
 use Rattle.dcsctp_delivery_turns.specs.Tags.{IsPeerTag}
 
@@ -25,6 +26,10 @@ Goes came to e o = Becomes came to (λ queued. queued) (λ read. read) e o
 -- the outcome that goes on from what is below
 abbrev pub MakesTo : Option Content → ℕ → Below → Outcome → Type 0
 MakesTo came to old o = Makes came to old (packets_in o.events) o.after.below
+
+-- a packet leaves the association
+pub emits_link : (e : Endpoint) (words : List Word) (emission : Emission) → link_in (emits e words emission).after.core ≡ link_in e.core
+emits_link e words emission = ap link_in (emits_core e words emission)
 
 module _ (came : Option Content) (to : ℕ) where
   pub joined : (old between new : Ledger) → Actions came to old between → Actions came to between new → Actions came to old new
@@ -72,7 +77,7 @@ module _ (came : Option Content) (to : ℕ) where
   -- an end behind this
   pub ended : (e : Endpoint) (before : Outcome) (event : Event Emission) → packets_in (event ∷ []) ≡ [] → MakesTo came to e.below before → Goes came to e (ended_outcome before event)
   ended e before event none makes =
-      ends before.after.below
+      ends refl (λ read. refl) before.after.below
       (subst (λ (l : List Emission). Makes came to e.below l before.after.below)
       (sym (packets_in-append before.events (event ∷ []) ∙ ap (λ (l : List Emission). packets_in before.events ++ l) none ∙ append-nil (packets_in before.events))) makes)
       refl

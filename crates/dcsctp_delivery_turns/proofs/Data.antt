@@ -21,10 +21,19 @@ use Rattle.dcsctp_machine.specs.turns.FlushOutcomes.{own_sack, Answer, goes_out,
 use Rattle.dcsctp_machine.specs.turns.TransferMoves.{ReceivesData, MovesForward}
 use Rattle.dcsctp_machine_refinement.proofs.Bursts.{packets_in-append}
 use Rattle.dcsctp_delivery_turns.specs.Actions.{ledger_of, with_below, Actions, nothing, further, Makes, MakesAlso, Becomes, goes_on, queued_where, queued_together, with_first, read_where}
+use Rattle.dcsctp_machine.specs.control.Effect.{link_in}
+use Rattle.dcsctp_delivery_turns.proofs.Tags.{flush_link}
 use Rattle.dcsctp_delivery_turns.specs.Tags.{IsPeerTag}
-use Rattle.dcsctp_delivery_turns.proofs.Actions.{Goes, MakesTo, both, bit, rests, emitted, flushed, makes_behind}
-use Rattle.dcsctp_delivery_turns.proofs.Shutdown.{step_makes, step_below, step_peer}
+use Rattle.dcsctp_delivery_turns.proofs.Actions.{emits_link, Goes, MakesTo, both, bit, rests, emitted, flushed, makes_behind}
+use Rattle.dcsctp_delivery_turns.proofs.Shutdown.{step_link, step_makes, step_below, step_peer}
 use Rattle.dcsctp_delivery_turns.proofs.Fixed.{held_tag, sack_no_data, delivered_none, fast_core, Alike, sack_no_end, delayed_alike}
+
+pub to_link : (e : Endpoint) (peer : Option Held) (answers : List Answer) → AnswersTo e peer answers → link_in (flush_by e peer answers).after.core ≡ link_in e.core
+to_link e None answers allowed = refl
+to_link e (Some held) answers allowed = flush_link e (draft_to held) answers allowed
+
+pub turn_link : (e : Endpoint) (o : Outcome) → FlushTurn e o → link_in o.after.core ≡ link_in e.core
+turn_link e o turn = ap (λ (x : Outcome). link_in x.after.core) turn.2 ∙ to_link e (held_in e.core) turn.0 turn.1
 
 module _ (came : Option Content) (to : ℕ) where
   -- ---- a flush by itself
@@ -39,16 +48,17 @@ module _ (came : Option Content) (to : ℕ) where
   -- ---- DATA and FORWARD-TSN
 
   no_data_goes : (e : Endpoint) (peer : Option Held) (tsn : ℕ) → Goes came to e (no_user_data_outcome e peer tsn)
-  no_data_goes e None tsn = goes_on (rests came to e.below)
+  no_data_goes e None tsn = goes_on refl (rests came to e.below)
   no_data_goes e (Some held) tsn =
-      goes_on (makes_behind came to e.below [] (error ProtocolViolation no_user_data_text ∷ []) (emits e [] (to_peer held (plain (error_of (no_user_data tsn ∷ []))))) refl
+      goes_on (emits_link e [] (to_peer held (plain (error_of (no_user_data tsn ∷ [])))))
+      (makes_behind came to e.below [] (error ProtocolViolation no_user_data_text ∷ []) (emits e [] (to_peer held (plain (error_of (no_user_data tsn ∷ []))))) refl
       (emitted came to e [] (to_peer held (plain (error_of (no_user_data tsn ∷ [])))) (tt, tt)))
 
   receive_goes : (e : Endpoint) (transfer : Option Transfer) (arrived : Arrival) (o : Outcome)
       → ((old new : Transfer) → transfer ≡ Some old → ReceivesData arrived old new → Makes came to e.below [] (with_transfer e new).below)
       → ReceiveTurn e transfer arrived o → Goes came to e o
-  receive_goes e None arrived o does turn = subst (Goes came to e) (sym turn) (goes_on (rests came to e.below))
-  receive_goes e (Some transfer) arrived o does turn = subst (Goes came to e) (sym turn.2) (goes_on (does transfer turn.0 refl turn.1))
+  receive_goes e None arrived o does turn = subst (Goes came to e) (sym turn) (goes_on refl (rests came to e.below))
+  receive_goes e (Some transfer) arrived o does turn = subst (Goes came to e) (sym turn.2) (goes_on refl (does transfer turn.0 refl turn.1))
 
   data_where_goes : (e : Endpoint) (arrived : Arrival) (payload : List ℕ) (o : Outcome)
       → ((old new : Transfer) → payload ≢ [] → e.below.transfer ≡ Some old → ReceivesData arrived old new → Makes came to e.below [] (with_transfer e new).below)
@@ -69,8 +79,8 @@ module _ (came : Option Content) (to : ℕ) where
   forward_where_goes : (e : Endpoint) (transfer : Option Transfer) (tsn : ℕ) (entries : List SkippedTo) (o : Outcome)
       → ((old new : Transfer) → transfer ≡ Some old → MovesForward tsn entries old new → Makes came to e.below [] (with_transfer e new).below)
       → ForwardTurn e transfer tsn entries o → Goes came to e o
-  forward_where_goes e None tsn entries o does turn = subst (Goes came to e) (sym turn) (goes_on (rests came to e.below))
-  forward_where_goes e (Some transfer) tsn entries o does turn = subst (Goes came to e) (sym turn.2) (goes_on (does transfer turn.0 refl turn.1))
+  forward_where_goes e None tsn entries o does turn = subst (Goes came to e) (sym turn) (goes_on refl (rests came to e.below))
+  forward_where_goes e (Some transfer) tsn entries o does turn = subst (Goes came to e) (sym turn.2) (goes_on refl (does transfer turn.0 refl turn.1))
 
   pub forward_goes : (e : Endpoint) (tsn : ℕ) (streams : List ℕ) (o : Outcome) → came ≡ Some (plain (unworked (forward_tsn_chunk tsn streams))) → ForwardTurn e e.below.transfer tsn (skipped_in streams) o → Goes came to e o
   forward_goes e tsn streams o is turn =
@@ -124,21 +134,25 @@ module _ (came : Option Content) (to : ℕ) where
       both came to e.below turn.fast.after.below flush.after.below (packets_in turn.stepped.events ++ packets_in turn.fast.events) (packets_in flush.events)
       (both came to e.below turn.stepped.after.below turn.fast.after.below (packets_in turn.stepped.events) (packets_in turn.fast.events)
       (both came to e.below taken.below turn.stepped.after.below [] (packets_in turn.stepped.events) first step) fast) last in
+      let linked : link_in flush.after.core ≡ link_in e.core =
+      flush_link turn.fast.after (draft_to held) turn.answers turn.allowed
+      ∙ ap link_in (fast_core (has_fast_retransmit turn.left.retransmission) turn.stepped.after held turn.left turn.fast turn.resends)
+      ∙ ap (λ (x : Outcome). link_in x.after.core) turn.steps ∙ step_link taken e.core refl in
       subst (Goes came to e) (sym turn.is)
-      (goes_on (subst (λ (l : List Emission). Makes came to e.below l flush.after.below)
+      (goes_on linked (subst (λ (l : List Emission). Makes came to e.below l flush.after.below)
       (sym (packets_in-append (told ++ (turn.stepped.events ++ turn.fast.events)) flush.events ∙ ap (λ (l : List Emission). l ++ packets_in flush.events) fronts)) whole))
 
   sack_where_goes : (b : Bool) (e : Endpoint) (held : Held) (transfer : Transfer) (sack : SackContent) (o : Outcome) → IsPeerTag e.core to → held_in e.core ≡ Some held → e.below.transfer ≡ Some transfer
       → is_sack_valid transfer.retransmission sack.cumulative_tsn_ack ≡ b → SackWhere b e held transfer sack o → Goes came to e o
-  sack_where_goes false e held transfer sack o at holds known valid turn = subst (Goes came to e) (sym turn) (goes_on (rests came to e.below))
+  sack_where_goes false e held transfer sack o at holds known valid turn = subst (Goes came to e) (sym turn) (goes_on refl (rests came to e.below))
   sack_where_goes true e held transfer sack o at holds known valid turn = acknowledges_goes e held transfer sack o at holds known valid turn
 
   sack_by_goes : (e : Endpoint) (peer : Option Held) (transfer : Transfer) (sack : SackContent) (o : Outcome) → IsPeerTag e.core to → held_in e.core ≡ peer → e.below.transfer ≡ Some transfer → SackBy e peer transfer sack o → Goes came to e o
-  sack_by_goes e None transfer sack o at holds known turn = subst (Goes came to e) (sym turn) (goes_on (rests came to e.below))
+  sack_by_goes e None transfer sack o at holds known turn = subst (Goes came to e) (sym turn) (goes_on refl (rests came to e.below))
   sack_by_goes e (Some held) transfer sack o at holds known turn = sack_where_goes (is_sack_valid transfer.retransmission sack.cumulative_tsn_ack) e held transfer sack o at holds known refl turn
 
   pub sack_goes : (e : Endpoint) (transfer : Option Transfer) (sack : SackContent) (o : Outcome) → IsPeerTag e.core to → e.below.transfer ≡ transfer → SackTurn e transfer sack o → Goes came to e o
-  sack_goes e None sack o at known turn = subst (Goes came to e) (sym turn) (goes_on (rests came to e.below))
+  sack_goes e None sack o at known turn = subst (Goes came to e) (sym turn) (goes_on refl (rests came to e.below))
   sack_goes e (Some transfer) sack o at known turn = sack_by_goes e (held_in e.core) transfer sack o at refl known turn
 
   -- ---- the end of a packet
@@ -152,14 +166,14 @@ module _ (came : Option Content) (to : ℕ) where
       let base : Endpoint = with_tracker e transfer (sacked tracker) in
       let draft : Emission = acknowledging e held (own_sack (record transfer { tracker = tracker })) in
       subst (Goes came to e) (sym turn.is)
-      (goes_on (both came to e.below base.below (flush_of base draft turn.answers).after.below [] (packets_in (flush_of base draft turn.answers).events)
+      (goes_on (flush_link base draft turn.answers turn.allowed) (both came to e.below base.below (flush_of base draft turn.answers).after.below [] (packets_in (flush_of base draft turn.answers).events)
       (tracked e transfer (sacked tracker) known (record { cumulative = alike.cumulative; ranges = alike.ranges }))
       (flushed came to base draft turn.answers at (held_tag e.core held to holds at) (sack_no_data _ _) (sack_no_end _ _) turn.allowed)))
-  end_where_goes true e None transfer tracker o at holds known alike turn = subst (Goes came to e) (sym turn) (goes_on (tracked e transfer tracker known alike))
-  end_where_goes false e peer transfer tracker o at holds known alike turn = subst (Goes came to e) (sym turn) (goes_on (tracked e transfer tracker known alike))
+  end_where_goes true e None transfer tracker o at holds known alike turn = subst (Goes came to e) (sym turn) (goes_on refl (tracked e transfer tracker known alike))
+  end_where_goes false e peer transfer tracker o at holds known alike turn = subst (Goes came to e) (sym turn) (goes_on refl (tracked e transfer tracker known alike))
 
   pub end_goes : (e : Endpoint) (transfer : Option Transfer) (o : Outcome) → IsPeerTag e.core to → e.below.transfer ≡ transfer → EndsBy e transfer o → Goes came to e o
-  end_goes e None o at known turn = subst (Goes came to e) (sym turn) (goes_on (rests came to e.below))
+  end_goes e None o at known turn = subst (Goes came to e) (sym turn) (goes_on refl (rests came to e.below))
   end_goes e (Some transfer) o at known turn =
       let tracker = after_packet_end e.moment transfer.tracker in
       end_where_goes (is_acknowledgement_due tracker) e (held_in e.core) transfer tracker o at refl known (delayed_alike e.moment transfer.tracker transfer.tracker.acknowledgement) turn
@@ -167,10 +181,10 @@ module _ (came : Option Content) (to : ℕ) where
   -- ---- timers
 
   pub delay_goes : (e : Endpoint) (transfer : Option Transfer) → e.below.transfer ≡ transfer → Goes came to e (delay_outcome e transfer)
-  delay_goes e None known = goes_on (rests came to e.below)
-  delay_goes e (Some transfer) known = goes_on (tracked e transfer (delay_over transfer.tracker) known (record { cumulative = refl; ranges = refl }))
+  delay_goes e None known = goes_on refl (rests came to e.below)
+  delay_goes e (Some transfer) known = goes_on refl (tracked e transfer (delay_over transfer.tracker) known (record { cumulative = refl; ranges = refl }))
 
   pub loss_goes : (e : Endpoint) (transfer : Option Transfer) (o : Outcome) → e.below.transfer ≡ transfer → LossTurn e transfer o → Goes came to e o
-  loss_goes e None o known turn = subst (Goes came to e) (sym turn) (goes_on (rests came to e.below))
+  loss_goes e None o known turn = subst (Goes came to e) (sym turn) (goes_on refl (rests came to e.below))
   loss_goes e (Some transfer) o known turn =
-      subst (Goes came to e) (sym turn) (goes_on (bit came to e.below _ (λ queued sent read. actions.loses e.moment transfer known)))
+      subst (Goes came to e) (sym turn) (goes_on refl (bit came to e.below _ (λ queued sent read. actions.loses e.moment transfer known)))

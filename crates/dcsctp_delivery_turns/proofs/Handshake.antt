@@ -1,5 +1,5 @@
 -- The turns of the handshake, and ends, as actions.
-use Rattle.std.proofs.Common.{subst, sym, ◌≡◌, ℕ, Bool, true, false, cond, Option, None, Some, Result, Ok, Err, List, [], ◌∷◌, refl, inl, inr, ◌==◌, ◌∙◌}
+use Rattle.std.proofs.Common.{subst, ap, sym, ◌≡◌, ℕ, Bool, true, false, cond, Option, None, Some, Result, Ok, Err, List, [], ◌∷◌, refl, inl, inr, ◌==◌, ◌∙◌}
 use Rattle.std.specs.Duration.{as_nanos}
 use Rattle.dcsctp_machine.proofs.ControlEcho.{kept_by_age}
 use Rattle.dcsctp_machine.specs.declared.association.Pair.{Pair}
@@ -23,8 +23,10 @@ use Rattle.dcsctp_machine.specs.control.CookieEchoChanges.{held_by_cookie, Resol
 use Rattle.dcsctp_machine.specs.control.HandshakeChanges.{held_by_init_ack}
 use Rattle.std.proofs.lemmas.Bool.{eqb-true}
 use Rattle.dcsctp_delivery_turns.specs.Tags.{IsPeerTag}
-use Rattle.dcsctp_delivery_turns.specs.Actions.{goes_on, ends, begins}
-use Rattle.dcsctp_delivery_turns.proofs.Actions.{Goes, MakesTo, rests, spoken, emitted, flushed, makes_behind, ended, end_silent}
+use Rattle.dcsctp_machine.specs.control.Effect.{link_in}
+use Rattle.dcsctp_delivery_turns.specs.Actions.{IsOpening, goes_on, ends, begins}
+use Rattle.dcsctp_delivery_turns.proofs.Tags.{flush_link}
+use Rattle.dcsctp_delivery_turns.proofs.Actions.{Goes, MakesTo, emits_link, rests, spoken, emitted, flushed, makes_behind, ended, end_silent}
 
 -- A cookie of the existing association has the peer's tag.
 is_the_peer : (own peer tie zero : Bool) → case_by own peer tie zero ≡ maintain_existing → peer ≡ true
@@ -39,30 +41,37 @@ module _ (came : Option Content) (to : ℕ) where
   -- ---- the handshake
 
   pub init_goes : (e : Endpoint) (theirs : Introduction) (core : Core) (word next : ℕ) → Goes came to e (init_outcome e theirs core word next)
-  init_goes e theirs closed word next = goes_on (emitted came to e (U32 word ∷ U32 next ∷ []) (init_ack_emission e theirs (pair_from word next) 0) (tt, tt))
-  init_goes e theirs (cookie_wait my) word next = goes_on (emitted came to e [] (init_ack_emission e theirs my 0) (tt, tt))
-  init_goes e theirs (cookie_echoed my held cookie) word next = goes_on (emitted came to e [] (init_ack_emission e theirs my 0) (tt, tt))
-  init_goes e theirs (open_in established my held) word next = goes_on (emitted came to e (U32 word ∷ []) (init_ack_emission e theirs (renewed_pair e word) e.tie) (tt, tt))
-  init_goes e theirs (open_in shutdown_pending my held) word next = goes_on (emitted came to e (U32 word ∷ []) (init_ack_emission e theirs (renewed_pair e word) e.tie) (tt, tt))
-  init_goes e theirs (open_in shutdown_sent my held) word next = goes_on (emitted came to e (U32 word ∷ []) (init_ack_emission e theirs (renewed_pair e word) e.tie) (tt, tt))
-  init_goes e theirs (open_in shutdown_received my held) word next = goes_on (emitted came to e (U32 word ∷ []) (init_ack_emission e theirs (renewed_pair e word) e.tie) (tt, tt))
-  init_goes e theirs (open_in shutdown_ack_sent my held) word next = goes_on (emitted came to e [] (to_peer held shutdown_ack) (tt, tt))
+  init_goes e theirs closed word next = goes_on (emits_link e (U32 word ∷ U32 next ∷ []) (init_ack_emission e theirs (pair_from word next) 0)) (emitted came to e (U32 word ∷ U32 next ∷ []) (init_ack_emission e theirs (pair_from word next) 0) (tt, tt))
+  init_goes e theirs (cookie_wait my) word next = goes_on (emits_link e [] (init_ack_emission e theirs my 0)) (emitted came to e [] (init_ack_emission e theirs my 0) (tt, tt))
+  init_goes e theirs (cookie_echoed my held cookie) word next = goes_on (emits_link e [] (init_ack_emission e theirs my 0)) (emitted came to e [] (init_ack_emission e theirs my 0) (tt, tt))
+  init_goes e theirs (open_in established my held) word next = goes_on (emits_link e (U32 word ∷ []) (init_ack_emission e theirs (renewed_pair e word) e.tie)) (emitted came to e (U32 word ∷ []) (init_ack_emission e theirs (renewed_pair e word) e.tie) (tt, tt))
+  init_goes e theirs (open_in shutdown_pending my held) word next = goes_on (emits_link e (U32 word ∷ []) (init_ack_emission e theirs (renewed_pair e word) e.tie)) (emitted came to e (U32 word ∷ []) (init_ack_emission e theirs (renewed_pair e word) e.tie) (tt, tt))
+  init_goes e theirs (open_in shutdown_sent my held) word next = goes_on (emits_link e (U32 word ∷ []) (init_ack_emission e theirs (renewed_pair e word) e.tie)) (emitted came to e (U32 word ∷ []) (init_ack_emission e theirs (renewed_pair e word) e.tie) (tt, tt))
+  init_goes e theirs (open_in shutdown_received my held) word next = goes_on (emits_link e (U32 word ∷ []) (init_ack_emission e theirs (renewed_pair e word) e.tie)) (emitted came to e (U32 word ∷ []) (init_ack_emission e theirs (renewed_pair e word) e.tie) (tt, tt))
+  init_goes e theirs (open_in shutdown_ack_sent my held) word next = goes_on (emits_link e [] (to_peer held shutdown_ack)) (emitted came to e [] (to_peer held shutdown_ack) (tt, tt))
 
-  pub connect_goes : (e : Endpoint) (core : Core) (word next : ℕ) → Goes came to e (connect_outcome e core word next)
-  connect_goes e closed word next = goes_on (emitted came to (awaits_init_ack e (pair_from word next)) (U32 word ∷ U32 next ∷ []) (init_emission e (pair_from word next)) (tt, tt))
-  connect_goes e (cookie_wait my) word next = goes_on (rests came to e.below)
-  connect_goes e (cookie_echoed my held cookie) word next = goes_on (rests came to e.below)
-  connect_goes e (open_in phase my held) word next = goes_on (rests came to e.below)
+  pub connect_goes : (e : Endpoint) (core : Core) (word next : ℕ) → e.core ≡ core → Goes came to e (connect_outcome e core word next)
+  connect_goes e closed word next at =
+      goes_on (emits_link (awaits_init_ack e (pair_from word next)) (U32 word ∷ U32 next ∷ []) (init_emission e (pair_from word next)) ∙ sym (ap link_in at))
+      (emitted came to (awaits_init_ack e (pair_from word next)) (U32 word ∷ U32 next ∷ []) (init_emission e (pair_from word next)) (tt, tt))
+  connect_goes e (cookie_wait my) word next at = goes_on refl (rests came to e.below)
+  connect_goes e (cookie_echoed my held cookie) word next at = goes_on refl (rests came to e.below)
+  connect_goes e (open_in phase my held) word next at = goes_on refl (rests came to e.below)
 
   echoed_makes : (b : Bool) (e : Endpoint) (words : List Word) (tag : ℕ) (cookie : List ℕ) (answers : List Answer) → IsPeerTag e.core tag → EchoAnswers b e tag cookie answers
       → MakesTo came tag e.below (cond b (flush_answered answers e words [] true tag (cookie_echo cookie ∷ [])) (quiet e words []))
   echoed_makes true e words tag cookie answers at allowed = flushed came tag e (echo_emission tag cookie) answers at refl (tt, tt) tt allowed
   echoed_makes false e words tag cookie answers at allowed = rests came tag e.below
 
-  accepted_goes : (e : Endpoint) (my : Pair) (theirs : Introduction) (cookie : Option (List ℕ)) (word : ℕ) (answers : List Answer) → InitAckAnswers e theirs cookie (cookie_wait my) word answers
+  echoed_link : (b : Bool) (e : Endpoint) (words : List Word) (tag : ℕ) (cookie : List ℕ) (answers : List Answer) → EchoAnswers b e tag cookie answers
+      → link_in (cond b (flush_answered answers e words [] true tag (cookie_echo cookie ∷ [])) (quiet e words [])).after.core ≡ link_in e.core
+  echoed_link true e words tag cookie answers allowed = flush_link e (echo_emission tag cookie) answers allowed
+  echoed_link false e words tag cookie answers allowed = refl
+
+  accepted_goes : IsOpening came → (e : Endpoint) (my : Pair) (theirs : Introduction) (cookie : Option (List ℕ)) (word : ℕ) (answers : List Answer) → InitAckAnswers e theirs cookie (cookie_wait my) word answers
       → Goes came to e (accepted_init_ack_by (flush_answered answers) e my theirs cookie word)
-  accepted_goes e my theirs None word answers allowed = ended came to e (emits e [] (abort_emission theirs.pair.tag)) (aborted _ no_cookie_text) refl (emitted came to e [] (abort_emission theirs.pair.tag) (tt, tt))
-  accepted_goes e my theirs (Some cookie) word answers allowed =
+  accepted_goes opening e my theirs None word answers allowed = ended came to e (emits e [] (abort_emission theirs.pair.tag)) (aborted _ no_cookie_text) refl (emitted came to e [] (abort_emission theirs.pair.tag) (tt, tt))
+  accepted_goes opening e my theirs (Some cookie) word answers allowed =
       let awaiting : Endpoint = awaits_cookie_ack e my theirs cookie word in
       begins (record {
         my = my;
@@ -72,26 +81,26 @@ module _ (came : Option Content) (to : ℕ) where
         noted = refl;
         queue = numbered_for (held_by_init_ack e.options my theirs).capabilities.message_interleaving (restarted e.below.queue);
         keeps = inr refl;
-      }) (λ queued. refl) (echoed_makes (fits awaiting (echo_emission theirs.pair.tag cookie)) awaiting (U64 word ∷ []) theirs.pair.tag cookie answers refl allowed)
+      }) opening (echoed_link (fits awaiting (echo_emission theirs.pair.tag cookie)) awaiting (U64 word ∷ []) theirs.pair.tag cookie answers allowed) (λ queued. refl) (λ read. refl) (echoed_makes (fits awaiting (echo_emission theirs.pair.tag cookie)) awaiting (U64 word ∷ []) theirs.pair.tag cookie answers refl allowed)
 
-  pub init_ack_goes : (e : Endpoint) (theirs : Introduction) (cookie : Option (List ℕ)) (core : Core) (word : ℕ) (answers : List Answer) → InitAckAnswers e theirs cookie core word answers
+  pub init_ack_goes : IsOpening came → (e : Endpoint) (theirs : Introduction) (cookie : Option (List ℕ)) (core : Core) (word : ℕ) (answers : List Answer) → InitAckAnswers e theirs cookie core word answers
       → Goes came to e (init_ack_by (flush_answered answers) e theirs cookie core word)
-  init_ack_goes e theirs cookie closed word answers allowed = goes_on (rests came to e.below)
-  init_ack_goes e theirs cookie (cookie_wait my) word answers allowed = accepted_goes e my theirs cookie word answers allowed
-  init_ack_goes e theirs cookie (cookie_echoed my held echoed) word answers allowed = goes_on (rests came to e.below)
-  init_ack_goes e theirs cookie (open_in phase my held) word answers allowed = goes_on (rests came to e.below)
+  init_ack_goes opening e theirs cookie closed word answers allowed = goes_on refl (rests came to e.below)
+  init_ack_goes opening e theirs cookie (cookie_wait my) word answers allowed = accepted_goes opening e my theirs cookie word answers allowed
+  init_ack_goes opening e theirs cookie (cookie_echoed my held echoed) word answers allowed = goes_on refl (rests came to e.below)
+  init_ack_goes opening e theirs cookie (open_in phase my held) word answers allowed = goes_on refl (rests came to e.below)
 
-  pub cookie_ack_goes : (e : Endpoint) (core : Core) (answers : List Answer) → IsPeerTag core to → CookieAckAnswers e core answers → Goes came to e (cookie_ack_by (flush_answered answers) e core)
-  cookie_ack_goes e closed answers is allowed = goes_on (rests came to e.below)
-  cookie_ack_goes e (cookie_wait my) answers is allowed = goes_on (rests came to e.below)
-  cookie_ack_goes e (cookie_echoed my held cookie) answers is allowed = goes_on (flushed came to (connected_after e my held) (draft_to held) answers is is tt tt allowed)
-  cookie_ack_goes e (open_in phase my held) answers is allowed = goes_on (rests came to e.below)
+  pub cookie_ack_goes : (e : Endpoint) (core : Core) (answers : List Answer) → e.core ≡ core → IsPeerTag core to → CookieAckAnswers e core answers → Goes came to e (cookie_ack_by (flush_answered answers) e core)
+  cookie_ack_goes e closed answers same is allowed = goes_on refl (rests came to e.below)
+  cookie_ack_goes e (cookie_wait my) answers same is allowed = goes_on refl (rests came to e.below)
+  cookie_ack_goes e (cookie_echoed my held cookie) answers same is allowed = goes_on (flush_link (connected_after e my held) (draft_to held) answers allowed ∙ sym (ap link_in same)) (flushed came to (connected_after e my held) (draft_to held) answers is is tt tt allowed)
+  cookie_ack_goes e (open_in phase my held) answers same is allowed = goes_on refl (rests came to e.below)
 
   -- ---- COOKIE ECHO
 
-  kept_goes : (e : Endpoint) (cookie : Cookie) (tie : ℕ) (answers : List Answer) → EstablishAnswers e cookie (queue_kept e cookie) tie answers
+  kept_goes : IsOpening came → (e : Endpoint) (cookie : Cookie) (tie : ℕ) (answers : List Answer) → EstablishAnswers e cookie (queue_kept e cookie) tie answers
       → Goes came to e (establish_by (flush_answered answers) e cookie (queue_kept e cookie) tie (connected ∷ []))
-  kept_goes e cookie tie answers allowed =
+  kept_goes opening e cookie tie answers allowed =
       begins (record {
         my = cookie.maker;
         held = held_by_cookie e.options cookie;
@@ -100,11 +109,11 @@ module _ (came : Option Content) (to : ℕ) where
         noted = refl;
         queue = queue_kept e cookie;
         keeps = inl refl;
-      }) (λ queued. refl) (flushed came cookie.addressee.tag (established_by e cookie (queue_kept e cookie) tie) (acknowledgement (held_by_cookie e.options cookie) cookie) answers refl refl (tt, tt) tt allowed)
+      }) opening (flush_link (established_by e cookie (queue_kept e cookie) tie) (acknowledgement (held_by_cookie e.options cookie) cookie) answers allowed) (λ queued. refl) (λ read. refl) (flushed came cookie.addressee.tag (established_by e cookie (queue_kept e cookie) tie) (acknowledgement (held_by_cookie e.options cookie) cookie) answers refl refl (tt, tt) tt allowed)
 
-  anew_goes : (e : Endpoint) (cookie : Cookie) (tie : ℕ) (told : List (Event Emission)) (answers : List Answer) → packets_in told ≡ [] → EstablishAnswers e cookie (queue_begun e cookie) tie answers
+  anew_goes : IsOpening came → (e : Endpoint) (cookie : Cookie) (tie : ℕ) (told : List (Event Emission)) (answers : List Answer) → packets_in told ≡ [] → EstablishAnswers e cookie (queue_begun e cookie) tie answers
       → Goes came to e (establish_by (flush_answered answers) e cookie (queue_begun e cookie) tie told)
-  anew_goes e cookie tie told answers none allowed =
+  anew_goes opening e cookie tie told answers none allowed =
       begins (record {
         my = cookie.maker;
         held = held_by_cookie e.options cookie;
@@ -113,51 +122,51 @@ module _ (came : Option Content) (to : ℕ) where
         noted = refl;
         queue = queue_begun e cookie;
         keeps = inr refl;
-      }) (λ queued. refl) (makes_behind came cookie.addressee.tag _ (U64 tie ∷ []) told (flush_of (established_by e cookie (queue_begun e cookie) tie) (acknowledgement (held_by_cookie e.options cookie) cookie) answers) none
+      }) opening (flush_link (established_by e cookie (queue_begun e cookie) tie) (acknowledgement (held_by_cookie e.options cookie) cookie) answers allowed) (λ queued. refl) (λ read. refl) (makes_behind came cookie.addressee.tag _ (U64 tie ∷ []) told (flush_of (established_by e cookie (queue_begun e cookie) tie) (acknowledgement (held_by_cookie e.options cookie) cookie) answers) none
       (flushed came cookie.addressee.tag (established_by e cookie (queue_begun e cookie) tie) (acknowledgement (held_by_cookie e.options cookie) cookie) answers refl refl (tt, tt) tt allowed))
 
-  restarted_goes : (e : Endpoint) (cookie : Cookie) (tie : ℕ) (core : Core) (answers : List Answer) → RestartAnswers e cookie tie core answers
+  restarted_goes : IsOpening came → (e : Endpoint) (cookie : Cookie) (tie : ℕ) (core : Core) (answers : List Answer) → RestartAnswers e cookie tie core answers
       → Goes came to e (restart_by_where (flush_answered answers) e cookie tie core)
-  restarted_goes e cookie tie closed answers allowed = anew_goes e cookie tie (connection_restarted ∷ connected ∷ []) answers refl allowed
-  restarted_goes e cookie tie (cookie_wait my) answers allowed = anew_goes e cookie tie (connection_restarted ∷ connected ∷ []) answers refl allowed
-  restarted_goes e cookie tie (cookie_echoed my held echoed) answers allowed = anew_goes e cookie tie (connection_restarted ∷ connected ∷ []) answers refl allowed
-  restarted_goes e cookie tie (open_in established my held) answers allowed = anew_goes e cookie tie (connection_restarted ∷ connected ∷ []) answers refl allowed
-  restarted_goes e cookie tie (open_in shutdown_pending my held) answers allowed = anew_goes e cookie tie (connection_restarted ∷ connected ∷ []) answers refl allowed
-  restarted_goes e cookie tie (open_in shutdown_sent my held) answers allowed = anew_goes e cookie tie (connection_restarted ∷ connected ∷ []) answers refl allowed
-  restarted_goes e cookie tie (open_in shutdown_received my held) answers allowed = anew_goes e cookie tie (connection_restarted ∷ connected ∷ []) answers refl allowed
-  restarted_goes e cookie tie (open_in shutdown_ack_sent my held) answers allowed = goes_on (spoken came to e.below (shutting_down_emission held) (tt, (tt, tt)))
+  restarted_goes opening e cookie tie closed answers allowed = anew_goes opening e cookie tie (connection_restarted ∷ connected ∷ []) answers refl allowed
+  restarted_goes opening e cookie tie (cookie_wait my) answers allowed = anew_goes opening e cookie tie (connection_restarted ∷ connected ∷ []) answers refl allowed
+  restarted_goes opening e cookie tie (cookie_echoed my held echoed) answers allowed = anew_goes opening e cookie tie (connection_restarted ∷ connected ∷ []) answers refl allowed
+  restarted_goes opening e cookie tie (open_in established my held) answers allowed = anew_goes opening e cookie tie (connection_restarted ∷ connected ∷ []) answers refl allowed
+  restarted_goes opening e cookie tie (open_in shutdown_pending my held) answers allowed = anew_goes opening e cookie tie (connection_restarted ∷ connected ∷ []) answers refl allowed
+  restarted_goes opening e cookie tie (open_in shutdown_sent my held) answers allowed = anew_goes opening e cookie tie (connection_restarted ∷ connected ∷ []) answers refl allowed
+  restarted_goes opening e cookie tie (open_in shutdown_received my held) answers allowed = anew_goes opening e cookie tie (connection_restarted ∷ connected ∷ []) answers refl allowed
+  restarted_goes opening e cookie tie (open_in shutdown_ack_sent my held) answers allowed = goes_on refl (spoken came to e.below (shutting_down_emission held) (tt, (tt, tt)))
 
-  maintained_goes : (e : Endpoint) (cookie : Cookie) (header : ℕ) (core : Core) (answers : List Answer) → IsPeerTag e.core to → IsPeerTag core to → resolve core e.tie header cookie ≡ maintain_existing → MaintainAnswers e cookie core answers → Goes came to e (maintain_by (flush_answered answers) e cookie core)
-  maintained_goes e cookie header closed answers at is resolved allowed = goes_on (rests came to e.below)
-  maintained_goes e cookie header (cookie_wait my) answers at is resolved allowed = goes_on (rests came to e.below)
-  maintained_goes e cookie header (cookie_echoed my held echoed) answers at is resolved allowed = goes_on (flushed came to (connected_after e my held) (acknowledgement held cookie) answers is (eqb-true cookie.addressee.tag held.peer.tag (is_the_peer (header == my.tag) (cookie.addressee.tag == held.peer.tag) (cookie.tie == e.tie) (cookie.tie == 0) resolved) ∙ is) (tt, tt) tt allowed)
-  maintained_goes e cookie header (open_in phase my held) answers at is resolved allowed = goes_on (flushed came to e (acknowledgement held cookie) answers at (eqb-true cookie.addressee.tag held.peer.tag (is_the_peer (header == my.tag) (cookie.addressee.tag == held.peer.tag) (cookie.tie == e.tie) (cookie.tie == 0) resolved) ∙ is) (tt, tt) tt allowed)
+  maintained_goes : (e : Endpoint) (cookie : Cookie) (header : ℕ) (core : Core) (answers : List Answer) → e.core ≡ core → IsPeerTag e.core to → IsPeerTag core to → resolve core e.tie header cookie ≡ maintain_existing → MaintainAnswers e cookie core answers → Goes came to e (maintain_by (flush_answered answers) e cookie core)
+  maintained_goes e cookie header closed answers same at is resolved allowed = goes_on refl (rests came to e.below)
+  maintained_goes e cookie header (cookie_wait my) answers same at is resolved allowed = goes_on refl (rests came to e.below)
+  maintained_goes e cookie header (cookie_echoed my held echoed) answers same at is resolved allowed = goes_on (flush_link (connected_after e my held) (acknowledgement held cookie) answers allowed ∙ sym (ap link_in same)) (flushed came to (connected_after e my held) (acknowledgement held cookie) answers is (eqb-true cookie.addressee.tag held.peer.tag (is_the_peer (header == my.tag) (cookie.addressee.tag == held.peer.tag) (cookie.tie == e.tie) (cookie.tie == 0) resolved) ∙ is) (tt, tt) tt allowed)
+  maintained_goes e cookie header (open_in phase my held) answers same at is resolved allowed = goes_on (flush_link e (acknowledgement held cookie) answers allowed) (flushed came to e (acknowledgement held cookie) answers at (eqb-true cookie.addressee.tag held.peer.tag (is_the_peer (header == my.tag) (cookie.addressee.tag == held.peer.tag) (cookie.tie == e.tie) (cookie.tie == 0) resolved) ∙ is) (tt, tt) tt allowed)
 
-  resolved_goes : (e : Endpoint) (cookie : Cookie) (header : ℕ) (core : Core) (word : ℕ) (old : Bool) (resolution : Resolution) (answers : List Answer) → IsPeerTag e.core to → IsPeerTag core to → aged old (resolve core e.tie header cookie) ≡ resolution → ResolvedAnswers e cookie core word resolution answers
+  resolved_goes : IsOpening came → (e : Endpoint) (cookie : Cookie) (header : ℕ) (core : Core) (word : ℕ) (old : Bool) (resolution : Resolution) (answers : List Answer) → e.core ≡ core → IsPeerTag e.core to → IsPeerTag core to → aged old (resolve core e.tie header cookie) ≡ resolution → ResolvedAnswers e cookie core word resolution answers
       → Goes came to e (resolved_by (flush_answered answers) e cookie core word resolution)
-  resolved_goes e cookie header core word old establish_new answers at is resolved allowed = kept_goes e cookie word answers allowed
-  resolved_goes e cookie header core word old restart answers at is resolved allowed = restarted_goes e cookie word core answers allowed
-  resolved_goes e cookie header core word old simultaneous_init answers at is resolved allowed = anew_goes e cookie word (connected ∷ []) answers refl allowed
-  resolved_goes e cookie header core word old discard answers at is resolved allowed = goes_on (rests came to e.below)
-  resolved_goes e cookie header core word old maintain_existing answers at is resolved allowed = maintained_goes e cookie header core answers at is (kept_by_age old (resolve core e.tie header cookie) resolved) allowed
-  resolved_goes e cookie header core word old invalid_tag answers at is resolved allowed = goes_on (rests came to e.below)
-  resolved_goes e cookie header core word old stale answers at is resolved allowed = goes_on (rests came to e.below)
+  resolved_goes opening e cookie header core word old establish_new answers same at is resolved allowed = kept_goes opening e cookie word answers allowed
+  resolved_goes opening e cookie header core word old restart answers same at is resolved allowed = restarted_goes opening e cookie word core answers allowed
+  resolved_goes opening e cookie header core word old simultaneous_init answers same at is resolved allowed = anew_goes opening e cookie word (connected ∷ []) answers refl allowed
+  resolved_goes opening e cookie header core word old discard answers same at is resolved allowed = goes_on refl (rests came to e.below)
+  resolved_goes opening e cookie header core word old maintain_existing answers same at is resolved allowed = maintained_goes e cookie header core answers same at is (kept_by_age old (resolve core e.tie header cookie) resolved) allowed
+  resolved_goes opening e cookie header core word old invalid_tag answers same at is resolved allowed = goes_on refl (rests came to e.below)
+  resolved_goes opening e cookie header core word old stale answers same at is resolved allowed = goes_on refl (rests came to e.below)
 
-  pub echo_goes : (e : Endpoint) (core : Core) (header : ℕ) (found : Result Cookie (List ℕ)) (word : ℕ) (answers : List Answer) → IsPeerTag e.core to → IsPeerTag core to → EchoedAnswers e core header found word answers
+  pub echo_goes : IsOpening came → (e : Endpoint) (core : Core) (header : ℕ) (found : Result Cookie (List ℕ)) (word : ℕ) (answers : List Answer) → e.core ≡ core → IsPeerTag e.core to → IsPeerTag core to → EchoedAnswers e core header found word answers
       → Goes came to e (cookie_echo_by (flush_answered answers) e core header found word)
-  echo_goes e core header (Err text) word answers at is allowed = goes_on (rests came to e.below)
-  echo_goes e core header (Ok cookie) word answers at is allowed = resolved_goes e cookie header core word (is_stale (as_nanos e.options.cookie_lifetime) e.moment cookie) (resolved_now e core header cookie) answers at is refl allowed
+  echo_goes opening e core header (Err text) word answers same at is allowed = goes_on refl (rests came to e.below)
+  echo_goes opening e core header (Ok cookie) word answers same at is allowed = resolved_goes opening e cookie header core word (is_stale (as_nanos e.options.cookie_lifetime) e.moment cookie) (resolved_now e core header cookie) answers same at is refl allowed
 
   -- ---- ends, and T1
 
   pub abort_goes : (e : Endpoint) (causes : List Cause) (core : Core) → Goes came to e (abort_outcome e causes core)
-  abort_goes e causes closed = goes_on (rests came to e.below)
-  abort_goes e causes (cookie_wait my) = goes_on (rests came to e.below)
-  abort_goes e causes (cookie_echoed my held cookie) = ends e.below (rests came to e.below) refl
-  abort_goes e causes (open_in phase my held) = ends e.below (rests came to e.below) refl
+  abort_goes e causes closed = goes_on refl (rests came to e.below)
+  abort_goes e causes (cookie_wait my) = goes_on refl (rests came to e.below)
+  abort_goes e causes (cookie_echoed my held cookie) = ends refl (λ read. refl) e.below (rests came to e.below) refl
+  abort_goes e causes (open_in phase my held) = ends refl (λ read. refl) e.below (rests came to e.below) refl
 
   pub aborting_goes : (e : Endpoint) (core : Core) (reason : AbortReason) → Goes came to e (aborting_outcome e core reason)
-  aborting_goes e closed reason = goes_on (rests came to e.below)
+  aborting_goes e closed reason = goes_on refl (rests came to e.below)
   aborting_goes e (cookie_wait my) reason = ended came to e (quiet e [] []) (end_of reason) (end_silent came to reason) (rests came to e.below)
   aborting_goes e (cookie_echoed my held cookie) reason = ended came to e (emits e [] (abort_to held reason)) (end_of reason) (end_silent came to reason) (emitted came to e [] (abort_to held reason) (tt, tt))
   aborting_goes e (open_in phase my held) reason = ended came to e (emits e [] (abort_to held reason)) (end_of reason) (end_silent came to reason) (emitted came to e [] (abort_to held reason) (tt, tt))
@@ -170,18 +179,24 @@ module _ (came : Option Content) (to : ℕ) where
       (echoed_makes (fits e (echo_emission held.peer.tag cookie)) e [] held.peer.tag cookie answers (subst (λ (t : ℕ). IsPeerTag e.core t) (sym is) at) allowed)
   again_goes e (open_in phase my held) answers at is allowed = rests came to e.below
 
+  pub again_link : (e : Endpoint) (core : Core) (answers : List Answer) → AgainAnswers e core answers → link_in (again_by (flush_answered answers) e core).after.core ≡ link_in e.core
+  again_link e closed answers allowed = refl
+  again_link e (cookie_wait my) answers allowed = emits_link e [] (init_emission e my)
+  again_link e (cookie_echoed my held cookie) answers allowed = echoed_link (fits e (echo_emission held.peer.tag cookie)) e [] held.peer.tag cookie answers allowed
+  again_link e (open_in phase my held) answers allowed = refl
+
   pub gives_up_goes : (e : Endpoint) (core : Core) → Goes came to e (t1_gives_up_outcome e core)
-  gives_up_goes e closed = goes_on (rests came to e.below)
-  gives_up_goes e (cookie_wait my) = ends e.below (rests came to e.below) refl
-  gives_up_goes e (cookie_echoed my held cookie) = ends e.below (rests came to e.below) refl
-  gives_up_goes e (open_in phase my held) = goes_on (rests came to e.below)
+  gives_up_goes e closed = goes_on refl (rests came to e.below)
+  gives_up_goes e (cookie_wait my) = ends refl (λ read. refl) e.below (rests came to e.below) refl
+  gives_up_goes e (cookie_echoed my held cookie) = ends refl (λ read. refl) e.below (rests came to e.below) refl
+  gives_up_goes e (open_in phase my held) = goes_on refl (rests came to e.below)
 
   pub hand_over_goes : (e : Endpoint) (core : Core) → Goes came to e (hand_over_outcome e core)
-  hand_over_goes e closed = goes_on (rests came to e.below)
-  hand_over_goes e (cookie_wait my) = goes_on (rests came to e.below)
-  hand_over_goes e (cookie_echoed my held cookie) = goes_on (rests came to e.below)
-  hand_over_goes e (open_in established my held) = ends e.below (rests came to e.below) refl
-  hand_over_goes e (open_in shutdown_pending my held) = goes_on (rests came to e.below)
-  hand_over_goes e (open_in shutdown_sent my held) = goes_on (rests came to e.below)
-  hand_over_goes e (open_in shutdown_received my held) = goes_on (rests came to e.below)
-  hand_over_goes e (open_in shutdown_ack_sent my held) = goes_on (rests came to e.below)
+  hand_over_goes e closed = goes_on refl (rests came to e.below)
+  hand_over_goes e (cookie_wait my) = goes_on refl (rests came to e.below)
+  hand_over_goes e (cookie_echoed my held cookie) = goes_on refl (rests came to e.below)
+  hand_over_goes e (open_in established my held) = ends refl (λ read. refl) e.below (rests came to e.below) refl
+  hand_over_goes e (open_in shutdown_pending my held) = goes_on refl (rests came to e.below)
+  hand_over_goes e (open_in shutdown_sent my held) = goes_on refl (rests came to e.below)
+  hand_over_goes e (open_in shutdown_received my held) = goes_on refl (rests came to e.below)
+  hand_over_goes e (open_in shutdown_ack_sent my held) = goes_on refl (rests came to e.below)

@@ -17,11 +17,12 @@ use Rattle.dcsctp_machine.specs.turns.PreparedResets.{ResetRefusal, reset_refusa
 use Rattle.dcsctp_machine_refinement.proofs.Bursts.{packets_in-append}
 use Rattle.dcsctp_delivery_sending.specs.Log.{Fits, Message}
 use Rattle.dcsctp_delivery_turns.specs.Actions.{ledger_of, with_below, Actions, nothing, further, Makes, MakesAlso, Becomes, goes_on, queued_where, queued_together, with_first, read_where}
+use Rattle.dcsctp_machine.specs.control.Effect.{link_in}
 use Rattle.dcsctp_delivery_turns.specs.Tags.{IsPeerTag}
 use Rattle.dcsctp_delivery_sending.specs.Queueing.{message_of}
 use Rattle.dcsctp_delivery_turns.proofs.Actions.{Goes, MakesTo, joined, both, bit, rests, makes_behind}
 use Rattle.dcsctp_delivery_turns.proofs.Fixed.{prepared_none, queue_all_core, refusal_none}
-use Rattle.dcsctp_delivery_turns.proofs.Data.{flush_makes, to_makes}
+use Rattle.dcsctp_delivery_turns.proofs.Data.{to_link, turn_link, flush_makes, to_makes}
 
 module _ (came : Option Content) (to : ℕ) where
   -- ---- own streams that the user resets
@@ -30,10 +31,10 @@ module _ (came : Option Content) (to : ℕ) where
   resets_where_goes None e ids o at turn =
       let base : Endpoint = with_queue e (prepared_all ids e.below.queue) in
       subst (Goes came to e) (sym turn.is)
-      (goes_on (makes_behind came to e.below [] (prepare_all_events ids e.below.queue) turn.flushed (prepared_none ids e.below.queue)
+      (goes_on (turn_link base turn.flushed turn.flushes) (makes_behind came to e.below [] (prepare_all_events ids e.below.queue) turn.flushed (prepared_none ids e.below.queue)
       (both came to e.below base.below turn.flushed.after.below [] (packets_in turn.flushed.events)
       (bit came to e.below base.below (λ queued sent read. actions.prepares ids)) (flush_makes came to base turn.flushed at turn.flushes))))
-  resets_where_goes (Some refusal) e ids o at turn = subst (Goes came to e) (sym turn) (goes_on (rests came to e.below))
+  resets_where_goes (Some refusal) e ids o at turn = subst (Goes came to e) (sym turn) (goes_on refl (rests came to e.below))
 
   pub own_resets_go : (e : Endpoint) (ids : List ℕ) (o : Outcome) → IsPeerTag e.core to → OwnResetsTurn e ids o → Goes came to e o
   own_resets_go e ids o at turn = resets_where_goes (reset_refusal e) e ids o at turn
@@ -42,15 +43,15 @@ module _ (came : Option Content) (to : ℕ) where
 
   take_where_goes : (e : Endpoint) (transfer : Transfer) (messages : List MessageContent) (o : Outcome) → e.below.transfer ≡ Some transfer → transfer.reassembly.incoming.ready ≡ messages
       → TakeWhere e transfer messages o → Becomes came to (λ queued. queued) (with_first messages) e o
-  take_where_goes e transfer [] o known ready turn = subst (Becomes came to (λ queued. queued) (with_first []) e) (sym turn) (goes_on (rests came to e.below))
+  take_where_goes e transfer [] o known ready turn = subst (Becomes came to (λ queued. queued) (with_first []) e) (sym turn) (goes_on refl (rests came to e.below))
   take_where_goes e transfer (message ∷ messages) o known ready turn =
       subst (Becomes came to (λ queued. queued) (with_first (message ∷ messages)) e) (sym turn)
-      (goes_on (λ queued sent read.
+      (goes_on refl (λ queued sent read.
       subst (λ (s : List Emission). Actions came to (ledger_of queued e.below sent read) (ledger_of queued _ s (read ++ message ∷ []))) (sym (append-nil sent))
       (further (ledger_of queued e.below sent read) (ledger_of queued _ sent (read ++ message ∷ [])) nothing (actions.takes transfer message messages known ready))))
 
   pub take_goes : (e : Endpoint) (transfer : Option Transfer) (o : Outcome) → e.below.transfer ≡ transfer → TakeTurn e transfer o → Becomes came to (λ queued. queued) (read_where transfer) e o
-  take_goes e None o known turn = subst (Becomes came to (λ queued. queued) (read_where None) e) (sym turn) (goes_on (rests came to e.below))
+  take_goes e None o known turn = subst (Becomes came to (λ queued. queued) (read_where None) e) (sym turn) (goes_on refl (rests came to e.below))
   take_goes e (Some transfer) o known turn = take_where_goes e transfer transfer.reassembly.incoming.ready o known refl turn
 
   not_empty : (payload : List ℕ) (rest : Option MessageRefusal) → (if length payload == 0 then Some empty_payload else rest) ≡ None → 0 < length payload
@@ -90,6 +91,10 @@ module _ (came : Option Content) (to : ℕ) where
   send_where_makes false e answers at allowed = rests came to e.below
   send_where_makes true e answers at allowed = to_makes came to e (held_in e.core) answers at refl allowed
 
+  send_where_link : (b : Bool) (e : Endpoint) (answers : List Answer) → SendAnswers b e answers → link_in (send_by b e answers).after.core ≡ link_in e.core
+  send_where_link false e answers allowed = refl
+  send_where_link true e answers allowed = to_link e (held_in e.core) answers allowed
+
   pub send_goes : (e : Endpoint) (sendings : List Sending) (o : Outcome) → IsPeerTag e.core to → AllByRecursion (λ sending. Fits (message_of sending)) sendings → SendTurn e sendings o
       → Becomes came to (queued_together e sendings) (λ read. read) e o
   send_goes e sendings o at fit turn =
@@ -98,7 +103,7 @@ module _ (came : Option Content) (to : ℕ) where
       let is : packets_in (all.events ++ last.events) ≡ packets_in last.events =
       packets_in-append all.events last.events ∙ ap (λ (l : List Emission). l ++ packets_in last.events) (queue_all_none e sendings) in
       subst (Becomes came to (queued_together e sendings) (λ read. read) e) (sym turn.2)
-      (goes_on (subst (λ (l : List Emission). MakesAlso came to (queued_together e sendings) (λ read. read) e.below l last.after.below) (sym is)
+      (goes_on (send_where_link (takes_any e sendings) all.after turn.0 turn.1 ∙ ap link_in (queue_all_core e sendings)) (subst (λ (l : List Emission). MakesAlso came to (queued_together e sendings) (λ read. read) e.below l last.after.below) (sym is)
       (λ queued sent read. joined came to (ledger_of queued e.below sent read) (ledger_of (queued_together e sendings queued) all.after.below sent read)
       (ledger_of (queued_together e sendings queued) last.after.below (sent ++ packets_in last.events) read)
       (queue_all_makes e sendings fit queued sent read)

@@ -110,16 +110,16 @@ module _ (options : Options) (first size : ℕ) (direction : Direction) (e : End
       (sends.later, steps_go_on options first size (sender_at direction direction.queued e.below direction.acknowledged direction.sent) (sender_at direction (queued_after e input direction.queued) last sends.later (direction.sent ++ packets_in o.events)) start sends.steps)
 
   sender_becomes : Becomes (came_by input) (peer_tag e.core) (queued_after e input) (read_after e input) e o → SenderTurns options first size direction e input o
-  sender_becomes (goes_on makes) =
+  sender_becomes (goes_on linked makes) =
       let after = moved o.after.below (makes direction.queued direction.sent []) in
       run_goes_on after.0 after.1
-  sender_becomes (ends last makes is) =
+  sender_becomes (ends none unread last makes is) =
       let after = moved last (makes direction.queued direction.sent []) in
       let left = direction_queues options first size (sender_at direction (queued_after e input direction.queued) last after.0 (direction.sent ++ packets_in o.events)) after.1 small few in
       run_ends last after.0 after.1 is
       (subst (λ (b : Below). Run options first size (new_direction options first size (queued_after e input direction.queued) b 0 [])) (sym is)
       (anew_runs options first size (queued_after e input direction.queued) (record last { transfer = None }) left.1 left.0 tt))
-  sender_becomes (begins begun alike makes) =
+  sender_becomes (begins begun opening linked alike unread makes) =
       let both = direction_queues options first size direction run small (let more = input_more e input direction.queued in omega (arith, few, more)) in
       run_begins begun (alike direction.queued) earlier both.1 later
     where
@@ -147,11 +147,11 @@ senders_go_on options first size direction e input o run small same few may turn
 module _ (options : Options) (first size : ℕ) (direction : Direction) (transfer : Transfer) (e : Endpoint) (input : Input) (o : Outcome) (run : Run options first size (receiving direction transfer direction.read))
     (known : e.below.transfer ≡ Some transfer) (was : WasSent direction.sent (came_by input)) where
   receiver_becomes : Becomes (came_by input) (peer_tag e.core) (queued_after e input) (read_after e input) e o → ReceiverTurns options first size direction transfer e input o
-  receiver_becomes (goes_on makes) =
+  receiver_becomes (goes_on linked makes) =
       let got = actions_receive (came_by input) (peer_tag e.core) (ledger_of [] e.below [] direction.read) (ledger_of (queued_after e input []) o.after.below ([] ++ packets_in o.events) (read_after e input direction.read)) direction transfer was known (makes [] [] direction.read) in
       receiver_goes_on got.left got.is (steps_go_on options first size (receiving direction transfer direction.read) (receiving direction got.left (read_after e input direction.read)) run got.steps)
-  receiver_becomes (ends last makes is) = receiver_ends (ap (λ (b : Below). b.transfer) is)
-  receiver_becomes (begins begun alike makes) = receiver_begins begun
+  receiver_becomes (ends none unread last makes is) = receiver_ends (ap (λ (b : Below). b.transfer) is)
+  receiver_becomes (begins begun opening linked alike unread makes) = receiver_begins begun
 
 pub receivers_go_on : (options : Options) (first size : ℕ) (direction : Direction) (transfer : Transfer) (e : Endpoint) (input : Input) (o : Outcome) → Run options first size (receiving direction transfer direction.read)
     → e.below.transfer ≡ Some transfer → WasSent direction.sent (came_by input) → IsCall input → Turn e input o → ReceiverTurns options first size direction transfer e input o

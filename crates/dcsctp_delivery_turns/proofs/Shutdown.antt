@@ -1,6 +1,6 @@
 -- The turns of a shutdown, as actions.
 use Rattle.dcsctp_machine.specs.Event as events
-use Rattle.std.proofs.Common.{◌≡◌, ℕ, Bool, true, false, Option, [], ◌∷◌, refl, sym, subst}
+use Rattle.std.proofs.Common.{◌≡◌, ℕ, Bool, true, false, Option, [], ◌∷◌, refl, sym, subst, Some, ap, ◌∙◌}
 use Rattle.dcsctp_machine.specs.declared.association.Pair.{Pair}
 use Rattle.dcsctp_machine.specs.declared.association.Held.{Held}
 use Rattle.dcsctp_machine.specs.Packet.{Content, shutdown, shutdown_ack, shutdown_complete}
@@ -9,6 +9,7 @@ use Rattle.dcsctp_machine.specs.Outcome.{Outcome, sends, to_peer}
 use Rattle.dcsctp_machine.specs.Turn.{BeginTurn}
 use Rattle.dcsctp_machine.specs.turns.EndOutcomes.{reflected_outcome}
 use Rattle.dcsctp_machine.specs.turns.ShutdownOutcomes.{phase_at, received_tsn, is_all_acknowledged, step_by, step_outcome, t1_stopped, shut_down_outcome, shutdown_outcome, shutdown_ack_outcome, completed_outcome, shutdown_complete_outcome, t2_goes_on, sent_again, t2_again_outcome}
+use Rattle.dcsctp_machine.specs.control.Effect.{link_of, link_in}
 use Rattle.dcsctp_delivery_turns.specs.Tags.{IsPeerTag}
 use Rattle.dcsctp_delivery_turns.specs.Actions.{Makes, goes_on, ends}
 use Rattle.dcsctp_delivery_turns.proofs.Actions.{Goes, MakesTo, rests, spoken, ended}
@@ -43,6 +44,21 @@ step_peer e (cookie_wait my) to at is = at
 step_peer e (cookie_echoed my held cookie) to at is = at
 step_peer e (open_in phase my held) to at is = step_by_peer (is_all_acknowledged e.below.transfer) e phase my held to at is
 
+-- and so does the association
+pub step_by_link : (b : Bool) (e : Endpoint) (phase : OpenPhase) (my : Pair) (held : Held) → link_in e.core ≡ Some (link_of my held) → link_in (step_by b e phase my held).after.core ≡ Some (link_of my held)
+step_by_link false e phase my held is = is
+step_by_link true e established my held is = is
+step_by_link true e shutdown_pending my held is = refl
+step_by_link true e shutdown_sent my held is = is
+step_by_link true e shutdown_received my held is = refl
+step_by_link true e shutdown_ack_sent my held is = is
+
+pub step_link : (e : Endpoint) (core : Core) → e.core ≡ core → link_in (step_outcome e core).after.core ≡ link_in e.core
+step_link e closed at = refl
+step_link e (cookie_wait my) at = refl
+step_link e (cookie_echoed my held cookie) at = refl
+step_link e (open_in phase my held) at = step_by_link (is_all_acknowledged e.below.transfer) e phase my held (ap link_in at) ∙ sym (ap link_in at)
+
 module _ (came : Option Content) (to : ℕ) where
   says_shutdown : (e : Endpoint) (held : Held) → Makes came to e.below (to_peer held (shutdown (received_tsn e.below.transfer)) ∷ []) e.below
   says_shutdown e held = spoken came to e.below (to_peer held (shutdown (received_tsn e.below.transfer))) (tt, tt)
@@ -72,33 +88,37 @@ module _ (came : Option Content) (to : ℕ) where
       → Makes came to base.below (events.packets_in (step_by (is_all_acknowledged base.below.transfer) (phase_at base phase my held) phase my held).events) (step_by (is_all_acknowledged base.below.transfer) (phase_at base phase my held) phase my held).after.below
   step_from_goes e base phase my held same = step_by_makes (is_all_acknowledged base.below.transfer) (phase_at base phase my held) phase my held
 
-  pub shut_down_goes : (e : Endpoint) (core : Core) → Goes came to e (shut_down_outcome e core)
-  shut_down_goes e closed = goes_on (rests came to e.below)
-  shut_down_goes e (cookie_wait my) = ends e.below (rests came to e.below) refl
-  shut_down_goes e (cookie_echoed my held cookie) = goes_on (step_from_goes e (t1_stopped e) shutdown_pending my held refl)
-  shut_down_goes e (open_in established my held) = goes_on (step_from_goes e e shutdown_pending my held refl)
-  shut_down_goes e (open_in shutdown_pending my held) = goes_on (rests came to e.below)
-  shut_down_goes e (open_in shutdown_sent my held) = goes_on (rests came to e.below)
-  shut_down_goes e (open_in shutdown_received my held) = goes_on (rests came to e.below)
-  shut_down_goes e (open_in shutdown_ack_sent my held) = goes_on (rests came to e.below)
+  from_link : (base : Endpoint) (phase : OpenPhase) (my : Pair) (held : Held)
+      → link_in (step_by (is_all_acknowledged base.below.transfer) (phase_at base phase my held) phase my held).after.core ≡ Some (link_of my held)
+  from_link base phase my held = step_by_link (is_all_acknowledged base.below.transfer) (phase_at base phase my held) phase my held refl
+
+  pub shut_down_goes : (e : Endpoint) (core : Core) → e.core ≡ core → Goes came to e (shut_down_outcome e core)
+  shut_down_goes e closed at = goes_on refl (rests came to e.below)
+  shut_down_goes e (cookie_wait my) at = ends refl (λ read. refl) e.below (rests came to e.below) refl
+  shut_down_goes e (cookie_echoed my held cookie) at = goes_on (from_link (t1_stopped e) shutdown_pending my held ∙ sym (ap link_in at)) (step_from_goes e (t1_stopped e) shutdown_pending my held refl)
+  shut_down_goes e (open_in established my held) at = goes_on (from_link e shutdown_pending my held ∙ sym (ap link_in at)) (step_from_goes e e shutdown_pending my held refl)
+  shut_down_goes e (open_in shutdown_pending my held) at = goes_on refl (rests came to e.below)
+  shut_down_goes e (open_in shutdown_sent my held) at = goes_on refl (rests came to e.below)
+  shut_down_goes e (open_in shutdown_received my held) at = goes_on refl (rests came to e.below)
+  shut_down_goes e (open_in shutdown_ack_sent my held) at = goes_on refl (rests came to e.below)
 
   -- ---- chunks
 
-  pub shutdown_goes : (e : Endpoint) (core : Core) → Goes came to e (shutdown_outcome e core)
-  shutdown_goes e closed = goes_on (rests came to e.below)
-  shutdown_goes e (cookie_wait my) = goes_on (rests came to e.below)
-  shutdown_goes e (cookie_echoed my held cookie) = goes_on (rests came to e.below)
-  shutdown_goes e (open_in established my held) = goes_on (step_from_goes e e shutdown_received my held refl)
-  shutdown_goes e (open_in shutdown_pending my held) = goes_on (step_from_goes e e shutdown_received my held refl)
-  shutdown_goes e (open_in shutdown_sent my held) = goes_on (says_ack e held)
-  shutdown_goes e (open_in shutdown_received my held) = goes_on (rests came to e.below)
-  shutdown_goes e (open_in shutdown_ack_sent my held) = goes_on (says_ack e held)
+  pub shutdown_goes : (e : Endpoint) (core : Core) → e.core ≡ core → Goes came to e (shutdown_outcome e core)
+  shutdown_goes e closed at = goes_on refl (rests came to e.below)
+  shutdown_goes e (cookie_wait my) at = goes_on refl (rests came to e.below)
+  shutdown_goes e (cookie_echoed my held cookie) at = goes_on refl (rests came to e.below)
+  shutdown_goes e (open_in established my held) at = goes_on (from_link e shutdown_received my held ∙ sym (ap link_in at)) (step_from_goes e e shutdown_received my held refl)
+  shutdown_goes e (open_in shutdown_pending my held) at = goes_on (from_link e shutdown_received my held ∙ sym (ap link_in at)) (step_from_goes e e shutdown_received my held refl)
+  shutdown_goes e (open_in shutdown_sent my held) at = goes_on (sym (ap link_in at)) (says_ack e held)
+  shutdown_goes e (open_in shutdown_received my held) at = goes_on refl (rests came to e.below)
+  shutdown_goes e (open_in shutdown_ack_sent my held) at = goes_on (sym (ap link_in at)) (says_ack e held)
 
   completed_goes : (e : Endpoint) (held : Held) → Goes came to e (completed_outcome e held)
   completed_goes e held = ended came to e (sends e [] [] (to_peer held (shutdown_complete false))) events.closed refl (spoken came to e.below (to_peer held (shutdown_complete false)) (tt, tt))
 
   reflected_goes : (e : Endpoint) (tag : ℕ) → Goes came to e (reflected_outcome e tag)
-  reflected_goes e tag = goes_on (spoken came to e.below (record { with_checksum = true; packet = record { tag = tag; contents = shutdown_complete true ∷ [] } }) (tt, tt))
+  reflected_goes e tag = goes_on refl (spoken came to e.below (record { with_checksum = true; packet = record { tag = tag; contents = shutdown_complete true ∷ [] } }) (tt, tt))
 
   pub shutdown_ack_goes : (e : Endpoint) (core : Core) (tag : ℕ) → Goes came to e (shutdown_ack_outcome e core tag)
   shutdown_ack_goes e closed tag = reflected_goes e tag
@@ -111,14 +131,14 @@ module _ (came : Option Content) (to : ℕ) where
   shutdown_ack_goes e (open_in shutdown_ack_sent my held) tag = completed_goes e held
 
   pub shutdown_complete_goes : (e : Endpoint) (core : Core) → Goes came to e (shutdown_complete_outcome e core)
-  shutdown_complete_goes e closed = goes_on (rests came to e.below)
-  shutdown_complete_goes e (cookie_wait my) = goes_on (rests came to e.below)
-  shutdown_complete_goes e (cookie_echoed my held cookie) = goes_on (rests came to e.below)
-  shutdown_complete_goes e (open_in established my held) = goes_on (rests came to e.below)
-  shutdown_complete_goes e (open_in shutdown_pending my held) = goes_on (rests came to e.below)
-  shutdown_complete_goes e (open_in shutdown_sent my held) = goes_on (rests came to e.below)
-  shutdown_complete_goes e (open_in shutdown_received my held) = goes_on (rests came to e.below)
-  shutdown_complete_goes e (open_in shutdown_ack_sent my held) = ends e.below (rests came to e.below) refl
+  shutdown_complete_goes e closed = goes_on refl (rests came to e.below)
+  shutdown_complete_goes e (cookie_wait my) = goes_on refl (rests came to e.below)
+  shutdown_complete_goes e (cookie_echoed my held cookie) = goes_on refl (rests came to e.below)
+  shutdown_complete_goes e (open_in established my held) = goes_on refl (rests came to e.below)
+  shutdown_complete_goes e (open_in shutdown_pending my held) = goes_on refl (rests came to e.below)
+  shutdown_complete_goes e (open_in shutdown_sent my held) = goes_on refl (rests came to e.below)
+  shutdown_complete_goes e (open_in shutdown_received my held) = goes_on refl (rests came to e.below)
+  shutdown_complete_goes e (open_in shutdown_ack_sent my held) = ends refl (λ read. refl) e.below (rests came to e.below) refl
 
   -- ---- T2, and data while a SHUTDOWN waits for its answer
 
@@ -132,16 +152,26 @@ module _ (came : Option Content) (to : ℕ) where
   again_makes e (open_in shutdown_received my held) = rests came to e.below
   again_makes e (open_in shutdown_ack_sent my held) = says_ack e held
 
+  again_link : (e : Endpoint) (core : Core) → link_in (sent_again e core).after.core ≡ link_in e.core
+  again_link e closed = refl
+  again_link e (cookie_wait my) = refl
+  again_link e (cookie_echoed my held cookie) = refl
+  again_link e (open_in established my held) = refl
+  again_link e (open_in shutdown_pending my held) = refl
+  again_link e (open_in shutdown_sent my held) = refl
+  again_link e (open_in shutdown_received my held) = refl
+  again_link e (open_in shutdown_ack_sent my held) = refl
+
   pub t2_again_goes : (e : Endpoint) → Goes came to e (t2_again_outcome e)
-  t2_again_goes e = goes_on (again_makes (t2_goes_on e) e.core)
+  t2_again_goes e = goes_on (again_link (t2_goes_on e) e.core) (again_makes (t2_goes_on e) e.core)
 
   pub begin_goes : (e : Endpoint) (core : Core) (has : Bool) (o : Outcome) → BeginTurn e core has o → Goes came to e o
-  begin_goes e closed has o turn = subst (Goes came to e) (sym turn) (goes_on (rests came to e.below))
-  begin_goes e (cookie_wait my) has o turn = subst (Goes came to e) (sym turn) (goes_on (rests came to e.below))
-  begin_goes e (cookie_echoed my held cookie) has o turn = subst (Goes came to e) (sym turn) (goes_on (rests came to e.below))
-  begin_goes e (open_in established my held) has o turn = subst (Goes came to e) (sym turn) (goes_on (rests came to e.below))
-  begin_goes e (open_in shutdown_pending my held) has o turn = subst (Goes came to e) (sym turn) (goes_on (rests came to e.below))
-  begin_goes e (open_in shutdown_sent my held) true o turn = subst (Goes came to e) (sym turn) (goes_on (says_shutdown e held))
-  begin_goes e (open_in shutdown_sent my held) false o turn = subst (Goes came to e) (sym turn) (goes_on (rests came to e.below))
-  begin_goes e (open_in shutdown_received my held) has o turn = subst (Goes came to e) (sym turn) (goes_on (rests came to e.below))
-  begin_goes e (open_in shutdown_ack_sent my held) has o turn = subst (Goes came to e) (sym turn) (goes_on (rests came to e.below))
+  begin_goes e closed has o turn = subst (Goes came to e) (sym turn) (goes_on refl (rests came to e.below))
+  begin_goes e (cookie_wait my) has o turn = subst (Goes came to e) (sym turn) (goes_on refl (rests came to e.below))
+  begin_goes e (cookie_echoed my held cookie) has o turn = subst (Goes came to e) (sym turn) (goes_on refl (rests came to e.below))
+  begin_goes e (open_in established my held) has o turn = subst (Goes came to e) (sym turn) (goes_on refl (rests came to e.below))
+  begin_goes e (open_in shutdown_pending my held) has o turn = subst (Goes came to e) (sym turn) (goes_on refl (rests came to e.below))
+  begin_goes e (open_in shutdown_sent my held) true o turn = subst (Goes came to e) (sym turn) (goes_on refl (says_shutdown e held))
+  begin_goes e (open_in shutdown_sent my held) false o turn = subst (Goes came to e) (sym turn) (goes_on refl (rests came to e.below))
+  begin_goes e (open_in shutdown_received my held) has o turn = subst (Goes came to e) (sym turn) (goes_on refl (rests came to e.below))
+  begin_goes e (open_in shutdown_ack_sent my held) has o turn = subst (Goes came to e) (sym turn) (goes_on refl (rests came to e.below))

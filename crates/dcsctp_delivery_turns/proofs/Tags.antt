@@ -14,7 +14,8 @@ use Rattle.dcsctp_machine.specs.control.CookieEchoChanges.{Resolution, establish
 use Rattle.dcsctp_machine.specs.transfer.SendQueue.{SendQueueState}
 use Rattle.dcsctp_machine.specs.turns.BegunResets.{BegunReset, core_asking, after_begun}
 use Rattle.dcsctp_machine.specs.turns.CookieEchoOutcomes.{established_by, acknowledgement, EstablishAnswers, establish_by, queue_kept, queue_begun, RestartAnswers, restart_by_where, MaintainAnswers, maintain_by, ResolvedAnswers, resolved_by, EchoedAnswers, cookie_echo_by, resolved_now, CookieEchoTurn}
-use Rattle.dcsctp_machine.specs.turns.FlushOutcomes.{Told, amount_is_low, total_amount_is_low, message_is_sent, message_may_have_expired, message_has_expired, message_ends, told_event, Answer, answer_contents, filled, goes_out, asked, next_draft, Ask, first_ask, later_ask, Answers, at_limit, at_empty, after_packet, FlushAnswers, flush_of, flush_answered, packets_allowed}
+use Rattle.dcsctp_machine.specs.control.Effect.{link_in}
+use Rattle.dcsctp_machine.specs.turns.FlushOutcomes.{Told, amount_is_low, total_amount_is_low, message_is_sent, message_may_have_expired, message_has_expired, message_ends, told_event, Answer, answer_contents, filled, goes_out, asked, next_draft, Ask, Answered, first_ask, later_ask, Answers, at_limit, at_empty, after_packet, FlushAnswers, flush_of, flush_answered, packets_allowed}
 use Rattle.dcsctp_delivery_turns.specs.Tags.{IsPeerTag, AllTo}
 use Rattle.dcsctp_machine.specs.turns.HandshakeOutcomes.{connected_after}
 use Rattle.dcsctp_machine.proofs.FlushKeeps.{begun_by, asked_keeps, flush_keeps}
@@ -203,3 +204,27 @@ answers_to tag _ _ _ _ _ is same (after_packet ask more e draft answer answers a
 
 pub flushes_to : (e : Endpoint) (draft : Emission) (answers : List Answer) → IsPeerTag e.core draft.packet.tag → FlushAnswers e draft answers → AllTo draft.packet.tag (packets_in (flush_of e draft answers).events)
 flushes_to e draft answers is allowed = answers_to draft.packet.tag first_ask (packets_allowed e.options.max_burst e.core) e draft answers is refl allowed
+
+-- ---- a flush leaves the association
+
+asking_link : (core : Core) → link_in (core_asking core) ≡ link_in core
+asking_link closed = refl
+asking_link (cookie_wait my) = refl
+asking_link (cookie_echoed my held cookie) = refl
+asking_link (open_in phase my held) = refl
+
+begun_link : (begun : Option BegunReset) (e : Endpoint) → link_in (after_begun begun e).core ≡ link_in e.core
+begun_link None e = refl
+begun_link (Some begun) e = asking_link e.core
+
+asked_link : (ask : Ask) (e : Endpoint) (draft : Emission) (answer : Answer) → Answered ask e draft answer → link_in (asked e draft answer).after.core ≡ link_in e.core
+asked_link ask e draft answer answered = ap link_in (asked_keeps ask e draft answer answered).core ∙ begun_link answer.begun e
+
+answers_link : (ask : Ask) (n : ℕ) (e : Endpoint) (draft : Emission) (answers : List Answer) → Answers ask n e draft answers → link_in (flush_of e draft answers).after.core ≡ link_in e.core
+answers_link _ _ _ _ _ (at_limit ask e draft) = refl
+answers_link _ _ _ _ _ (at_empty ask more e draft answer answered empty) = asked_link ask e draft answer answered
+answers_link _ _ _ _ _ (after_packet ask more e draft answer answers answered some rest) =
+    answers_link later_ask more (asked e draft answer).after (next_draft e.core draft) answers rest ∙ asked_link ask e draft answer answered
+
+pub flush_link : (e : Endpoint) (draft : Emission) (answers : List Answer) → FlushAnswers e draft answers → link_in (flush_of e draft answers).after.core ≡ link_in e.core
+flush_link e draft answers allowed = answers_link first_ask (packets_allowed e.options.max_burst e.core) e draft answers allowed

@@ -11,9 +11,9 @@ use Rattle.dcsctp_machine.specs.turns.TimerOutcomes.{t1_goes_on}
 use Rattle.dcsctp_delivery_turns.specs.Actions.{Becomes, goes_on, came_by, queued_after, read_after, IsCall, peer_tag}
 use Rattle.dcsctp_delivery_turns.specs.Tags.{IsPeerTag}
 use Rattle.dcsctp_delivery_turns.proofs.Actions.{Goes, rests, bit}
-use Rattle.dcsctp_delivery_turns.proofs.Handshake.{init_goes, connect_goes, init_ack_goes, cookie_ack_goes, echo_goes, hand_over_goes, abort_goes, aborting_goes, again_goes, gives_up_goes}
-use Rattle.dcsctp_delivery_turns.proofs.Shutdown.{step_makes, shut_down_goes, shutdown_goes, shutdown_ack_goes, shutdown_complete_goes, t2_again_goes, begin_goes}
-use Rattle.dcsctp_delivery_turns.proofs.Data.{flush_makes, end_goes}
+use Rattle.dcsctp_delivery_turns.proofs.Handshake.{again_link, init_goes, connect_goes, init_ack_goes, cookie_ack_goes, echo_goes, hand_over_goes, abort_goes, aborting_goes, again_goes, gives_up_goes}
+use Rattle.dcsctp_delivery_turns.proofs.Shutdown.{step_link, step_makes, shut_down_goes, shutdown_goes, shutdown_ack_goes, shutdown_complete_goes, t2_again_goes, begin_goes}
+use Rattle.dcsctp_delivery_turns.proofs.Data.{turn_link, flush_makes, end_goes}
 use Rattle.dcsctp_delivery_turns.proofs.Messages.{take_goes, send_goes, own_resets_go}
 use Rattle.dcsctp_delivery_turns.proofs.Resets.{reset_goes, plain_goes, timer_goes}
 
@@ -25,39 +25,39 @@ own_peer (open_in phase my held) = refl
 
 content_goes : (e : Endpoint) (tag : ℕ) (content : Content) (o : Outcome) → ContentTurn e tag content o → Goes (Some content) (peer_tag e.core) e o
 content_goes e tag (init theirs) o turn = subst (Goes _ (peer_tag e.core) e) (sym turn.2) (init_goes _ (peer_tag e.core) e theirs e.core turn.0 turn.1)
-content_goes e tag (init_ack theirs cookie) o turn = subst (Goes _ (peer_tag e.core) e) (sym turn.3) (init_ack_goes _ (peer_tag e.core) e theirs cookie e.core turn.0 turn.1 turn.2)
-content_goes e tag (cookie_echo bytes) o turn = subst (Goes _ (peer_tag e.core) e) (sym turn.3) (echo_goes _ (peer_tag e.core) e e.core tag (cookie_at bytes) turn.0 turn.1 (own_peer e.core) (own_peer e.core) turn.2)
-content_goes e tag cookie_ack o turn = subst (Goes _ (peer_tag e.core) e) (sym turn.2) (cookie_ack_goes _ (peer_tag e.core) e e.core turn.0 (own_peer e.core) turn.1)
-content_goes e tag (re_config parameters) o turn = reset_goes _ (peer_tag e.core) e e.core parameters o (own_peer e.core) (own_peer e.core) turn
+content_goes e tag (init_ack theirs cookie) o turn = subst (Goes _ (peer_tag e.core) e) (sym turn.3) (init_ack_goes (Some (init_ack theirs cookie)) (peer_tag e.core) tt e theirs cookie e.core turn.0 turn.1 turn.2)
+content_goes e tag (cookie_echo bytes) o turn = subst (Goes _ (peer_tag e.core) e) (sym turn.3) (echo_goes (Some (cookie_echo bytes)) (peer_tag e.core) tt e e.core tag (cookie_at bytes) turn.0 turn.1 refl (own_peer e.core) (own_peer e.core) turn.2)
+content_goes e tag cookie_ack o turn = subst (Goes _ (peer_tag e.core) e) (sym turn.2) (cookie_ack_goes _ (peer_tag e.core) e e.core turn.0 refl (own_peer e.core) turn.1)
+content_goes e tag (re_config parameters) o turn = reset_goes _ (peer_tag e.core) e e.core parameters o refl (own_peer e.core) (own_peer e.core) turn
 content_goes e tag (abort reflected causes) o turn = subst (Goes _ (peer_tag e.core) e) (sym turn) (abort_goes _ (peer_tag e.core) e causes e.core)
-content_goes e tag (shutdown tsn) o turn = subst (Goes _ (peer_tag e.core) e) (sym turn) (shutdown_goes _ (peer_tag e.core) e e.core)
+content_goes e tag (shutdown tsn) o turn = subst (Goes _ (peer_tag e.core) e) (sym turn) (shutdown_goes _ (peer_tag e.core) e e.core refl)
 content_goes e tag shutdown_ack o turn = subst (Goes _ (peer_tag e.core) e) (sym turn) (shutdown_ack_goes _ (peer_tag e.core) e e.core tag)
 content_goes e tag (shutdown_complete reflected) o turn = subst (Goes _ (peer_tag e.core) e) (sym turn) (shutdown_complete_goes _ (peer_tag e.core) e e.core)
 content_goes e tag (plain chunk) o turn = plain_goes (peer_tag e.core) e chunk o (own_peer e.core) turn
 
 act_goes : (e : Endpoint) (act : Act) (o : Outcome) → IsCall (act_input act) → ActTurn e act o → Goes None (peer_tag e.core) e o
-act_goes e connect o may turn = subst (Goes None (peer_tag e.core) e) (sym turn.2) (connect_goes None (peer_tag e.core) e e.core turn.0 turn.1)
-act_goes e (t1_expires true) o may turn = subst (Goes None (peer_tag e.core) e) (sym turn.2) (goes_on (again_goes None (peer_tag e.core) (t1_goes_on e) e.core turn.0 (own_peer e.core) (own_peer e.core) turn.1))
+act_goes e connect o may turn = subst (Goes None (peer_tag e.core) e) (sym turn.2) (connect_goes None (peer_tag e.core) e e.core turn.0 turn.1 refl)
+act_goes e (t1_expires true) o may turn = subst (Goes None (peer_tag e.core) e) (sym turn.2) (goes_on (again_link None (peer_tag e.core) (t1_goes_on e) e.core turn.0 turn.1) (again_goes None (peer_tag e.core) (t1_goes_on e) e.core turn.0 (own_peer e.core) (own_peer e.core) turn.1))
 act_goes e (t1_expires false) o may turn = subst (Goes None (peer_tag e.core) e) (sym turn) (gives_up_goes None (peer_tag e.core) e e.core)
-act_goes e shut_down o may turn = subst (Goes None (peer_tag e.core) e) (sym turn) (shut_down_goes None (peer_tag e.core) e e.core)
-act_goes e step_of_shutdown o may turn = subst (Goes None (peer_tag e.core) e) (sym turn) (goes_on (step_makes None (peer_tag e.core) e e.core))
+act_goes e shut_down o may turn = subst (Goes None (peer_tag e.core) e) (sym turn) (shut_down_goes None (peer_tag e.core) e e.core refl)
+act_goes e step_of_shutdown o may turn = subst (Goes None (peer_tag e.core) e) (sym turn) (goes_on (step_link e e.core refl) (step_makes None (peer_tag e.core) e e.core))
 act_goes e shutdown_repeats o may turn = subst (Goes None (peer_tag e.core) e) (sym turn) (t2_again_goes None (peer_tag e.core) e)
 act_goes e (abort_with reason) o may turn = subst (Goes None (peer_tag e.core) e) (sym turn) (aborting_goes None (peer_tag e.core) e e.core reason)
 act_goes e hands_over o may turn = subst (Goes None (peer_tag e.core) e) (sym turn) (hand_over_goes None (peer_tag e.core) e e.core)
-act_goes e flushes o may turn = goes_on (flush_makes None (peer_tag e.core) e o (own_peer e.core) turn)
+act_goes e flushes o may turn = goes_on (turn_link e o turn) (flush_makes None (peer_tag e.core) e o (own_peer e.core) turn)
 act_goes e (request_again reset) o may turn = absurd may
 
 pub turns_are_actions : (e : Endpoint) (input : Input) (o : Outcome) → IsCall input → Turn e input o → Becomes (came_by input) (peer_tag e.core) (queued_after e input) (read_after e input) e o
-turns_are_actions e arrival o may turn = subst (Goes None (peer_tag e.core) e) (sym turn) (goes_on (rests None (peer_tag e.core) e.below))
-turns_are_actions e (refusal text) o may turn = subst (Goes None (peer_tag e.core) e) (sym turn) (goes_on (rests None (peer_tag e.core) e.below))
+turns_are_actions e arrival o may turn = subst (Goes None (peer_tag e.core) e) (sym turn) (goes_on refl (rests None (peer_tag e.core) e.below))
+turns_are_actions e (refusal text) o may turn = subst (Goes None (peer_tag e.core) e) (sym turn) (goes_on refl (rests None (peer_tag e.core) e.below))
 turns_are_actions e (packet_begins contents) o may turn = begin_goes None (peer_tag e.core) e e.core (has_data contents) o turn
 turns_are_actions e (chunk_input tag content) o may turn = content_goes e tag content o turn
 turns_are_actions e packet_ends o may turn = end_goes None (peer_tag e.core) e e.below.transfer o (own_peer e.core) refl turn
 turns_are_actions e (act_input act) o may turn = act_goes e act o may turn
-turns_are_actions e (user_sets setting) o may turn = subst (Goes None (peer_tag e.core) e) (sym turn) (goes_on (bit None (peer_tag e.core) e.below _ (λ queued sent read. actions.sets setting)))
+turns_are_actions e (user_sets setting) o may turn = subst (Goes None (peer_tag e.core) e) (sym turn) (goes_on refl (bit None (peer_tag e.core) e.below _ (λ queued sent read. actions.sets setting)))
 turns_are_actions e (user_sends messages) o may turn = send_goes None (peer_tag e.core) e messages o (own_peer e.core) may turn
 turns_are_actions e (user_resets ids) o may turn = own_resets_go None (peer_tag e.core) e ids o (own_peer e.core) turn
 turns_are_actions e user_takes o may turn = take_goes None (peer_tag e.core) e e.below.transfer o refl turn
 turns_are_actions e (timer_expires timer) o may turn = timer_goes None (peer_tag e.core) e timer o turn
-turns_are_actions e (time_passes moment) o may turn = subst (Goes None (peer_tag e.core) e) (sym turn) (goes_on (rests None (peer_tag e.core) e.below))
+turns_are_actions e (time_passes moment) o may turn = subst (Goes None (peer_tag e.core) e) (sym turn) (goes_on refl (rests None (peer_tag e.core) e.below))
 turns_are_actions e (restores state) o may turn = absurd may

@@ -8,11 +8,11 @@ use Rattle.dcsctp_machine.specs.declared.association.Pair.{Pair}
 use Rattle.dcsctp_machine.specs.Endpoint.{Endpoint, Core, closed, cookie_wait, cookie_echoed, open_in}
 use Rattle.dcsctp_machine.specs.Event.{packets_in}
 use Rattle.dcsctp_machine.specs.Outcome.{Outcome}
-use Rattle.dcsctp_machine.specs.Packet.{Content, init, abort, shutdown_complete, Plain, unworked, plain, Emission}
+use Rattle.dcsctp_machine.specs.Packet.{Content, init, init_ack, cookie_echo, abort, shutdown_complete, Plain, unworked, plain, Emission}
 use Rattle.dcsctp_machine.specs.Turn.{Input, chunk_input, act_input, user_sends, user_takes, restores, Turn}
 use Rattle.dcsctp_machine.specs.control.Acts.{request_again}
 use Rattle.dcsctp_machine.specs.control.Choices.{plain_contents}
-use Rattle.dcsctp_machine.specs.control.Effect.{Effect, holds, link_of}
+use Rattle.dcsctp_machine.specs.control.Effect.{Effect, holds, link_of, link_in}
 use Rattle.dcsctp_machine.specs.transfer.Acknowledging.{is_sack_valid}
 use Rattle.dcsctp_machine.specs.transfer.Arrivals.{data_arrival, i_data_arrival, skipped_in, messages_skipped_in}
 use Rattle.dcsctp_machine.specs.transfer.AtOnce.{SendsAtOnce}
@@ -165,12 +165,20 @@ begun_below e o begun =
       transfer = Some (new_transfer e.options begun.held.capabilities begun.my.first_tsn begun.held.peer.first_tsn begun.window);
     }
 
+-- An association begins by one of these chunks.
+abbrev pub IsOpening : Option Content → Type 0
+IsOpening (Some (init_ack theirs cookie)) = Unit {0}
+IsOpening (Some (cookie_echo cookie)) = Unit {0}
+IsOpening came = ⊥
+
 -- What becomes of the association of a socket in a turn: it goes on, or there is none and none begins; it ends after its last packets; or
 -- another one begins, and takes its place.
 pub data Becomes (came : Option Content) (to : ℕ) (adds : List Message → List Message) (taken : List MessageContent → List MessageContent) (e : Endpoint) (o : Outcome) : Type 0 where
-  goes_on : MakesAlso came to adds taken e.below (packets_in o.events) o.after.below → Becomes came to adds taken e o
-  ends : (last : Below) → MakesAlso came to adds taken e.below (packets_in o.events) last → o.after.below ≡ record last { transfer = None } → Becomes came to adds taken e o
-  begins : (begun : Begun e o) → ((queued : List Message) → adds queued ≡ queued) → Makes came begun.held.peer.tag (begun_below e o begun) (packets_in o.events) o.after.below → Becomes came to adds taken e o
+  goes_on : link_in o.after.core ≡ link_in e.core → MakesAlso came to adds taken e.below (packets_in o.events) o.after.below → Becomes came to adds taken e o
+  ends : link_in o.after.core ≡ None → ((read : List MessageContent) → taken read ≡ read) → (last : Below) → MakesAlso came to adds taken e.below (packets_in o.events) last → o.after.below ≡ record last { transfer = None }
+      → Becomes came to adds taken e o
+  begins : (begun : Begun e o) → IsOpening came → link_in o.after.core ≡ Some (link_of begun.my begun.held) → ((queued : List Message) → adds queued ≡ queued) → ((read : List MessageContent) → taken read ≡ read)
+      → Makes came begun.held.peer.tag (begun_below e o begun) (packets_in o.events) o.after.below → Becomes came to adds taken e o
 
 -- The messages of a call fit their fields, as those in memory do; no snapshot is restored; and a request to reset streams is sent again
 -- by its timer alone.
