@@ -9,4 +9,5 @@ pub mod Resets
 pub mod Turns
 pub mod Sides
 pub mod Addressed
+pub mod Idle
 pub mod Runs

@@ -12,15 +12,20 @@ use Rattle.dcsctp_machine.specs.transfer.SendQueue.{SendQueueState, restarted, e
 use Rattle.dcsctp_machine.specs.transfer.Transfer.{Transfer, Below}
 use Rattle.dcsctp_machine.specs.turns.MessageOutcomes.{MessageRefusal, Sending, sending_refusal, queue_one}
 use Rattle.dcsctp_delivery_sending.specs.Log.{Fits, Message}
-use Rattle.dcsctp_delivery_turns.specs.Actions.{ledger_of, Actions, came_by, queued_where, queued_together, queued_after, read_after, peer_tag, Begun, begun_below, Becomes, goes_on, ends, begins, IsCall}
+use Rattle.dcsctp_delivery_turns.specs.Actions.{Ledger, ledger_of, Makes, Actions, IsOpening, begun_transfer, came_by, queued_where, queued_together, queued_after, read_after, peer_tag, Begun, begun_below, Becomes, goes_on, ends, begins, IsCall}
 use Rattle.dcsctp_machine.specs.transfer.SendStreams.{stream_at}
 use Rattle.dcsctp_delivery_sending.specs.Pieces.{AllQueued, Ascend}
 use Rattle.dcsctp_delivery_sending.specs.Queueing.{QueueHolds}
-use Rattle.dcsctp_delivery_turns.specs.Sides.{WasSent, receiving}
-use Rattle.dcsctp_delivery_turns.specs.Runs.{sender_at, new_direction, SenderTurns, run_goes_on, run_ends, run_begins, ReceiverTurns, receiver_goes_on, receiver_ends, receiver_begins}
+use Rattle.dcsctp_delivery_turns.specs.Sides.{WasSent, receiving, ReceivingSteps}
+use Rattle.dcsctp_delivery_turns.specs.Addressed.{AreAddressed}
+use Rattle.dcsctp_delivery_turns.proofs.Addressed.{data_goes_to_peer}
+use Rattle.dcsctp_machine.specs.control.Effect.{link_of, link_in}
+use Rattle.dcsctp_machine.specs.transfer.Messages.{MessageContent}
+use Rattle.dcsctp_delivery_turns.specs.Runs.{sender_at, new_direction, SenderTurns, run_goes_on, run_ends, run_begins, ReceiverTurns, receiver_goes_on, receiver_ends, receiver_begins, Opens, IdleTurns, idle_stays, idle_begins}
 use Rattle.dcsctp_delivery_directions.specs.Directions.{Direction, Run, IsAwaited}
 use Rattle.dcsctp_delivery_sending.proofs.KeptQueues.{restarted_hold, numbered_hold}
 use Rattle.dcsctp_delivery_turns.proofs.Sides.{steps_go_on, actions_send, actions_receive}
+use Rattle.dcsctp_delivery_turns.proofs.Idle.{actions_none, read_none, opening_sent}
 use Rattle.dcsctp_delivery_turns.proofs.Turns.{turns_are_actions}
 use Rattle.dcsctp_delivery_directions.proofs.Directions.{direction_queues}
 
@@ -93,6 +98,10 @@ begun_queues e o begun queued queues =
           (numbered_hold queued begun.held.capabilities.message_interleaving (restarted e.below.queue) (restarted_hold queued [] e.below.queue queues))
     ]
 
+pub begins_anew : (options : Options) (first size : ℕ) (queued : List Message) (below : Below) → AllByRecursion Fits queued → QueueHolds queued [] below.queue → below.transfer ≡ None
+    → Run options first size (new_direction options first size queued below 0 [])
+begins_anew options first size queued below fit queues none = anew_runs options first size queued below fit queues (subst (ways.NoneInFlight first) (sym none) tt)
+
 -- ---- the side that sends
 
 module _ (options : Options) (first size : ℕ) (direction : Direction) (e : Endpoint) (input : Input) (o : Outcome) (run : Run options first size direction) (small : first < 2 ^ 32) (same : direction.below ≡ e.below)
@@ -109,19 +118,20 @@ module _ (options : Options) (first size : ℕ) (direction : Direction) (e : End
       let start : Run options first size (sender_at direction direction.queued e.below direction.acknowledged direction.sent) = subst (λ (b : Below). Run options first size (sender_at direction direction.queued b direction.acknowledged direction.sent)) same run in
       (sends.later, steps_go_on options first size (sender_at direction direction.queued e.below direction.acknowledged direction.sent) (sender_at direction (queued_after e input direction.queued) last sends.later (direction.sent ++ packets_in o.events)) start sends.steps)
 
+  addressed : (to : ℕ) (old new : Ledger) → old.sent ≡ [] → Actions (came_by input) to old new → AreAddressed to new.sent
+  addressed to old new none actions = data_goes_to_peer (came_by input) to old new (subst (AreAddressed to) (sym none) tt) actions
+
   sender_becomes : Becomes (came_by input) (peer_tag e.core) (queued_after e input) (read_after e input) e o → SenderTurns options first size direction e input o
   sender_becomes (goes_on linked makes) =
       let after = moved o.after.below (makes direction.queued direction.sent []) in
-      run_goes_on after.0 after.1
+      run_goes_on linked (addressed (peer_tag e.core) _ _ refl (makes direction.queued [] [])) after.0 after.1
   sender_becomes (ends none unread last makes is) =
       let after = moved last (makes direction.queued direction.sent []) in
       let left = direction_queues options first size (sender_at direction (queued_after e input direction.queued) last after.0 (direction.sent ++ packets_in o.events)) after.1 small few in
-      run_ends last after.0 after.1 is
-      (subst (λ (b : Below). Run options first size (new_direction options first size (queued_after e input direction.queued) b 0 [])) (sym is)
-      (anew_runs options first size (queued_after e input direction.queued) (record last { transfer = None }) left.1 left.0 tt))
+      run_ends none (addressed (peer_tag e.core) _ _ refl (makes direction.queued [] [])) last after.0 after.1 is left.0 left.1
   sender_becomes (begins begun opening linked alike unread makes) =
       let both = direction_queues options first size direction run small (let more = input_more e input direction.queued in omega (arith, few, more)) in
-      run_begins begun (alike direction.queued) earlier both.1 later
+      run_begins begun linked (addressed begun.held.peer.tag _ _ refl (makes direction.queued [] [])) (alike direction.queued) earlier both.1 later
     where
       later : (other : Options) (room : ℕ) (awaiting : Direction) (queued : List Message) → QueueHolds queued [] e.below.queue → AllByRecursion Fits queued → Run other begun.my.first_tsn room awaiting → IsAwaited awaiting
           → (acknowledged : ℕ) × Run other begun.my.first_tsn room (sender_at awaiting queued o.after.below acknowledged (packets_in o.events))
@@ -144,14 +154,51 @@ senders_go_on options first size direction e input o run small same few may turn
 
 -- ---- the side that receives
 
+abbrev empty_direction : Options → Direction
+empty_direction options = new_direction options 0 0 [] (record { queue = empty_queue options; transfer = None }) 0 []
+
+module _ (e : Endpoint) (input : Input) (o : Outcome) where
+  opens : (begun : Begun e o) → IsOpening (came_by input) → link_in o.after.core ≡ Some (link_of begun.my begun.held) → ((read : List MessageContent) → read_after e input read ≡ read)
+      → Makes (came_by input) begun.held.peer.tag (begun_below e o begun) (packets_in o.events) o.after.below → Opens e input o
+  opens begun opening linked unread makes =
+      record {
+        begun = begun;
+        opening = opening;
+        linked = linked;
+        unread = unread;
+        left = got.left;
+        is = got.is;
+        runs = λ options first size direction run. subst (λ (t : Transfer). Run options first size (receiving direction t direction.read)) (same_left (received direction).left got.left (received direction).is got.is)
+            (steps_go_on options first size (receiving direction (begun_transfer e o begun) direction.read) (receiving direction (received direction).left direction.read) run (received direction).steps);
+      }
+    where
+      received : (direction : Direction) → ReceivingSteps direction (begun_transfer e o begun) (ledger_of [] (begun_below e o begun) [] direction.read) (ledger_of [] o.after.below ([] ++ packets_in o.events) direction.read)
+      received direction =
+          actions_receive (came_by input) begun.held.peer.tag (ledger_of [] (begun_below e o begun) [] direction.read) (ledger_of [] o.after.below ([] ++ packets_in o.events) direction.read) direction (begun_transfer e o begun)
+          (opening_sent direction.sent (came_by input) opening) refl (makes [] [] direction.read)
+
+      got : ReceivingSteps (empty_direction e.options) (begun_transfer e o begun) (ledger_of [] (begun_below e o begun) [] []) (ledger_of [] o.after.below ([] ++ packets_in o.events) [])
+      got = received (empty_direction e.options)
+
+      same_left : (one other : Transfer) → o.after.below.transfer ≡ Some one → o.after.below.transfer ≡ Some other → one ≡ other
+      same_left one other first second = cc
+
+  idle_becomes : e.below.transfer ≡ None → Becomes (came_by input) (peer_tag e.core) (queued_after e input) (read_after e input) e o → IdleTurns e input o
+  idle_becomes none (goes_on linked makes) = idle_stays (actions_none (came_by input) (peer_tag e.core) _ _ (makes [] [] []) none) (λ read. read_none e input read none)
+  idle_becomes none (ends gone unread last makes is) = idle_stays (ap (λ (b : Below). b.transfer) is) (λ read. read_none e input read none)
+  idle_becomes none (begins begun opening linked alike unread makes) = idle_begins (opens begun opening linked unread makes)
+
+pub receivers_begin : (e : Endpoint) (input : Input) (o : Outcome) → e.below.transfer ≡ None → IsCall input → Turn e input o → IdleTurns e input o
+receivers_begin e input o none may turn = idle_becomes e input o none (turns_are_actions e input o may turn)
+
 module _ (options : Options) (first size : ℕ) (direction : Direction) (transfer : Transfer) (e : Endpoint) (input : Input) (o : Outcome) (run : Run options first size (receiving direction transfer direction.read))
     (known : e.below.transfer ≡ Some transfer) (was : WasSent direction.sent (came_by input)) where
   receiver_becomes : Becomes (came_by input) (peer_tag e.core) (queued_after e input) (read_after e input) e o → ReceiverTurns options first size direction transfer e input o
   receiver_becomes (goes_on linked makes) =
       let got = actions_receive (came_by input) (peer_tag e.core) (ledger_of [] e.below [] direction.read) (ledger_of (queued_after e input []) o.after.below ([] ++ packets_in o.events) (read_after e input direction.read)) direction transfer was known (makes [] [] direction.read) in
-      receiver_goes_on got.left got.is (steps_go_on options first size (receiving direction transfer direction.read) (receiving direction got.left (read_after e input direction.read)) run got.steps)
-  receiver_becomes (ends none unread last makes is) = receiver_ends (ap (λ (b : Below). b.transfer) is)
-  receiver_becomes (begins begun opening linked alike unread makes) = receiver_begins begun
+      receiver_goes_on linked got.left got.is (steps_go_on options first size (receiving direction transfer direction.read) (receiving direction got.left (read_after e input direction.read)) run got.steps)
+  receiver_becomes (ends none unread last makes is) = receiver_ends none (ap (λ (b : Below). b.transfer) is) unread
+  receiver_becomes (begins begun opening linked alike unread makes) = receiver_begins (opens e input o begun opening linked unread makes)
 
 pub receivers_go_on : (options : Options) (first size : ℕ) (direction : Direction) (transfer : Transfer) (e : Endpoint) (input : Input) (o : Outcome) → Run options first size (receiving direction transfer direction.read)
     → e.below.transfer ≡ Some transfer → WasSent direction.sent (came_by input) → IsCall input → Turn e input o → ReceiverTurns options first size direction transfer e input o

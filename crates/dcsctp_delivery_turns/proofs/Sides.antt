@@ -87,7 +87,7 @@ answered_left ask e draft (Some other) transfer answer known is does =
     let same : other ≡ transfer = cc in
     subst (λ (t : Transfer). Left t answer.after.below.transfer) same (gives_left (is_idle e.below.queue other) ask e draft other answer known does)
 
-out_below : (e : Endpoint) (told : List (Event Emission)) (with_checksum : Bool) (tag : ℕ) (contents : List Content) → (goes_out e told with_checksum tag contents).after.below ≡ e.below
+pub out_below : (e : Endpoint) (told : List (Event Emission)) (with_checksum : Bool) (tag : ℕ) (contents : List Content) → (goes_out e told with_checksum tag contents).after.below ≡ e.below
 out_below e told with_checksum tag [] = refl
 out_below e told with_checksum tag (content ∷ contents) = refl
 

@@ -157,13 +157,12 @@ pub record Begun (e : Endpoint) (o : Outcome) : Type 0 where
   pub queue : SendQueueState
   pub keeps : (queue ≡ numbered_for held.capabilities.message_interleaving e.below.queue) ⊎ (queue ≡ numbered_for held.capabilities.message_interleaving (restarted e.below.queue))
 
--- its queues, with nothing in flight and nothing received
+-- with nothing in flight and nothing received
+abbrev pub begun_transfer : (e : Endpoint) (o : Outcome) → Begun e o → Transfer
+begun_transfer e o begun = new_transfer e.options begun.held.capabilities begun.my.first_tsn begun.held.peer.first_tsn begun.window
+
 abbrev pub begun_below : (e : Endpoint) (o : Outcome) → Begun e o → Below
-begun_below e o begun =
-    record {
-      queue = begun.queue;
-      transfer = Some (new_transfer e.options begun.held.capabilities begun.my.first_tsn begun.held.peer.first_tsn begun.window);
-    }
+begun_below e o begun = record { queue = begun.queue; transfer = Some (begun_transfer e o begun) }
 
 -- An association begins by one of these chunks.
 abbrev pub IsOpening : Option Content → Type 0

@@ -6,13 +6,16 @@ use Rattle.dcsctp_machine.specs.Event.{packets_in}
 use Rattle.dcsctp_machine.specs.Outcome.{Outcome}
 use Rattle.dcsctp_machine.specs.Packet.{Emission}
 use Rattle.dcsctp_machine.specs.Turn.{Input, Turn}
+use Rattle.dcsctp_machine.specs.control.Effect.{link_of, link_in}
+use Rattle.dcsctp_machine.specs.transfer.Messages.{MessageContent}
 use Rattle.dcsctp_machine.specs.transfer.Reassembly.{new_reassembly}
 use Rattle.dcsctp_machine.specs.transfer.SendQueue.{empty_queue}
 use Rattle.dcsctp_machine.specs.transfer.Tracker.{new_tracker}
 use Rattle.dcsctp_machine.specs.transfer.Transfer.{Transfer, Below}
 use Rattle.std.specs.List.{AllByRecursion}
 use Rattle.dcsctp_delivery_sending.specs.Log.{Fits, Message}
-use Rattle.dcsctp_delivery_turns.specs.Actions.{came_by, queued_after, read_after, Begun, IsCall}
+use Rattle.dcsctp_delivery_turns.specs.Actions.{peer_tag, came_by, queued_after, read_after, Begun, begun_transfer, IsOpening, IsCall}
+use Rattle.dcsctp_delivery_turns.specs.Addressed.{AreAddressed}
 use Rattle.dcsctp_delivery_sending.specs.Queueing.{QueueHolds}
 use Rattle.dcsctp_delivery_turns.specs.Sides.{WasSent, receiving}
 use Rattle.dcsctp_delivery_directions.specs.Directions.{Direction, Run, IsAwaited}
@@ -35,13 +38,17 @@ new_direction options first size queued below acknowledged sent =
     }
 
 -- A run goes on by a turn of the sender; or the association ends after its last packets, and there is none; or another one begins, whoever
--- receives, and whatever that side has done before. What no longer waits may be marked as spent then.
+-- receives, and whatever that side has done before. All data goes to the peer's tag. Where an association ends or begins, what no longer
+-- waits may be marked as spent.
 pub data SenderTurns (options : Options) (first size : ℕ) (direction : Direction) (e : Endpoint) (input : Input) (o : Outcome) : Type 0 where
-  run_goes_on : (acknowledged : ℕ) → Run options first size (sender_at direction (queued_after e input direction.queued) o.after.below acknowledged (direction.sent ++ packets_in o.events)) → SenderTurns options first size direction e input o
-  run_ends : (last : Below) (acknowledged : ℕ) → Run options first size (sender_at direction (queued_after e input direction.queued) last acknowledged (direction.sent ++ packets_in o.events))
-      → o.after.below ≡ record last { transfer = None }
-      → Run options first size (new_direction options first size (queued_after e input direction.queued) o.after.below 0 []) → SenderTurns options first size direction e input o
-  run_begins : (begun : Begun e o) → queued_after e input direction.queued ≡ direction.queued → QueueHolds direction.queued [] e.below.queue → AllByRecursion Fits direction.queued
+  run_goes_on : link_in o.after.core ≡ link_in e.core → AreAddressed (peer_tag e.core) (packets_in o.events) → (acknowledged : ℕ)
+      → Run options first size (sender_at direction (queued_after e input direction.queued) o.after.below acknowledged (direction.sent ++ packets_in o.events)) → SenderTurns options first size direction e input o
+  run_ends : link_in o.after.core ≡ None → AreAddressed (peer_tag e.core) (packets_in o.events) → (last : Below) (acknowledged : ℕ)
+      → Run options first size (sender_at direction (queued_after e input direction.queued) last acknowledged (direction.sent ++ packets_in o.events))
+      → o.after.below ≡ record last { transfer = None } → QueueHolds (queued_after e input direction.queued) [] last.queue → AllByRecursion Fits (queued_after e input direction.queued)
+      → SenderTurns options first size direction e input o
+  run_begins : (begun : Begun e o) → link_in o.after.core ≡ Some (link_of begun.my begun.held) → AreAddressed begun.held.peer.tag (packets_in o.events) → queued_after e input direction.queued ≡ direction.queued
+      → QueueHolds direction.queued [] e.below.queue → AllByRecursion Fits direction.queued
       → ((other : Options) (room : ℕ) (awaiting : Direction) (queued : List Message) → QueueHolds queued [] e.below.queue → AllByRecursion Fits queued → Run other begun.my.first_tsn room awaiting → IsAwaited awaiting
       → (acknowledged : ℕ) × Run other begun.my.first_tsn room (sender_at awaiting queued o.after.below acknowledged (packets_in o.events)))
       → SenderTurns options first size direction e input o
@@ -52,20 +59,46 @@ SendersGoOn =
     (options : Options) (first size : ℕ) (direction : Direction) (e : Endpoint) (input : Input) (o : Outcome) → Run options first size direction → first < 2 ^ 32 → direction.below ≡ e.below
     → length (queued_after e input direction.queued) < 2 ^ 64 → IsCall input → Turn e input o → SenderTurns options first size direction e input o
 
--- A run begins where the socket was just made.
+-- A run begins where the socket was just made,
 abbrev pub SendersBegin : Type 0
 SendersBegin =
     (mine options : Options) (first size : ℕ) → Run options first size (new_direction options first size [] (record { queue = empty_queue mine; transfer = None }) 0 [])
 
+-- and where its association has ended.
+abbrev pub SendersBeginAnew : Type 0
+SendersBeginAnew =
+    (options : Options) (first size : ℕ) (queued : List Message) (below : Below) → AllByRecursion Fits queued → QueueHolds queued [] below.queue → below.transfer ≡ None
+    → Run options first size (new_direction options first size queued below 0 [])
+
+-- An association begins, and what its receiver does in the same turn are steps of a run.
+pub record Opens (e : Endpoint) (input : Input) (o : Outcome) : Type 0 where
+  pub begun : Begun e o
+  pub opening : IsOpening (came_by input)
+  pub linked : link_in o.after.core ≡ Some (link_of begun.my begun.held)
+  pub unread : (read : List MessageContent) → read_after e input read ≡ read
+  pub left : Transfer
+  pub is : o.after.below.transfer ≡ Some left
+  pub runs : (options : Options) (first size : ℕ) (direction : Direction) → Run options first size (receiving direction (begun_transfer e o begun) direction.read)
+      → Run options first size (receiving direction left direction.read)
+
 -- A run goes on by a turn of the receiver, where what is handled was sent; or the association ends, maybe after it has received more; or
 -- another one begins.
 pub data ReceiverTurns (options : Options) (first size : ℕ) (direction : Direction) (transfer : Transfer) (e : Endpoint) (input : Input) (o : Outcome) : Type 0 where
-  receiver_goes_on : (left : Transfer) → o.after.below.transfer ≡ Some left → Run options first size (receiving direction left (read_after e input direction.read)) → ReceiverTurns options first size direction transfer e input o
-  receiver_ends : o.after.below.transfer ≡ None → ReceiverTurns options first size direction transfer e input o
-  receiver_begins : Begun e o → ReceiverTurns options first size direction transfer e input o
+  receiver_goes_on : link_in o.after.core ≡ link_in e.core → (left : Transfer) → o.after.below.transfer ≡ Some left → Run options first size (receiving direction left (read_after e input direction.read))
+      → ReceiverTurns options first size direction transfer e input o
+  receiver_ends : link_in o.after.core ≡ None → o.after.below.transfer ≡ None → ((read : List MessageContent) → read_after e input read ≡ read) → ReceiverTurns options first size direction transfer e input o
+  receiver_begins : Opens e input o → ReceiverTurns options first size direction transfer e input o
 
 -- So it is of each turn.
 abbrev pub ReceiversGoOn : Type 0
 ReceiversGoOn =
     (options : Options) (first size : ℕ) (direction : Direction) (transfer : Transfer) (e : Endpoint) (input : Input) (o : Outcome) → Run options first size (receiving direction transfer direction.read)
     → e.below.transfer ≡ Some transfer → WasSent direction.sent (came_by input) → IsCall input → Turn e input o → ReceiverTurns options first size direction transfer e input o
+
+-- Where there is no association, none is there after the turn, and nothing is read; or one begins.
+pub data IdleTurns (e : Endpoint) (input : Input) (o : Outcome) : Type 0 where
+  idle_stays : o.after.below.transfer ≡ None → ((read : List MessageContent) → read_after e input read ≡ read) → IdleTurns e input o
+  idle_begins : Opens e input o → IdleTurns e input o
+
+abbrev pub ReceiversBegin : Type 0
+ReceiversBegin = (e : Endpoint) (input : Input) (o : Outcome) → e.below.transfer ≡ None → IsCall input → Turn e input o → IdleTurns e input o

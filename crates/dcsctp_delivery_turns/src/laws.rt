@@ -2,7 +2,7 @@
 
 ghost use Rattle.dcsctp_delivery_turns.specs.Actions.{TurnsAreActions};
 ghost use Rattle.dcsctp_delivery_turns.specs.Addressed.{DataGoesToPeer, AddressedTagsAreOwn};
-ghost use Rattle.dcsctp_delivery_turns.specs.Runs.{SendersBegin, SendersGoOn, ReceiversGoOn};
+ghost use Rattle.dcsctp_delivery_turns.specs.Runs.{ReceiversBegin, ReceiversGoOn, SendersBegin, SendersBeginAnew, SendersGoOn};
 ghost use Rattle.dcsctp_delivery_turns.specs.Sides.{StepsGoOn, ActionsSend, ActionsReceive};
 ghost use Rattle.dcsctp_delivery_turns.specs.Tags.{TagsAreOwn, EchoesBearOwnTag, FlushesGoToPeer};
 
@@ -37,5 +37,7 @@ pub fn data_goes_to_peer()
 pub fn runs_go_on()
     ensures made { SendersBegin }
     ensures sends { SendersGoOn }
+    ensures anew { SendersBeginAnew }
     ensures receives { ReceiversGoOn }
+    ensures idle { ReceiversBegin }
 {}

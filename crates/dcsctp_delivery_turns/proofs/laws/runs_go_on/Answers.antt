@@ -1,4 +1,4 @@
-use Rattle.dcsctp_delivery_turns.proofs.Runs.{senders_begin, senders_go_on, receivers_go_on}
+use Rattle.dcsctp_delivery_turns.proofs.Runs.{senders_begin, begins_anew, senders_go_on, receivers_go_on, receivers_begin}
 use Rattle.dcsctp_delivery_turns.proofs.laws.runs_go_on.Goals as goal
 
 pub returns-clause-made : goal.returns-clause-made
@@ -9,3 +9,9 @@ returns-clause-sends c = senders_go_on
 
 pub returns-clause-receives : goal.returns-clause-receives
 returns-clause-receives c = receivers_go_on
+
+pub returns-clause-anew : goal.returns-clause-anew
+returns-clause-anew c = begins_anew
+
+pub returns-clause-idle : goal.returns-clause-idle
+returns-clause-idle c = receivers_begin
