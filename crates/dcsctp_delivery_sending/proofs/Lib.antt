@@ -14,3 +14,4 @@ pub mod Queueing
 pub mod KeptQueues
 pub mod Settings
 pub mod Marking
+pub mod MarkingAll

@@ -15,7 +15,7 @@ use Rattle.std.specs.List.{AllByRecursion}
 
 -- ---- messages that are marked
 
-marked_length : (place : ℕ) (queued : List Message) → length (marked place queued) ≡ length queued
+pub marked_length : (place : ℕ) (queued : List Message) → length (marked place queued) ≡ length queued
 marked_length place [] = refl
 marked_length place (m ∷ queued) = go (place == length queued) (marked_length place queued)
   where

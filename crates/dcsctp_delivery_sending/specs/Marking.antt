@@ -1,5 +1,5 @@
 -- Messages that are marked as spent: they were read in an earlier association, and no piece of them is sent again.
-use Rattle.std.specs.Prelude.{◌≡◌, ◌≢◌, ◌==◌, ℕ, true, if◌then◌else◌, Some, List, [], ◌∷◌, length}
+use Rattle.std.specs.Prelude.{◌≡◌, ◌≢◌, ◌==◌, ℕ, true, if◌then◌else◌, Some, List, [], ◌∷◌, length, ◌<◌, zero, suc, Bool, false}
 use Rattle.dcsctp_machine.specs.transfer.SendStreams.{Waiting, Stream, stream_at}
 use Rattle.dcsctp_delivery_sending.specs.Places.{at_place}
 use Rattle.dcsctp_machine.specs.transfer.SendQueue.{SendQueueState}
@@ -32,3 +32,55 @@ MarkedIsSpent = (place : ℕ) (queued : List Message) (message : Message) → at
 -- and all messages still fit.
 abbrev pub MarkingFits : Type 0
 MarkingFits = (place : ℕ) (queued : List Message) → AllByRecursion Fits queued → AllByRecursion Fits (marked place queued)
+
+-- ---- all that no longer waits is marked
+
+-- Does the message of this place wait here?
+abbrev pub is_waiting : ℕ → List Waiting → Bool
+is_waiting place [] = false
+is_waiting place (waiting ∷ others) = if waiting.message_id == place then true else is_waiting place others
+
+-- or on any stream?
+abbrev pub waits_in : ℕ → List Stream → Bool
+waits_in place [] = false
+waits_in place (stream ∷ streams) = if is_waiting place stream.messages then true else waits_in place streams
+
+-- the messages that were queued, with each of the first ones marked that no longer waits
+abbrev pub all_marked : ℕ → List Stream → List Message → List Message
+all_marked zero streams queued = queued
+all_marked (suc count) streams queued = if waits_in count streams then all_marked count streams queued else marked count (all_marked count streams queued)
+
+-- The same message, which may be marked.
+pub record IsMarkOf (mark message : Message) : Type 0 where
+  pub stream : mark.stream ≡ message.stream
+  pub ppid : mark.ppid ≡ message.ppid
+  pub unordered : mark.is_unordered ≡ message.is_unordered
+  pub payload : mark.payload ≡ message.payload
+  pub kept : message.is_spent ≡ true → mark.is_spent ≡ true
+
+-- The message at a place of the one list is such a one.
+pub record FindsMarked (mark : Message) (queued : List Message) (place : ℕ) : Type 0 where
+  pub message : Message
+  pub at : at_place place queued ≡ Some message
+  pub is : IsMarkOf mark message
+
+-- These are the same messages, of which more may be marked.
+pub record AreMarked (marks queued : List Message) : Type 0 where
+  pub size : length marks ≡ length queued
+  pub finds : (place : ℕ) (mark : Message) → at_place place marks ≡ Some mark → FindsMarked mark queued place
+
+-- The message of this place is marked, if one was queued.
+abbrev pub IsMarked : ℕ → List Message → Type 0
+IsMarked place queued = (message : Message) → at_place place queued ≡ Some message → message.is_spent ≡ true
+
+abbrev pub AllMarkedKeep : Type 0
+AllMarkedKeep = (count : ℕ) (queued : List Message) (queue : SendQueueState) → QueueHolds queued [] queue → QueueHolds (all_marked count queue.streams queued) [] queue
+
+abbrev pub AllMarkedFit : Type 0
+AllMarkedFit = (count : ℕ) (streams : List Stream) (queued : List Message) → AllByRecursion Fits queued → AllByRecursion Fits (all_marked count streams queued)
+
+abbrev pub AllAreMarked : Type 0
+AllAreMarked = (count : ℕ) (streams : List Stream) (queued : List Message) → AreMarked (all_marked count streams queued) queued
+
+abbrev pub GoneAreMarked : Type 0
+GoneAreMarked = (count place : ℕ) (streams : List Stream) (queued : List Message) → place < count → WaitsNoLonger place streams → IsMarked place (all_marked count streams queued)

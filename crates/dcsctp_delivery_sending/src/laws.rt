@@ -2,7 +2,7 @@
 
 ghost use Rattle.dcsctp_delivery_sending.specs.Acknowledged.{AcknowledgingKeeps, LosingKeeps};
 ghost use Rattle.dcsctp_delivery_sending.specs.Flushes.{FlushesSendPieces};
-ghost use Rattle.dcsctp_delivery_sending.specs.Marking.{MarkingKeeps, MarkedIsSpent, MarkingFits};
+ghost use Rattle.dcsctp_delivery_sending.specs.Marking.{AllAreMarked, AllMarkedFit, AllMarkedKeep, GoneAreMarked, MarkedIsSpent, MarkingFits, MarkingKeeps};
 ghost use Rattle.dcsctp_delivery_sending.specs.Pieces.{PiecesFollow};
 ghost use Rattle.dcsctp_delivery_sending.specs.Queueing.{QueueingKeeps, KeptQueuesHold, RestartedQueuesHold, SettingKeeps, PreparingKeeps, CommittingKeeps, RollingBackKeeps};
 ghost use Rattle.dcsctp_delivery_sending.specs.Stages.{PacketsBearPieces, GivingUpKeeps};
@@ -52,4 +52,8 @@ pub fn marking_keeps()
     ensures marked { MarkingKeeps }
     ensures spent { MarkedIsSpent }
     ensures fits { MarkingFits }
+    ensures all { AllMarkedKeep }
+    ensures all_fit { AllMarkedFit }
+    ensures same { AllAreMarked }
+    ensures gone { GoneAreMarked }
 {}

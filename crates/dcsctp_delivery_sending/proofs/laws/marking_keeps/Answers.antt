@@ -1,3 +1,4 @@
+use Rattle.dcsctp_delivery_sending.proofs.MarkingAll.{all_are_marked, all_marked_fit, all_marked_keep, gone_are_marked}
 use Rattle.dcsctp_delivery_sending.proofs.Marking.{marking_hold, marked_spent, marking_fits}
 use Rattle.dcsctp_delivery_sending.proofs.laws.marking_keeps.Goals as goal
 
@@ -9,3 +10,15 @@ returns-clause-spent c = marked_spent
 
 pub returns-clause-fits : goal.returns-clause-fits
 returns-clause-fits c = marking_fits
+
+pub returns-clause-all : goal.returns-clause-all
+returns-clause-all c = all_marked_keep
+
+pub returns-clause-all_fit : goal.returns-clause-all_fit
+returns-clause-all_fit c = all_marked_fit
+
+pub returns-clause-same : goal.returns-clause-same
+returns-clause-same c = all_are_marked
+
+pub returns-clause-gone : goal.returns-clause-gone
+returns-clause-gone c = gone_are_marked
