@@ -23,7 +23,7 @@ marked_length place (m ∷ queued) = go (place == length queued) (marked_length 
     go true rest = refl
     go false rest = ap suc rest
 
-marked_total : (place : ℕ) (queued : List Message) → total (marked place queued) ≡ total queued
+pub marked_total : (place : ℕ) (queued : List Message) → total (marked place queued) ≡ total queued
 marked_total place [] = refl
 marked_total place (m ∷ queued) = go (place == length queued) (marked_total place queued)
   where

@@ -1,0 +1,167 @@
+-- What was read in all associations together.
+use Rattle.std.proofs.Common.{◌≡◌, ◌≢◌, ℕ, Bool, true, false, ◌<◌, ◌≤◌, ◌^◌, None, List, [], ◌∷◌, length, refl, sym, ◌∙◌, ap, arith, subst, inl, inr}
+use Rattle.std.specs.Prelude.{if◌then◌else◌}
+use Rattle.std.proofs.lemmas.Bool.Decides.{eqb_tells}
+use Rattle.dcsctp_machine.specs.declared.options.Options.{Options}
+use Rattle.dcsctp_machine.specs.Endpoint.{Endpoint, fresh_endpoint}
+use Rattle.dcsctp_machine.specs.Packet.{Emission}
+use Rattle.dcsctp_machine.specs.control.Effect.{Effect}
+use Rattle.dcsctp_machine.specs.transfer.Messages.{MessageContent}
+use Rattle.dcsctp_machine.specs.transfer.SendQueue.{empty_queue}
+use Rattle.dcsctp_delivery_sending.specs.Places.{Has, set_at}
+use Rattle.dcsctp_delivery_sending.specs.Log.{Message}
+use Rattle.dcsctp_delivery_sending.specs.Weights.{total}
+use Rattle.dcsctp_delivery_sending.specs.Marking.{IsMarked}
+use Rattle.dcsctp_delivery_sending.proofs.Places.{decide, set_same, at_below}
+use Rattle.dcsctp_delivery_receiving.specs.Ready.{AreDistinct, WasQueued, WereQueued}
+use Rattle.dcsctp_delivery_directions.specs.Directions.{Delivered}
+use Rattle.dcsctp_delivery_directions.specs.Marking.{IsFresh, DeliveredForGood}
+use Rattle.dcsctp_delivery_directions.proofs.Directions.{few_are_assigned}
+use Rattle.dcsctp_delivery_directions.proofs.Marking.{directions_deliver_for_good}
+use Rattle.dcsctp_delivery_turns.proofs.Runs.{senders_begin}
+use Rattle.dcsctp_delivery_associations.specs.Ends.{SendingEnd, joined, new_end, Ends, Leaves, Between}
+use Rattle.dcsctp_delivery_associations.specs.Laws.{AreEnds}
+use Rattle.dcsctp_delivery_associations.specs.Reads.{Read, with_tag, messages_of}
+use Rattle.dcsctp_delivery_associations.proofs.Growing.{AllFound, set_all}
+
+-- ---- lists of places, one for each tag, in one
+
+record Together (queued : List Message) (lists : ℕ → List ℕ) (reads : List Read) : Type 0 where
+  places : List ℕ
+  were : WereQueued queued places (messages_of reads)
+  once : AreDistinct places
+  from : (place : ℕ) → Has place places → (tag : ℕ) × Has place (lists tag)
+
+-- those of the first message, and the others
+record Taken (queued : List Message) (list : List ℕ) (message : MessageContent) (messages : List MessageContent) : Type 0 where
+  place : ℕ
+  others : List ℕ
+  is : list ≡ place ∷ others
+  was : WasQueued queued place message
+  were : WereQueued queued others messages
+
+taken : (queued : List Message) (list : List ℕ) (message : MessageContent) (messages : List MessageContent) → WereQueued queued list (message ∷ messages) → Taken queued list message messages
+taken queued [] message messages were = absurd were
+taken queued (place ∷ others) message messages were = record { place = place; others = others; is = refl; was = were.0; were = were.1 }
+
+tag_first : (r : Read) (reads : List Read) → with_tag r.tag (r ∷ reads) ≡ r.message ∷ with_tag r.tag reads
+tag_first r reads = elim (eqb_tells r.tag r.tag) [ inl t ↦ ap (λ (b : Bool). if b then r.message ∷ with_tag r.tag reads else with_tag r.tag reads) t.0 | inr t ↦ absurd (t.1 refl) ]
+
+tag_rest : (tag : ℕ) (r : Read) (reads : List Read) → tag ≢ r.tag → with_tag tag (r ∷ reads) ≡ with_tag tag reads
+tag_rest tag r reads ne =
+    elim (eqb_tells r.tag tag) [ inl t ↦ absurd (ne (sym t.1)) | inr t ↦ ap (λ (b : Bool). if b then r.message ∷ with_tag tag reads else with_tag tag reads) t.0 ]
+
+together : (queued : List Message) (reads : List Read) (lists : ℕ → List ℕ) → ((tag : ℕ) → WereQueued queued (lists tag) (with_tag tag reads)) → ((tag : ℕ) → AreDistinct (lists tag))
+    → ((one other place : ℕ) → one ≢ other → Has place (lists one) → Has place (lists other) → ⊥) → Together queued lists reads
+together queued [] lists were distinct apart = record { places = []; were = tt; once = tt; from = λ place has. absurd has }
+together queued (r ∷ reads) lists were distinct apart =
+    let first : Taken queued (lists r.tag) r.message (with_tag r.tag reads) =
+    taken queued (lists r.tag) r.message (with_tag r.tag reads) (subst (WereQueued queued (lists r.tag)) (tag_first r reads) (were r.tag)) in
+    let rest : ℕ → List ℕ = set_at r.tag first.others lists in
+    let own : AreDistinct (first.place ∷ first.others) = subst AreDistinct first.is (distinct r.tag) in
+    let back : (tag place : ℕ) → Has place (rest tag) → Has place (lists tag) =
+    set_all (λ tag l. (place : ℕ) → Has place l → Has place (lists tag)) r.tag first.others lists (λ place has. subst (λ (l : List ℕ). Has place l) (sym first.is) (inr has)) (λ tag ne place has. has) in
+    let others : Together queued rest reads =
+    together queued reads rest
+    (set_all (λ tag l. WereQueued queued l (with_tag tag reads)) r.tag first.others lists first.were (λ tag ne. subst (WereQueued queued (lists tag)) (tag_rest tag r reads ne) (were tag)))
+    (set_all (λ tag l. AreDistinct l) r.tag first.others lists own.1 (λ tag ne. distinct tag))
+    (λ one other place ne has has'. apart one other place ne (back one place has) (back other place has')) in
+    let none : Has first.place others.places → ⊥ = λ has. (
+    let found = others.from first.place has in
+    elim (decide found.0 r.tag) [
+      | inl e ↦ own.0 (subst (λ (l : List ℕ). Has first.place l) (set_same r.tag first.others lists) (subst (λ (t : ℕ). Has first.place (rest t)) e found.1))
+      | inr ne ↦ apart found.0 r.tag first.place ne (back found.0 first.place found.1) (subst (λ (l : List ℕ). Has first.place l) (sym first.is) (inl refl))
+    ]
+    ) in
+    record {
+      places = first.place ∷ others.places;
+      were = (first.was, others.were);
+      once = (none, others.once);
+      from = λ place has. elim has [
+        | inl e ↦ (r.tag, subst (λ (l : List ℕ). Has place l) (sym first.is) (inl e))
+        | inr t ↦ (let found = others.from place t in (found.0, back found.0 place found.1))
+      ];
+    }
+
+-- ---- what is marked was queued as it is
+
+was_unmarked : (marks queued : List Message) (place : ℕ) (content : MessageContent) → AllFound marks queued → WasQueued marks place content → WasQueued queued place content
+was_unmarked marks queued place content found was =
+    let one = found place was.message was.at in
+    record { message = one.message; at = one.at; stream = was.stream ∙ one.is.stream; ppid = was.ppid ∙ one.is.ppid; payload = was.payload ∙ one.is.payload }
+
+were_unmarked : (marks queued : List Message) (places : List ℕ) (contents : List MessageContent) → AllFound marks queued → WereQueued marks places contents → WereQueued queued places contents
+were_unmarked marks queued [] [] found were = tt
+were_unmarked marks queued [] (content ∷ contents) found were = absurd were
+were_unmarked marks queued (place ∷ places) [] found were = absurd were
+were_unmarked marks queued (place ∷ places) (content ∷ contents) found were = (was_unmarked marks queued place content found were.0, were_unmarked marks queued places contents found were.1)
+
+fewer_messages : (queued : List Message) → length queued ≤ total queued
+fewer_messages [] = omega arith
+fewer_messages (m ∷ queued) = (let rest = fewer_messages queued in omega (arith, rest))
+
+-- ---- all associations
+
+module _ (options : Options) (ends : Ends) (e : Endpoint) (queued : List Message) (past : List Effect) (packets : List Emission) (other : Endpoint) (their_past : List Effect) (reads : List Read)
+    (h : Between options ends e queued past packets other their_past reads) (small : total queued < 2 ^ 31) where
+  delivered : (tag : ℕ) → DeliveredForGood (joined (ends.sends tag) (ends.gets tag))
+  delivered tag =
+      let light = h.sender.light tag in
+      let few = fewer_messages (ends.sends tag).queued in
+      let short : length (ends.sends tag).queued < 2 ^ 64 = omega (arith, light, few, small) in
+      let assigned = few_are_assigned options (ends.firsts tag) options.max_receiver_window_buffer_size (joined (ends.sends tag) (ends.gets tag)) (h.runs tag) (h.small tag) short in
+      directions_deliver_for_good options (ends.firsts tag) options.max_receiver_window_buffer_size (joined (ends.sends tag) (ends.gets tag)) (h.runs tag) (h.small tag) (omega (arith, light, small, assigned)) short
+
+  lists : ℕ → List ℕ
+  lists tag = (delivered tag).delivered.places
+
+  -- A message that no longer waits is fresh in no later association.
+  clash : (one two place : ℕ) → Leaves (ends.sends one) (ends.sends two).queued → Has place (lists one) → Has place (lists two) → ⊥
+  unfolding lists
+  clash one two place leaves has has' =
+      let fresh : IsFresh (ends.sends one).queued place = (delivered one).fresh place has in
+      let later : IsFresh (ends.sends two).queued place = (delivered two).fresh place has' in
+      let marked : IsMarked place (ends.sends two).queued = leaves place (at_below place fresh.message (ends.sends one).queued fresh.at) ((delivered one).waits_no_longer place has) in
+      let spent : later.message.is_spent ≡ true = marked later.message later.at in
+      let same : true ≡ false = sym spent ∙ later.fresh in
+      absurd (cc)
+
+  apart : (one two place : ℕ) → one ≢ two → Has place (lists one) → Has place (lists two) → ⊥
+  apart one two place ne has has' = elim (h.sender.pairs one two ne) [ inl l ↦ clash one two place l has has' | inr l ↦ clash two one place l has' has ]
+
+  pub ends_deliver : Delivered queued (messages_of reads)
+  unfolding lists
+  ends_deliver =
+      let all = together queued reads lists
+      (λ tag. were_unmarked (ends.sends tag).queued queued (lists tag) (with_tag tag reads) (h.sender.marks tag)
+      (subst (WereQueued (ends.sends tag).queued (lists tag)) (sym (h.receiver.were_read tag)) (delivered tag).delivered.were_queued))
+      (λ tag. (delivered tag).delivered.once) apart in
+      record { places = all.places; were_queued = all.were; once = all.once }
+
+-- ---- two sockets that were just made
+
+pub ends_begin : (mine options : Options) → AreEnds options (fresh_endpoint mine) [] [] [] (fresh_endpoint options) [] []
+ends_begin mine options =
+    record {
+      ends = record { sends = λ tag. nothing; gets = λ tag. new_end options 0; firsts = λ tag. 0 };
+      between = record {
+        runs = λ tag. senders_begin mine options 0 options.max_receiver_window_buffer_size;
+        small = λ tag. omega arith;
+        sender = record {
+          below_is = refl;
+          long = refl;
+          marks = λ tag place mark at. absurd (cc);
+          short = λ tag. omega arith;
+          light = λ tag. omega arith;
+          last = λ tag ne place below gone. absurd (omega arith);
+          pairs = λ one other ne. inl (λ place below gone. absurd (omega arith));
+          current = λ some. absurd (some refl);
+          begun = λ tag some. inl (record { queued = refl; sent = refl; acknowledged = refl; transfer = refl });
+          all_sent = tt;
+        };
+        receiver = record { current = λ transfer there. absurd (cc); were_read = λ tag. refl; begun = λ tag. inl refl };
+      };
+    }
+  where
+    nothing : SendingEnd
+    nothing = record { queued = []; below = record { queue = empty_queue mine; transfer = None }; acknowledged = 0; sent = [] }

@@ -1,0 +1,101 @@
+-- Lists of messages that grow, and messages that stay marked.
+use Rattle.std.proofs.Common.{◌≡◌, ◌≢◌, ℕ, ◌<◌, ◌+◌, List, [], ◌∷◌, ◌++◌, length, refl, sym, ◌∙◌, ap, arith, subst, inl, inr, append_assoc}
+use Rattle.std.specs.Prelude.{Option, None, Some}
+use Rattle.std.proofs.lemmas.List.{length-append}
+use Rattle.dcsctp_machine.specs.Endpoint.{Endpoint}
+use Rattle.dcsctp_machine.specs.Turn.{Input, arrival, refusal, packet_begins, chunk_input, packet_ends, act_input, user_sets, user_sends, user_resets, user_takes, timer_expires, time_passes, restores}
+use Rattle.dcsctp_machine.specs.turns.MessageOutcomes.{MessageRefusal, Sending, sending_refusal, queue_one}
+use Rattle.dcsctp_delivery_sending.specs.Places.{at_place, set_at}
+use Rattle.dcsctp_delivery_sending.specs.Log.{Message}
+use Rattle.dcsctp_delivery_sending.specs.Weights.{total}
+use Rattle.dcsctp_delivery_sending.specs.Marking.{IsMarkOf, FindsMarked, AreMarked, IsMarked}
+use Rattle.dcsctp_delivery_sending.proofs.Places.{decide, set_same, set_other, at_new, at_old, at_cases, at_stays}
+use Rattle.dcsctp_delivery_sending.proofs.Packets.{at_more}
+use Rattle.dcsctp_delivery_sending.proofs.MarkingAll.{is_own, mark_then}
+use Rattle.dcsctp_delivery_turns.specs.Actions.{queued_where, queued_together, queued_after}
+
+-- ---- tables
+
+-- What holds of the new entry, and of the others as they were, holds of all.
+pub set_all : {A : Type 0} (P : ℕ → A → Type 0) (k : ℕ) (v : A) (f : ℕ → A) → P k v → ((t : ℕ) → t ≢ k → P t (f t)) → (t : ℕ) → P t (set_at k v f t)
+set_all P k v f here others t =
+    elim (decide t k) [
+      | inl e ↦ subst (λ (n : ℕ). P n (set_at k v f n)) (sym e) (subst (P k) (sym (set_same k v f)) here)
+      | inr ne ↦ subst (P t) (sym (set_other k t v f ne)) (others t ne)
+    ]
+
+-- ---- what a turn queues
+
+where_adds : (why : Option MessageRefusal) (sending : Sending) (queued : List Message) → queued_where why sending queued ≡ queued_where why sending [] ++ queued
+where_adds None sending queued = refl
+where_adds (Some why) sending queued = refl
+
+together_adds : (e : Endpoint) (sendings : List Sending) (queued : List Message) → queued_together e sendings queued ≡ queued_together e sendings [] ++ queued
+together_adds e [] queued = refl
+together_adds e (sending ∷ sendings) queued =
+    let next : Endpoint = (queue_one e sending).after in
+    let one : List Message = queued_where (sending_refusal e sending) sending [] in
+    together_adds next sendings (queued_where (sending_refusal e sending) sending queued)
+    ∙ ap (λ (l : List Message). queued_together next sendings [] ++ l) (where_adds (sending_refusal e sending) sending queued)
+    ∙ sym (append_assoc (queued_together next sendings []) one queued) ∙ ap (λ (l : List Message). l ++ queued) (sym (together_adds next sendings one))
+
+pub input_adds : (e : Endpoint) (input : Input) (queued : List Message) → queued_after e input queued ≡ queued_after e input [] ++ queued
+input_adds e (user_sends sendings) queued = together_adds e sendings queued
+input_adds e arrival queued = refl
+input_adds e (refusal text) queued = refl
+input_adds e (packet_begins contents) queued = refl
+input_adds e (chunk_input tag content) queued = refl
+input_adds e packet_ends queued = refl
+input_adds e (act_input act) queued = refl
+input_adds e (user_sets setting) queued = refl
+input_adds e (user_resets ids) queued = refl
+input_adds e user_takes queued = refl
+input_adds e (timer_expires timer) queued = refl
+input_adds e (time_passes moment) queued = refl
+input_adds e (restores state) queued = refl
+
+pub total_append : (more queued : List Message) → total (more ++ queued) ≡ total more + total queued
+total_append [] queued = omega arith
+total_append (m ∷ more) queued = (let rest = total_append more queued in omega (arith, rest))
+
+-- ---- messages that are marked
+
+abbrev pub AllFound : List Message → List Message → Type 0
+AllFound marks queued = (place : ℕ) (mark : Message) → at_place place marks ≡ Some mark → FindsMarked mark queued place
+
+pub found_later : (more queued : List Message) (mark : Message) (place : ℕ) → FindsMarked mark queued place → FindsMarked mark (more ++ queued) place
+found_later more queued mark place found = record { message = found.message; at = at_more more queued place found.message found.at; is = found.is }
+
+pub found_then : (marks between queued : List Message) → AreMarked marks between → AllFound between queued → AllFound marks queued
+found_then marks between queued are found place mark at =
+    let one = are.finds place mark at in
+    let two = found place one.message one.at in
+    record { message = two.message; at = two.at; is = mark_then mark one.message two.message one.is two.is }
+
+-- both lists grow by the same messages
+pub found_grown : (more marks queued : List Message) → length marks ≡ length queued → AllFound marks queued → AllFound (more ++ marks) (more ++ queued)
+found_grown [] marks queued long found place mark at = found place mark at
+found_grown (m ∷ more) marks queued long found place mark at =
+    elim (at_cases place m mark (more ++ marks) at) [
+      | inl e ↦
+          (let same : place ≡ length (more ++ queued) = e.0 ∙ length-append more marks ∙ ap (λ (n : ℕ). length more + n) long ∙ sym (length-append more queued) in
+          record {
+            message = m;
+            at = subst (λ (n : ℕ). at_place n (m ∷ more ++ queued) ≡ Some m) (sym same) (at_new m (more ++ queued));
+            is = subst (λ (x : Message). IsMarkOf x m) e.1 (is_own m);
+          })
+      | inr t ↦
+          (let found' = found_grown more marks queued long found place mark t in
+          record { message = found'.message; at = at_stays place m found'.message (more ++ queued) found'.at; is = found'.is })
+    ]
+
+at_before : (more queued : List Message) (place : ℕ) → place < length queued → at_place place (more ++ queued) ≡ at_place place queued
+at_before [] queued place below = refl
+at_before (m ∷ more) queued place below =
+    at_old place m (more ++ queued) (let long = length-append more queued in omega (arith, below, long)) ∙ at_before more queued place below
+
+pub marked_grown : (more queued : List Message) (place : ℕ) → place < length queued → IsMarked place queued → IsMarked place (more ++ queued)
+marked_grown more queued place below is message at = is message (sym (at_before more queued place below) ∙ at)
+
+pub marked_still : (marks queued : List Message) (place : ℕ) → AreMarked marks queued → IsMarked place queued → IsMarked place marks
+marked_still marks queued place are is message at = (let found = are.finds place message at in found.is.kept (is found.message found.at))

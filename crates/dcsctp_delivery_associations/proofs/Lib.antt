@@ -1,0 +1,9 @@
+pub mod Growing
+pub mod Senders
+pub mod SenderStays
+pub mod SenderBegins
+pub mod SenderTurns
+pub mod WhatIsRead
+pub mod ReceiverStays
+pub mod ReceiverTurns
+pub mod Delivers

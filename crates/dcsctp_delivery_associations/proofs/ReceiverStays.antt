@@ -1,0 +1,65 @@
+-- What a turn of the receiver leaves as it is.
+use Rattle.std.proofs.Common.{◌≡◌, ◌≢◌, ℕ, List, sym, subst, inl, inr}
+use Rattle.std.specs.Prelude.{◌⊎◌}
+use Rattle.dcsctp_machine.specs.declared.options.Options.{Options}
+use Rattle.dcsctp_machine.specs.Packet.{Emission}
+use Rattle.dcsctp_machine.specs.World.{after_effects}
+use Rattle.dcsctp_machine.specs.control.Effect.{Effect, holds}
+use Rattle.dcsctp_machine.specs.transfer.Transfer.{Below}
+use Rattle.dcsctp_machine_agreement.proofs.Growth.{after_within}
+use Rattle.dcsctp_delivery_sending.specs.Places.{set_at}
+use Rattle.dcsctp_delivery_sending.specs.Log.{Message}
+use Rattle.dcsctp_delivery_sending.proofs.Places.{decide, set_other}
+use Rattle.dcsctp_delivery_associations.specs.Ends.{ReceivingEnd, new_end, Ends, HadPeer, Awaits, Sender, HadTag}
+use Rattle.dcsctp_delivery_associations.proofs.Senders.{of_more}
+
+-- ---- the rest stays
+
+pub tag_later : (effects past : List Effect) (tag first : ℕ) → HadTag past tag first → HadTag (after_effects effects past) tag first
+tag_later effects past tag first had = record { link = had.link; held = after_within effects past (holds had.link) had.held; tag_is = had.tag_is; first_is = had.first_is; some = had.some }
+
+pub begun_later : (options : Options) (ends : Ends) (effects past : List Effect) (tag : ℕ) → (ends.gets tag ≡ new_end options (ends.firsts tag)) ⊎ HadTag past tag (ends.firsts tag)
+    → (ends.gets tag ≡ new_end options (ends.firsts tag)) ⊎ HadTag (after_effects effects past) tag (ends.firsts tag)
+begun_later options ends effects past tag (inl new) = inl new
+begun_later options ends effects past tag (inr had) = inr (tag_later effects past tag (ends.firsts tag) had)
+
+-- The sender's ends are the same.
+pub sender_same : (ends : Ends) (gets : ℕ → ReceivingEnd) (key : ℕ) (below : Below) (queued : List Message) (past : List Effect) (packets : List Emission) → Sender ends key below queued past packets
+    → Sender (record ends { gets = gets }) key below queued past packets
+sender_same ends gets key below queued past packets s =
+    record {
+      below_is = s.below_is;
+      long = s.long;
+      marks = s.marks;
+      short = s.short;
+      light = s.light;
+      last = s.last;
+      pairs = s.pairs;
+      current = s.current;
+      begun = s.begun;
+      all_sent = of_more ends (record ends { gets = gets }) packets (λ tag emission some has. has) s.all_sent;
+    }
+
+-- The sender has begun no association under this tag.
+pub sender_first : (ends : Ends) (gets : ℕ → ReceivingEnd) (tag first key : ℕ) (below : Below) (queued : List Message) (past : List Effect) (packets : List Emission) → Sender ends key below queued past packets
+    → tag ≢ key → Awaits (ends.sends tag) → Sender (record ends { gets = gets; firsts = set_at tag first ends.firsts }) key below queued past packets
+sender_first ends gets tag first key below queued past packets s ne waits =
+    record {
+      below_is = s.below_is;
+      long = s.long;
+      marks = s.marks;
+      short = s.short;
+      light = s.light;
+      last = s.last;
+      pairs = s.pairs;
+      current = λ some. subst (λ (n : ℕ). HadPeer past key n) (sym (set_other tag key first ends.firsts (λ is. ne (sym is)))) (s.current some);
+      begun = λ t some. elim (decide t tag) [
+        | inl e ↦ inl (subst (λ (n : ℕ). Awaits (ends.sends n)) (sym e) waits)
+        | inr other ↦ before t other (s.begun t some)
+      ];
+      all_sent = of_more ends (record ends { gets = gets; firsts = set_at tag first ends.firsts }) packets (λ t emission some has. has) s.all_sent;
+    }
+  where
+    before : (t : ℕ) → t ≢ tag → Awaits (ends.sends t) ⊎ HadPeer past t (ends.firsts t) → Awaits (ends.sends t) ⊎ HadPeer past t (set_at tag first ends.firsts t)
+    before t other (inl w) = inl w
+    before t other (inr had) = inr (subst (λ (n : ℕ). HadPeer past t n) (sym (set_other tag t first ends.firsts other)) had)

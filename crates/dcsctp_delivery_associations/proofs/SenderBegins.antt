@@ -1,0 +1,196 @@
+-- A turn of the sender in which an association begins.
+use Rattle.std.proofs.Common.{◌≡◌, ◌≢◌, ℕ, ◌<◌, ◌^◌, Option, None, Some, List, [], ◌∷◌, ◌++◌, length, refl, sym, ◌∙◌, ap, subst, inl, inr}
+use Rattle.std.specs.Prelude.{◌⊎◌}
+use Rattle.std.specs.List.{AllByRecursion}
+use Rattle.dcsctp_machine.specs.declared.options.Options.{Options}
+use Rattle.dcsctp_machine.specs.declared.association.Pair.{Pair}
+use Rattle.dcsctp_machine.specs.Endpoint.{Endpoint}
+use Rattle.dcsctp_machine.specs.Event.{packets_in}
+use Rattle.dcsctp_machine.specs.Outcome.{Outcome}
+use Rattle.dcsctp_machine.specs.Packet.{Emission}
+use Rattle.dcsctp_machine.specs.Past.{Has}
+use Rattle.dcsctp_machine.specs.Turn.{Input}
+use Rattle.dcsctp_machine.specs.World.{after_effects}
+use Rattle.dcsctp_machine.specs.control.Effect.{Link, Effect, holds, link_of, link_in}
+use Rattle.dcsctp_machine.specs.transfer.SendQueue.{empty_queue}
+use Rattle.dcsctp_machine.specs.transfer.Transfer.{Transfer, Below}
+use Rattle.dcsctp_machine_agreement.proofs.Growth.{after_within}
+use Rattle.dcsctp_delivery_sending.specs.Places.{set_at}
+use Rattle.dcsctp_delivery_sending.specs.Log.{Message, Fits}
+use Rattle.dcsctp_delivery_sending.specs.Queueing.{QueueHolds}
+use Rattle.dcsctp_delivery_sending.specs.Marking.{all_marked}
+use Rattle.dcsctp_delivery_sending.proofs.Places.{decide, set_same, set_other}
+use Rattle.dcsctp_delivery_sending.proofs.MarkingAll.{all_marked_keep, all_marked_fit}
+use Rattle.dcsctp_delivery_directions.specs.Directions.{Direction, Run, IsAwaited}
+use Rattle.dcsctp_delivery_turns.specs.Actions.{peer_tag, Begun}
+use Rattle.dcsctp_delivery_turns.specs.Addressed.{AreAddressed}
+use Rattle.dcsctp_delivery_turns.specs.Runs.{sender_at, new_direction}
+use Rattle.dcsctp_delivery_turns.proofs.Runs.{senders_begin}
+use Rattle.dcsctp_delivery_associations.specs.Ends.{SendingEnd, ReceivingEnd, joined, new_end, Ends, HadPeer, Awaits, Sender, NewPeer, HadTag, IsCurrent, Receiver, Between}
+use Rattle.dcsctp_delivery_associations.specs.Laws.{AreEnds}
+use Rattle.dcsctp_delivery_associations.specs.Reads.{Read, with_tag}
+use Rattle.dcsctp_delivery_associations.proofs.Growing.{set_all}
+use Rattle.dcsctp_delivery_associations.proofs.Senders.{link_tag, renewed_end, renewed_ends, renewed}
+use Rattle.dcsctp_delivery_associations.proofs.SenderStays.{set_three, receiver_same}
+
+-- ---- an association begins
+
+-- At the receiver there is the matching association, or none yet.
+data Known (options : Options) (ends : Ends) (d : Endpoint) (new : Link) : Type 0 where
+  is_crossed : ends.firsts new.peer.tag ≡ new.my.first_tsn → Known options ends d new
+  is_fresh : ends.gets new.peer.tag ≡ new_end options (ends.firsts new.peer.tag) → ((transfer : Transfer) (link : Link) → d.below.transfer ≡ Some transfer → link_in d.core ≡ Some link → link.my.tag ≢ new.peer.tag) → Known options ends d new
+
+same_tag : (core : Option Link) (one two : Link) → core ≡ Some one → core ≡ Some two → one.my.tag ≡ two.my.tag
+same_tag core one two first second = (let same : one ≡ two = cc in ap (λ (l : Link). l.my.tag) same)
+
+module _ (options : Options) (ends : Ends) (d : Endpoint) (past their_past : List Effect) (reads : List Read) (r : Receiver options ends d their_past reads) (new : Link) (is : NewPeer past their_past new) where
+  of_had : HadTag their_past new.peer.tag (ends.firsts new.peer.tag) → ends.firsts new.peer.tag ≡ new.my.first_tsn
+  of_had had = sym had.first_is ∙ ap (λ (p : Pair). p.first_tsn) (is.match had.link had.held had.tag_is)
+
+  by_begun : ((transfer : Transfer) (link : Link) → d.below.transfer ≡ Some transfer → link_in d.core ≡ Some link → link.my.tag ≢ new.peer.tag) → Known options ends d new
+  by_begun none = elim (r.begun new.peer.tag) [
+    | inl fresh ↦ is_fresh fresh none
+    | inr had ↦ is_crossed (of_had had)
+  ]
+
+  with_current : (transfer : Transfer) → IsCurrent ends d their_past transfer → Known options ends d new
+  with_current transfer c = elim (decide c.link.my.tag new.peer.tag) [
+    | inl e ↦ is_crossed (of_had (subst (λ (t : ℕ). HadTag their_past t (ends.firsts t)) e c.had))
+    | inr ne ↦ by_begun (λ other link there linked same. ne (same_tag (link_in d.core) c.link link c.linked linked ∙ same))
+  ]
+
+  known : (found : Option Transfer) → d.below.transfer ≡ found → Known options ends d new
+  known None none = by_begun (λ transfer link there linked. (let clash : ◌≡◌ {A = Option Transfer} None (Some transfer) = sym none ∙ there in absurd (cc)))
+  known (Some transfer) there = with_current transfer (r.current transfer there)
+
+-- The receiver's end under this tag is new, and stays so.
+receiver_renewed : (options : Options) (ends : Ends) (sends : ℕ → SendingEnd) (d : Endpoint) (past : List Effect) (reads : List Read) (tag first : ℕ) → Receiver options ends d past reads
+    → ends.gets tag ≡ new_end options (ends.firsts tag) → ((transfer : Transfer) (link : Link) → d.below.transfer ≡ Some transfer → link_in d.core ≡ Some link → link.my.tag ≢ tag)
+    → Receiver options (record { sends = sends; gets = set_at tag (new_end options first) ends.gets; firsts = set_at tag first ends.firsts }) d past reads
+receiver_renewed options ends sends d past reads tag first r fresh apart =
+    record {
+      current = λ transfer there. still transfer there (r.current transfer there);
+      were_read = set_all (λ t g. with_tag t reads ≡ g.read) tag (new_end options first) ends.gets (r.were_read tag ∙ ap (λ (g : ReceivingEnd). g.read) fresh) (λ t ne. r.were_read t);
+      begun = λ t. elim (decide t tag) [
+        | inl e ↦
+            inl (subst (λ (n : ℕ). set_at tag (new_end options first) ends.gets n ≡ new_end options (set_at tag first ends.firsts n)) (sym e)
+            (set_same tag (new_end options first) ends.gets ∙ ap (new_end options) (sym (set_same tag first ends.firsts))))
+        | inr ne ↦ other t ne (r.begun t)
+      ];
+    }
+  where
+    still : (transfer : Transfer) → d.below.transfer ≡ Some transfer → IsCurrent ends d past transfer → IsCurrent (record { sends = sends; gets = set_at tag (new_end options first) ends.gets; firsts = set_at tag first ends.firsts }) d past transfer
+    still transfer there c =
+        let ne : c.link.my.tag ≢ tag = apart transfer c.link there c.linked in
+        let same = set_other tag c.link.my.tag (new_end options first) ends.gets ne in
+        record {
+          link = c.link;
+          linked = c.linked;
+          had = subst (λ (n : ℕ). HadTag past c.link.my.tag n) (sym (set_other tag c.link.my.tag first ends.firsts ne)) c.had;
+          tracker = ap (λ (g : ReceivingEnd). g.tracker) same ∙ c.tracker;
+          reassembly = ap (λ (g : ReceivingEnd). g.reassembly) same ∙ c.reassembly;
+        }
+
+    other : (t : ℕ) → t ≢ tag → (ends.gets t ≡ new_end options (ends.firsts t)) ⊎ HadTag past t (ends.firsts t)
+        → (set_at tag (new_end options first) ends.gets t ≡ new_end options (set_at tag first ends.firsts t)) ⊎ HadTag past t (set_at tag first ends.firsts t)
+    other t ne (inl new) = inl (set_other tag t (new_end options first) ends.gets ne ∙ new ∙ ap (new_end options) (sym (set_other tag t first ends.firsts ne)))
+    other t ne (inr had) = inr (subst (λ (n : ℕ). HadTag past t n) (sym (set_other tag t first ends.firsts ne)) had)
+
+module _ (options : Options) (ends : Ends) (e : Endpoint) (queued : List Message) (past : List Effect) (packets : List Emission) (d : Endpoint) (their_past : List Effect) (reads : List Read)
+    (h : Between options ends e queued past packets d their_past reads) (input : Input) (o : Outcome) (begun : Begun e o) where
+  abbrev pub new : Link
+  new = link_of begun.my begun.held
+
+  abbrev pub marks : List Message
+  marks = all_marked (length (ends.sends (peer_tag e.core)).queued) (ends.sends (peer_tag e.core)).below.queue.streams (ends.sends (peer_tag e.core)).queued
+
+  abbrev pub Later : Type 0
+  Later = (other : Options) (room : ℕ) (awaiting : Direction) (queued : List Message) → QueueHolds queued [] e.below.queue → AllByRecursion Fits queued → Run other begun.my.first_tsn room awaiting → IsAwaited awaiting
+      → (acknowledged : ℕ) × Run other begun.my.first_tsn room (sender_at awaiting queued o.after.below acknowledged (packets_in o.events))
+
+  had_new : HadPeer (after_effects o.effects past) begun.held.peer.tag begun.my.first_tsn
+  had_new =
+      record {
+        link = new;
+        held = subst (λ (l : List Effect). Has (holds new) (after_effects l past)) (sym begun.noted) (after_within begun.later (holds new ∷ past) (holds new) (inl refl));
+        tag_is = refl;
+        first_is = refl;
+      }
+
+  sender_of : (later : Ends) → link_in o.after.core ≡ Some new → Sender later begun.held.peer.tag o.after.below queued (after_effects o.effects past) (packets ++ packets_in o.events)
+      → Sender later (peer_tag o.after.core) o.after.below queued (after_effects o.effects past) (packets ++ packets_in o.events)
+  sender_of later linked sender =
+      subst (λ (k : ℕ). Sender later k o.after.below queued (after_effects o.effects past) (packets ++ packets_in o.events)) (sym (link_tag o.after.core new linked)) sender
+
+  crossed_begins : NewPeer past their_past new → Awaits (ends.sends begun.held.peer.tag) → link_in o.after.core ≡ Some new → AreAddressed begun.held.peer.tag (packets_in o.events)
+      → QueueHolds marks [] e.below.queue → AllByRecursion Fits marks → Later → ends.firsts begun.held.peer.tag ≡ begun.my.first_tsn
+      → AreEnds options o.after queued (after_effects o.effects past) (packets ++ packets_in o.events) d their_past reads
+  crossed_begins is waits linked addressed shown fit later same =
+      let to : ℕ = begun.held.peer.tag in
+      let ps : List Emission = packets_in o.events in
+      let start : Run options begun.my.first_tsn options.max_receiver_window_buffer_size (joined (ends.sends to) (ends.gets to)) =
+      subst (λ (n : ℕ). Run options n options.max_receiver_window_buffer_size (joined (ends.sends to) (ends.gets to))) same (h.runs to) in
+      let run = later options options.max_receiver_window_buffer_size (joined (ends.sends to) (ends.gets to)) marks shown fit start
+      (record { queued = waits.queued; sent = waits.sent; acknowledged = waits.acknowledged; transfer = waits.transfer }) in
+      let end : SendingEnd = renewed_end ends (peer_tag e.core) e.below queued past packets h.sender o.effects to o.after.below run.0 ps ends.gets ends.firsts in
+      let ends' : Ends = renewed_ends ends (peer_tag e.core) e.below queued past packets h.sender o.effects to o.after.below run.0 ps ends.gets ends.firsts in
+      record {
+        ends = ends';
+        between = record {
+          runs = set_all (λ tag s. Run options (ends.firsts tag) options.max_receiver_window_buffer_size (joined s (ends.gets tag))) to end ends.sends
+              (subst (λ (n : ℕ). Run options n options.max_receiver_window_buffer_size (joined end (ends.gets to))) (sym same) run.1) (λ tag ne. h.runs tag);
+          small = h.small;
+          sender = sender_of ends' linked
+              (renewed ends (peer_tag e.core) e.below queued past packets h.sender o.effects to o.after.below run.0 ps ends.gets ends.firsts (inr waits)
+              (λ some. subst (λ (n : ℕ). HadPeer (after_effects o.effects past) to n) (sym same) had_new) (λ tag ne. refl) addressed);
+          receiver = receiver_same options ends ends'.sends d their_past reads h.receiver;
+        };
+      }
+
+  fresh_begins : NewPeer past their_past new → Awaits (ends.sends begun.held.peer.tag) → link_in o.after.core ≡ Some new → AreAddressed begun.held.peer.tag (packets_in o.events)
+      → QueueHolds marks [] e.below.queue → AllByRecursion Fits marks → Later → ends.gets begun.held.peer.tag ≡ new_end options (ends.firsts begun.held.peer.tag)
+      → ((transfer : Transfer) (link : Link) → d.below.transfer ≡ Some transfer → link_in d.core ≡ Some link → link.my.tag ≢ begun.held.peer.tag)
+      → AreEnds options o.after queued (after_effects o.effects past) (packets ++ packets_in o.events) d their_past reads
+  fresh_begins is waits linked addressed shown fit later fresh apart =
+      let to : ℕ = begun.held.peer.tag in
+      let first : ℕ = begun.my.first_tsn in
+      let ps : List Emission = packets_in o.events in
+      let gets : ℕ → ReceivingEnd = set_at to (new_end options first) ends.gets in
+      let firsts : ℕ → ℕ = set_at to first ends.firsts in
+      let run = later options options.max_receiver_window_buffer_size
+      (new_direction options first options.max_receiver_window_buffer_size [] (record { queue = empty_queue options; transfer = None }) 0 []) marks shown fit (senders_begin options options first options.max_receiver_window_buffer_size)
+      (record { queued = refl; sent = refl; acknowledged = refl; transfer = refl }) in
+      let end : SendingEnd = renewed_end ends (peer_tag e.core) e.below queued past packets h.sender o.effects to o.after.below run.0 ps gets firsts in
+      let ends' : Ends = renewed_ends ends (peer_tag e.core) e.below queued past packets h.sender o.effects to o.after.below run.0 ps gets firsts in
+      record {
+        ends = ends';
+        between = record {
+          runs = set_three (λ tag f s g. Run options f options.max_receiver_window_buffer_size (joined s g)) to first end (new_end options first) ends.firsts ends.sends ends.gets run.1 (λ tag ne. h.runs tag);
+          small = set_all (λ tag f. f < 2 ^ 32) to first ends.firsts is.small (λ tag ne. h.small tag);
+          sender = sender_of ends' linked
+              (renewed ends (peer_tag e.core) e.below queued past packets h.sender o.effects to o.after.below run.0 ps gets firsts (inr waits)
+              (λ some. subst (λ (n : ℕ). HadPeer (after_effects o.effects past) to n) (sym (set_same to first ends.firsts)) had_new) (λ tag ne. set_other to tag first ends.firsts ne) addressed);
+          receiver = receiver_renewed options ends ends'.sends d their_past reads to first h.receiver fresh apart;
+        };
+      }
+
+  pub begins : NewPeer past their_past new → link_in o.after.core ≡ Some new → AreAddressed begun.held.peer.tag (packets_in o.events)
+      → QueueHolds (ends.sends (peer_tag e.core)).queued [] e.below.queue → AllByRecursion Fits (ends.sends (peer_tag e.core)).queued → Later
+      → AreEnds options o.after queued (after_effects o.effects past) (packets ++ packets_in o.events) d their_past reads
+  begins is linked addressed shown fit later =
+      elim (h.sender.begun begun.held.peer.tag is.some) [
+        | inl waits ↦ go waits (known options ends d past their_past reads h.receiver new is d.below.transfer refl)
+        | inr had ↦ absurd (is.other had.link had.held had.tag_is)
+      ]
+    where
+      holds_marks : QueueHolds marks [] e.below.queue
+      holds_marks =
+          subst (λ (b : Below). QueueHolds (all_marked (length (ends.sends (peer_tag e.core)).queued) b.queue.streams (ends.sends (peer_tag e.core)).queued) [] e.below.queue) (sym h.sender.below_is)
+          (all_marked_keep (length (ends.sends (peer_tag e.core)).queued) (ends.sends (peer_tag e.core)).queued e.below.queue shown)
+
+      fit_marks : AllByRecursion Fits marks
+      fit_marks = all_marked_fit (length (ends.sends (peer_tag e.core)).queued) (ends.sends (peer_tag e.core)).below.queue.streams (ends.sends (peer_tag e.core)).queued fit
+
+      go : Awaits (ends.sends begun.held.peer.tag) → Known options ends d new → AreEnds options o.after queued (after_effects o.effects past) (packets ++ packets_in o.events) d their_past reads
+      go waits (is_crossed same) = crossed_begins is waits linked addressed holds_marks fit_marks later same
+      go waits (is_fresh fresh apart) = fresh_begins is waits linked addressed holds_marks fit_marks later fresh apart

@@ -1,0 +1,128 @@
+-- A turn of the sender in which its association goes on, or ends.
+use Rattle.std.proofs.Common.{◌≡◌, ◌≢◌, ℕ, None, List, [], ◌++◌, length, refl, sym, ap, subst, inl, inr}
+use Rattle.std.specs.List.{AllByRecursion}
+use Rattle.std.proofs.lemmas.List.{append-nil}
+use Rattle.dcsctp_machine.specs.declared.options.Options.{Options}
+use Rattle.dcsctp_machine.specs.Endpoint.{Endpoint}
+use Rattle.dcsctp_machine.specs.Event.{packets_in}
+use Rattle.dcsctp_machine.specs.Outcome.{Outcome}
+use Rattle.dcsctp_machine.specs.Packet.{Emission}
+use Rattle.dcsctp_machine.specs.Turn.{Input}
+use Rattle.dcsctp_machine.specs.World.{after_effects}
+use Rattle.dcsctp_machine.specs.control.Effect.{Effect, link_in}
+use Rattle.dcsctp_machine.specs.transfer.Transfer.{Below}
+use Rattle.dcsctp_delivery_sending.specs.Places.{set_at}
+use Rattle.dcsctp_delivery_sending.specs.Log.{Message, Fits}
+use Rattle.dcsctp_delivery_sending.specs.Queueing.{QueueHolds}
+use Rattle.dcsctp_delivery_sending.specs.Marking.{all_marked}
+use Rattle.dcsctp_delivery_sending.proofs.Places.{decide, set_same, set_other}
+use Rattle.dcsctp_delivery_sending.proofs.MarkingAll.{all_marked_keep, all_marked_fit}
+use Rattle.dcsctp_delivery_directions.specs.Directions.{Run}
+use Rattle.dcsctp_delivery_turns.specs.Actions.{peer_tag, queued_after}
+use Rattle.dcsctp_delivery_turns.specs.Addressed.{AreAddressed}
+use Rattle.dcsctp_delivery_turns.specs.Runs.{sender_at}
+use Rattle.dcsctp_delivery_turns.proofs.Runs.{begins_anew}
+use Rattle.dcsctp_delivery_associations.specs.Ends.{SendingEnd, ReceivingEnd, joined, new_end, Ends, Sender, Receiver, Between}
+use Rattle.dcsctp_delivery_associations.specs.Laws.{AreEnds}
+use Rattle.dcsctp_delivery_associations.specs.Reads.{Read}
+use Rattle.dcsctp_delivery_associations.proofs.Growing.{set_all, input_adds}
+use Rattle.dcsctp_delivery_associations.proofs.Senders.{same_key, no_key, grown_end, grown_ends, grown, marked_queue, renewed_end, renewed_ends, renewed}
+
+-- three tables
+pub set_three : {A : Type 0} {B : Type 0} {C : Type 0} (P : ℕ → A → B → C → Type 0) (k : ℕ) (u : A) (v : B) (w : C) (f : ℕ → A) (g : ℕ → B) (h : ℕ → C) → P k u v w → ((t : ℕ) → t ≢ k → P t (f t) (g t) (h t))
+    → (t : ℕ) → P t (set_at k u f t) (set_at k v g t) (set_at k w h t)
+set_three P k u v w f g h here others t =
+    elim (decide t k) [
+      | inl e ↦
+          subst (λ (n : ℕ). P n (set_at k u f n) (set_at k v g n) (set_at k w h n)) (sym e)
+          (subst (λ (x : _). P k x (set_at k v g k) (set_at k w h k)) (sym (set_same k u f))
+          (subst (λ (x : _). P k u x (set_at k w h k)) (sym (set_same k v g)) (subst (P k u v) (sym (set_same k w h)) here)))
+      | inr ne ↦
+          subst (λ (x : _). P t x (set_at k v g t) (set_at k w h t)) (sym (set_other k t u f ne))
+          (subst (λ (x : _). P t (f t) x (set_at k w h t)) (sym (set_other k t v g ne)) (subst (P t (f t) (g t)) (sym (set_other k t w h ne)) (others t ne)))
+    ]
+
+-- The receiver's ends are the same.
+pub receiver_same : (options : Options) (ends : Ends) (sends : ℕ → SendingEnd) (d : Endpoint) (past : List Effect) (reads : List Read) → Receiver options ends d past reads → Receiver options (record ends { sends = sends }) d past reads
+receiver_same options ends sends d past reads r =
+    record {
+      current = λ transfer is. (let c = r.current transfer is in record { link = c.link; linked = c.linked; had = c.had; tracker = c.tracker; reassembly = c.reassembly });
+      were_read = r.were_read;
+      begun = r.begun;
+    }
+
+module _ (options : Options) (ends : Ends) (e : Endpoint) (queued : List Message) (past : List Effect) (packets : List Emission) (d : Endpoint) (their_past : List Effect) (reads : List Read)
+    (h : Between options ends e queued past packets d their_past reads) (input : Input) (o : Outcome) where
+  more : List Message
+  more = queued_after e input []
+
+  -- what is to be shown of the turn
+  abbrev pub Turned : Type 0
+  Turned = AreEnds options o.after (queued_after e input queued) (after_effects o.effects past) (packets ++ packets_in o.events) d their_past reads
+
+  pub goes_on : link_in o.after.core ≡ link_in e.core → AreAddressed (peer_tag e.core) (packets_in o.events) → (acknowledged : ℕ)
+      → Run options (ends.firsts (peer_tag e.core)) options.max_receiver_window_buffer_size
+      (sender_at (joined (ends.sends (peer_tag e.core)) (ends.gets (peer_tag e.core))) (queued_after e input (ends.sends (peer_tag e.core)).queued) o.after.below acknowledged ((ends.sends (peer_tag e.core)).sent ++ packets_in o.events))
+      → Turned
+  unfolding more
+  goes_on linked addressed acknowledged run =
+      let key : ℕ = peer_tag e.core in
+      let end : SendingEnd = grown_end ends key e.below queued past packets h.sender o.effects more o.after.below acknowledged (packets_in o.events) in
+      let later : Ends = grown_ends ends key e.below queued past packets h.sender o.effects more o.after.below acknowledged (packets_in o.events) in
+      let sender : Sender later key o.after.below (more ++ queued) (after_effects o.effects past) (packets ++ packets_in o.events) =
+      grown ends key e.below queued past packets h.sender o.effects more o.after.below acknowledged (packets_in o.events) addressed in
+      record {
+        ends = later;
+        between = record {
+          runs = set_all (λ tag s. Run options (ends.firsts tag) options.max_receiver_window_buffer_size (joined s (ends.gets tag))) key end ends.sends
+              (subst (λ (l : List Message). Run options (ends.firsts key) options.max_receiver_window_buffer_size (joined (record end { queued = l }) (ends.gets key))) (input_adds e input (ends.sends key).queued) run)
+              (λ tag ne. h.runs tag);
+          small = h.small;
+          sender = subst (λ (l : List Message). Sender later (peer_tag o.after.core) o.after.below l (after_effects o.effects past) (packets ++ packets_in o.events)) (sym (input_adds e input queued))
+              (subst (λ (k : ℕ). Sender later k o.after.below (more ++ queued) (after_effects o.effects past) (packets ++ packets_in o.events)) (sym (same_key o.after.core e.core linked)) sender);
+          receiver = receiver_same options ends later.sends d their_past reads h.receiver;
+        };
+      }
+
+  pub ended : link_in o.after.core ≡ None → AreAddressed (peer_tag e.core) (packets_in o.events) → (last : Below) → o.after.below ≡ record last { transfer = None }
+      → QueueHolds (queued_after e input (ends.sends (peer_tag e.core)).queued) [] last.queue → AllByRecursion Fits (queued_after e input (ends.sends (peer_tag e.core)).queued) → (acknowledged : ℕ)
+      → Run options (ends.firsts (peer_tag e.core)) options.max_receiver_window_buffer_size
+      (sender_at (joined (ends.sends (peer_tag e.core)) (ends.gets (peer_tag e.core))) (queued_after e input (ends.sends (peer_tag e.core)).queued) last acknowledged ((ends.sends (peer_tag e.core)).sent ++ packets_in o.events))
+      → Turned
+  unfolding more
+  ended none addressed last is shown fit acknowledged run =
+      let key : ℕ = peer_tag e.core in
+      let ps : List Emission = packets_in o.events in
+      let end : SendingEnd = grown_end ends key e.below queued past packets h.sender o.effects more last acknowledged ps in
+      let middle : Ends = grown_ends ends key e.below queued past packets h.sender o.effects more last acknowledged ps in
+      let first : Sender middle key last (more ++ queued) (after_effects o.effects past) (packets ++ ps) = grown ends key e.below queued past packets h.sender o.effects more last acknowledged ps addressed in
+      let marked : List Message = marked_queue middle key last (more ++ queued) (after_effects o.effects past) (packets ++ ps) first [] 0 o.after.below 0 [] ends.gets ends.firsts in
+      let later : Ends = renewed_ends middle key last (more ++ queued) (after_effects o.effects past) (packets ++ ps) first [] 0 o.after.below 0 [] ends.gets ends.firsts in
+      let new : SendingEnd = renewed_end middle key last (more ++ queued) (after_effects o.effects past) (packets ++ ps) first [] 0 o.after.below 0 [] ends.gets ends.firsts in
+      let second : Sender later 0 o.after.below (more ++ queued) (after_effects o.effects past) ((packets ++ ps) ++ []) =
+      renewed middle key last (more ++ queued) (after_effects o.effects past) (packets ++ ps) first [] 0 o.after.below 0 [] ends.gets ends.firsts (inl refl) (λ some. absurd (some refl)) (λ tag ne. refl) tt in
+      let adds : queued_after e input (ends.sends key).queued ≡ end.queued = input_adds e input (ends.sends key).queued in
+      let shown' : QueueHolds end.queued [] last.queue = subst (λ (l : List Message). QueueHolds l [] last.queue) adds shown in
+      let fit' : AllByRecursion Fits end.queued = subst (λ (l : List Message). AllByRecursion Fits l) adds fit in
+      let holds' : QueueHolds marked [] o.after.below.queue =
+      subst (λ (b : Below). QueueHolds marked [] b.queue) (sym is)
+      (subst (λ (s : SendingEnd). QueueHolds (all_marked (length s.queued) s.below.queue.streams s.queued) [] last.queue) (sym (set_same key end ends.sends)) (all_marked_keep (length end.queued) end.queued last.queue shown')) in
+      let fits' : AllByRecursion Fits marked =
+      subst (λ (s : SendingEnd). AllByRecursion Fits (all_marked (length s.queued) s.below.queue.streams s.queued)) (sym (set_same key end ends.sends)) (all_marked_fit (length end.queued) last.queue.streams end.queued fit') in
+      let anew : Run options (ends.firsts 0) options.max_receiver_window_buffer_size (joined new (new_end options (ends.firsts 0))) =
+      begins_anew options (ends.firsts 0) options.max_receiver_window_buffer_size marked o.after.below fits' holds' (ap (λ (b : Below). b.transfer) is) in
+      let never : ends.gets 0 ≡ new_end options (ends.firsts 0) = elim (h.receiver.begun 0) [ inl new' ↦ new' | inr had ↦ absurd (had.some refl) ] in
+      record {
+        ends = later;
+        between = record {
+          runs = set_all (λ tag s. Run options (ends.firsts tag) options.max_receiver_window_buffer_size (joined s (ends.gets tag))) 0 new middle.sends
+              (subst (λ (g : ReceivingEnd). Run options (ends.firsts 0) options.max_receiver_window_buffer_size (joined new g)) (sym never) anew)
+              (λ tag ne. set_all (λ tag s. Run options (ends.firsts tag) options.max_receiver_window_buffer_size (joined s (ends.gets tag))) key end ends.sends
+              (subst (λ (l : List Message). Run options (ends.firsts key) options.max_receiver_window_buffer_size (joined (record end { queued = l }) (ends.gets key))) adds run) (λ tag ne. h.runs tag) tag);
+          small = h.small;
+          sender = subst (λ (l : List Message). Sender later (peer_tag o.after.core) o.after.below l (after_effects o.effects past) (packets ++ ps)) (sym (input_adds e input queued))
+              (subst (λ (k : ℕ). Sender later k o.after.below (more ++ queued) (after_effects o.effects past) (packets ++ ps)) (sym (no_key o.after.core none))
+              (subst (λ (l : List Emission). Sender later 0 o.after.below (more ++ queued) (after_effects o.effects past) l) (append-nil (packets ++ ps)) second));
+          receiver = receiver_same options ends later.sends d their_past reads h.receiver;
+        };
+      }

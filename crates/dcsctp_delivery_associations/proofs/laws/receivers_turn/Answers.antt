@@ -1,0 +1,5 @@
+use Rattle.dcsctp_delivery_associations.proofs.ReceiverTurns.{receiver_turns}
+use Rattle.dcsctp_delivery_associations.proofs.laws.receivers_turn.Goals as goal
+
+pub returns : goal.returns
+returns c = λ options ends e queued past packets other their_past reads input o h few same new sent may turn. receiver_turns options ends e queued past packets other their_past reads h few same input o new sent may turn

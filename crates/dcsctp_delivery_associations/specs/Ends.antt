@@ -1,0 +1,146 @@
+-- All associations of two sockets, in the direction from one to the other: for each verification tag of the receiver, what the sender has
+-- sent to it and what the receiver has received under it. A tag serves one association.
+use Rattle.std.specs.Prelude.{◌≡◌, ◌≢◌, ◌<◌, ◌≤◌, ◌^◌, ◌⊎◌, ℕ, None, Some, List, [], ◌∷◌, length}
+use Rattle.dcsctp_machine.specs.declared.options.Options.{Options}
+use Rattle.dcsctp_machine.specs.Endpoint.{Endpoint}
+use Rattle.dcsctp_machine.specs.Packet.{Emission}
+use Rattle.dcsctp_machine.specs.Past.{Has}
+use Rattle.dcsctp_machine.specs.control.Effect.{Link, Effect, holds, link_in}
+use Rattle.dcsctp_machine.specs.transfer.Messages.{MessageContent}
+use Rattle.dcsctp_machine.specs.transfer.Reassembly.{ReassemblyState, new_reassembly}
+use Rattle.dcsctp_machine.specs.transfer.Tracker.{TrackerState, new_tracker}
+use Rattle.dcsctp_machine.specs.transfer.Transfer.{Transfer, Below}
+use Rattle.dcsctp_delivery_sending.specs.Places as places
+use Rattle.dcsctp_delivery_sending.specs.Places.{at_place}
+use Rattle.dcsctp_delivery_sending.specs.Log.{Message}
+use Rattle.dcsctp_delivery_sending.specs.Flushes.{NoData}
+use Rattle.dcsctp_delivery_sending.specs.Weights.{total}
+use Rattle.dcsctp_delivery_sending.specs.Marking.{WaitsNoLonger, FindsMarked, IsMarked}
+use Rattle.dcsctp_delivery_directions.specs.Directions.{Direction, Run}
+use Rattle.dcsctp_delivery_turns.specs.Actions.{NoEnd, peer_tag}
+use Rattle.dcsctp_delivery_associations.specs.Reads.{Read, with_tag}
+
+-- ---- the two ends of a direction
+
+pub record SendingEnd : Type 0 where
+  pub queued : List Message
+  pub below : Below
+  pub acknowledged : ℕ
+  pub sent : List Emission
+
+pub record ReceivingEnd : Type 0 where
+  pub tracker : TrackerState
+  pub reassembly : ReassemblyState
+  pub read : List MessageContent
+
+abbrev pub joined : SendingEnd → ReceivingEnd → Direction
+joined sends gets =
+    record {
+      queued = sends.queued;
+      below = sends.below;
+      acknowledged = sends.acknowledged;
+      sent = sends.sent;
+      tracker = gets.tracker;
+      reassembly = gets.reassembly;
+      read = gets.read;
+    }
+
+-- one at which nothing was received yet
+abbrev pub new_end : Options → ℕ → ReceivingEnd
+new_end options first = record { tracker = new_tracker options first; reassembly = new_reassembly options.max_receiver_window_buffer_size; read = [] }
+
+-- for each tag of the receiver both ends, and the first TSN of the sender
+pub record Ends : Type 0 where
+  pub sends : ℕ → SendingEnd
+  pub gets : ℕ → ReceivingEnd
+  pub firsts : ℕ → ℕ
+
+abbrev pub Runs : Options → Ends → Type 0
+Runs options ends = (tag : ℕ) → Run options (ends.firsts tag) options.max_receiver_window_buffer_size (joined (ends.sends tag) (ends.gets tag))
+
+-- ---- the sender
+
+-- Each message of the one end that no longer waits there is marked as spent in the other list.
+abbrev pub Leaves : SendingEnd → List Message → Type 0
+Leaves sends queued = (place : ℕ) → place < length sends.queued → WaitsNoLonger place sends.below.queue.streams → IsMarked place queued
+
+-- The sender had an association with this tag of the peer, which began with this TSN.
+pub record HadPeer (past : List Effect) (tag first : ℕ) : Type 0 where
+  pub link : Link
+  pub held : Has (holds link) past
+  pub tag_is : link.peer.tag ≡ tag
+  pub first_is : link.my.first_tsn ≡ first
+
+-- Nothing was sent at this end yet.
+pub record Awaits (sends : SendingEnd) : Type 0 where
+  pub queued : sends.queued ≡ []
+  pub sent : sends.sent ≡ []
+  pub acknowledged : sends.acknowledged ≡ 0
+  pub transfer : sends.below.transfer ≡ None
+
+-- Packets with data are of the association of their tag. No data is ever handled under the tag 0.
+abbrev pub IsOfEnds : Ends → Emission → Type 0
+IsOfEnds ends emission = NoData emission.packet.contents ⊎ (NoEnd emission.packet.contents × ((emission.packet.tag ≡ 0) ⊎ places.Has emission (ends.sends emission.packet.tag).sent))
+
+abbrev pub AreOfEnds : Ends → List Emission → Type 0
+AreOfEnds ends [] = Unit {0}
+AreOfEnds ends (emission ∷ emissions) = IsOfEnds ends emission × AreOfEnds ends emissions
+
+-- The sender, whose peer has the tag `key` now, and which has this below: with these messages queued, this past, and these packets sent.
+-- Without an association its end is that of the tag 0.
+pub record Sender (ends : Ends) (key : ℕ) (below : Below) (queued : List Message) (past : List Effect) (packets : List Emission) : Type 0 where
+  pub below_is : (ends.sends key).below ≡ below
+  pub long : length (ends.sends key).queued ≡ length queued
+  pub marks : (tag place : ℕ) (mark : Message) → at_place place (ends.sends tag).queued ≡ Some mark → FindsMarked mark queued place
+  pub short : (tag : ℕ) → length (ends.sends tag).queued ≤ length queued
+  pub light : (tag : ℕ) → total (ends.sends tag).queued ≤ total queued
+  pub last : (tag : ℕ) → tag ≢ key → Leaves (ends.sends tag) (ends.sends key).queued
+  pub pairs : (one other : ℕ) → one ≢ other → Leaves (ends.sends one) (ends.sends other).queued ⊎ Leaves (ends.sends other) (ends.sends one).queued
+  pub current : key ≢ 0 → HadPeer past key (ends.firsts key)
+  pub begun : (tag : ℕ) → tag ≢ 0 → Awaits (ends.sends tag) ⊎ HadPeer past tag (ends.firsts tag)
+  pub all_sent : AreOfEnds ends packets
+
+-- What an association that begins at the sender has to be: its peer's tag is a new one, and at the receiver it is of the matching one.
+pub record NewPeer (past their_past : List Effect) (link : Link) : Type 0 where
+  pub some : link.peer.tag ≢ 0
+  pub small : link.my.first_tsn < 2 ^ 32
+  pub other : (old : Link) → Has (holds old) past → old.peer.tag ≢ link.peer.tag
+  pub match : (theirs : Link) → Has (holds theirs) their_past → theirs.my.tag ≡ link.peer.tag → theirs.peer ≡ link.my
+
+-- ---- the receiver
+
+-- The receiver had an association with this own tag, whose peer began with this TSN.
+pub record HadTag (past : List Effect) (tag first : ℕ) : Type 0 where
+  pub link : Link
+  pub held : Has (holds link) past
+  pub tag_is : link.my.tag ≡ tag
+  pub first_is : link.peer.first_tsn ≡ first
+  pub some : tag ≢ 0
+
+-- Its association is there, and this end has what it has received.
+pub record IsCurrent (ends : Ends) (e : Endpoint) (past : List Effect) (transfer : Transfer) : Type 0 where
+  pub link : Link
+  pub linked : link_in e.core ≡ Some link
+  pub had : HadTag past link.my.tag (ends.firsts link.my.tag)
+  pub tracker : (ends.gets link.my.tag).tracker ≡ transfer.tracker
+  pub reassembly : (ends.gets link.my.tag).reassembly ≡ transfer.reassembly
+
+pub record Receiver (options : Options) (ends : Ends) (e : Endpoint) (past : List Effect) (reads : List Read) : Type 0 where
+  pub current : (transfer : Transfer) → e.below.transfer ≡ Some transfer → IsCurrent ends e past transfer
+  pub were_read : (tag : ℕ) → with_tag tag reads ≡ (ends.gets tag).read
+  pub begun : (tag : ℕ) → (ends.gets tag ≡ new_end options (ends.firsts tag)) ⊎ HadTag past tag (ends.firsts tag)
+
+-- What an association that begins at the receiver has to be.
+pub record NewTag (past their_past : List Effect) (link : Link) : Type 0 where
+  pub some : link.my.tag ≢ 0
+  pub small : link.peer.first_tsn < 2 ^ 32
+  pub other : (old : Link) → Has (holds old) past → old.my.tag ≢ link.my.tag
+  pub match : (theirs : Link) → Has (holds theirs) their_past → theirs.peer.tag ≡ link.my.tag → theirs.my ≡ link.peer
+
+-- ---- both
+
+pub record Between (options : Options) (ends : Ends) (e : Endpoint) (queued : List Message) (past : List Effect) (packets : List Emission) (other : Endpoint) (their_past : List Effect) (reads : List Read) : Type 0 where
+  pub runs : Runs options ends
+  pub small : (tag : ℕ) → ends.firsts tag < 2 ^ 32
+  pub sender : Sender ends (peer_tag e.core) e.below queued past packets
+  pub receiver : Receiver options ends other their_past reads

@@ -1,0 +1,3 @@
+pub mod Reads
+pub mod Ends
+pub mod Laws

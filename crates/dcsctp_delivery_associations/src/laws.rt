@@ -1,0 +1,25 @@
+//! The laws of this crate.
+
+ghost use Rattle.dcsctp_delivery_associations.specs.Laws.{EndsBegin, EndsDeliver, ReceiversTurn, SendersTurn};
+
+/// Two sockets that were just made have nothing between them.
+pub fn ends_begin()
+    ensures { EndsBegin }
+{}
+
+/// A turn of the sender leaves what is known of all associations, if one that begins is of a tag of its own, and the
+/// receiver's of that tag is the matching one.
+pub fn senders_turn()
+    ensures { SendersTurn }
+{}
+
+/// So does a turn of the receiver, where what it handles was sent in the association that handles it.
+pub fn receivers_turn()
+    ensures { ReceiversTurn }
+{}
+
+/// Each message that was read, in any association, was queued, and none was read twice, if fewer than 2^31 bytes and
+/// messages were queued.
+pub fn ends_deliver()
+    ensures { EndsDeliver }
+{}

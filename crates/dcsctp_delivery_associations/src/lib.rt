@@ -1,0 +1,8 @@
+//! All associations of two sockets, in the direction from one to the other. For each verification tag there is what
+//! the sender has sent to it and what the receiver has received under it; a tag serves one association. Turn by turn
+//! of either side, what was read was sent, and nothing was read twice, in any association.
+#![tactic(auto)]
+
+mod laws;
+
+pub use laws::{ends_begin, ends_deliver, receivers_turn, senders_turn};
