@@ -1,1 +1,3 @@
 pub mod Echoes
+pub mod Packets
+pub mod PacketTurns

@@ -1,6 +1,7 @@
 //! The laws of this crate.
 
 ghost use Rattle.dcsctp_delivery_sockets.specs.Echoes.{EchoesGoToMakers};
+ghost use Rattle.dcsctp_delivery_sockets.specs.Packets.{PacketsKeepEnds};
 
 use dcsctp_machine::{
     acts_are_controlled, admitted_packets_may_be_worked, answer_keeps_agreement, offer_reads_back,
@@ -23,3 +24,9 @@ pub fn echoes_go_to_makers()
     built_packet_reads_as_itself();
     answer_keeps_agreement();
 }
+
+/// The chunks of a packet that the other socket sent leave what is known of all associations: whatever data they have
+/// was sent in the association that handles it (RFC 9260, section 8.5).
+pub fn packets_keep_ends()
+    ensures { PacketsKeepEnds }
+{}

@@ -1,7 +1,8 @@
-//! What two sockets send one another, over every list of honest acts: where a COOKIE ECHO goes. Each law is the
+//! What two sockets send one another, over every list of honest acts: where a COOKIE ECHO goes,
+//! and that data is handled in the association in which it was sent. Each law is the
 //! contract of a function that only calls others.
 #![tactic(auto)]
 
 mod laws;
 
-pub use laws::echoes_go_to_makers;
+pub use laws::{echoes_go_to_makers, packets_keep_ends};

@@ -1,0 +1,133 @@
+-- What a receiver handles of a packet was sent in the association that handles it.
+use Rattle.std.proofs.Common.{◌≡◌, ◌≢◌, ℕ, Bool, true, false, cond, Option, None, Some, List, [], ◌∷◌, refl, sym, ◌∙◌, ap, subst, inl, inr}
+use Rattle.std.specs.Prelude.{◌⊎◌}
+use Rattle.dcsctp_wire.specs.Content.{ChunkContent, data_chunk, init_chunk, init_ack_chunk, sack_chunk, heartbeat_chunk, heartbeat_ack_chunk, abort_chunk, shutdown_chunk, shutdown_ack_chunk, error_chunk, cookie_echo_chunk, cookie_ack_chunk, shutdown_complete_chunk, i_data_chunk, re_config_chunk, forward_tsn_chunk, i_forward_tsn_chunk, unknown_chunk}
+use Rattle.dcsctp_machine.specs.declared.word.Word.{Word}
+use Rattle.dcsctp_machine.specs.declared.word.Word.TheVariants.{U64}
+use Rattle.dcsctp_machine.specs.Endpoint.{Endpoint, Core, closed, cookie_wait, cookie_echoed, open_in, own_tag}
+use Rattle.dcsctp_machine.specs.Outcome.{Outcome, quiet, fits}
+use Rattle.dcsctp_machine.specs.Packet.{Introduction, Content, init, init_ack, cookie_echo, cookie_ack, re_config, abort, shutdown, shutdown_ack, shutdown_complete, unknown, heartbeat, heartbeat_ack, unworked, plain, Emission}
+use Rattle.dcsctp_machine.specs.control.Effect.{Link, link_of, link_in}
+use Rattle.dcsctp_machine.specs.turns.FlushOutcomes.{Answer, flush_answered}
+use Rattle.dcsctp_machine.specs.turns.HandshakeOutcomes.{echo_emission, EchoAnswers, awaits_cookie_ack, InitAckAnswers, init_ack_by, InitAckTurn}
+use Rattle.dcsctp_machine.specs.Turn.{Input, Turn}
+use Rattle.dcsctp_delivery_sending.specs.Places as places
+use Rattle.dcsctp_delivery_sending.specs.Flushes.{NoContent, NoData}
+use Rattle.dcsctp_delivery_turns.specs.Actions.{came_by, IsOpening, Becomes, goes_on, ends, begins, IsCall}
+use Rattle.dcsctp_delivery_turns.specs.Sides.{WasIn, WasSent}
+use Rattle.dcsctp_delivery_turns.proofs.Tags.{flush_link}
+use Rattle.dcsctp_delivery_turns.proofs.Turns.{turns_are_actions}
+use Rattle.dcsctp_delivery_associations.specs.Ends.{Ends, IsOfEnds, AreOfEnds}
+use Rattle.dcsctp_delivery_sockets.specs.Echoes.{MayFollow}
+use Rattle.dcsctp_delivery_sockets.specs.Packets.{IsNotInterleaved}
+
+-- ---- what was sent
+
+pub of_ends : (table : Ends) (emission : Emission) (packets : List Emission) → AreOfEnds table packets → places.Has emission packets → IsOfEnds table emission
+of_ends table emission [] are has = absurd has
+of_ends table emission (p ∷ packets) are (inl e) = subst (IsOfEnds table) (sym e) are.0
+of_ends table emission (p ∷ packets) are (inr h) = of_ends table emission packets are.1 h
+
+no_content : (content : Content) (contents : List Content) → NoData contents → places.Has content contents → NoContent content
+no_content content [] none has = absurd has
+no_content content (c ∷ contents) none (inl e) = subst NoContent (sym e) none.0
+no_content content (c ∷ contents) none (inr h) = no_content content contents none.1 h
+
+-- The association has this tag, if there is one.
+abbrev pub TagIs : ℕ → Endpoint → Type 0
+TagIs tag e = (link : Link) → link_in e.core ≡ Some link → link.my.tag ≡ tag
+
+-- The chunk has no data; or it is of this packet, which has the tag of the association.
+abbrev pub MayHandle : Emission → Endpoint → Content → Type 0
+MayHandle emission e content = NoContent content ⊎ (places.Has content emission.packet.contents × TagIs emission.packet.tag e)
+
+module _ (table : Ends) (emission : Emission) (is : IsOfEnds table emission) (e : Endpoint) (link : Link) (linked : link_in e.core ≡ Some link) (some : link.my.tag ≢ 0) where
+  was_in : (chunk : ChunkContent) → (NoContent (plain (unworked chunk)) → ⊥) → MayHandle emission e (plain (unworked chunk)) → WasIn (table.sends link.my.tag).sent chunk
+  was_in chunk bears (inl none) = absurd (bears none)
+  was_in chunk bears (inr (has, tag)) = go is
+    where
+      go : IsOfEnds table emission → WasIn (table.sends link.my.tag).sent chunk
+      go (inl none) = absurd (bears (no_content (plain (unworked chunk)) emission.packet.contents none has))
+      go (inr (free, inl zero)) = absurd (some (tag link linked ∙ zero))
+      go (inr (free, inr was)) = record { emission = emission; was = subst (λ (t : ℕ). places.Has emission (table.sends t).sent) (sym (tag link linked)) was; holds = has }
+
+  pub was_sent : (content : Content) → IsNotInterleaved content → MayHandle emission e content → WasSent (table.sends link.my.tag).sent (Some content)
+  was_sent (plain (unworked (data_chunk chunk))) not may = was_in (data_chunk chunk) (λ none. none) may
+  was_sent (plain (unworked (forward_tsn_chunk tsn streams))) not may = was_in (forward_tsn_chunk tsn streams) (λ none. none) may
+  was_sent (plain (unworked (i_data_chunk chunk))) not may = absurd not
+  was_sent (plain (unworked (i_forward_tsn_chunk tsn streams))) not may = absurd not
+  was_sent (plain (unworked (init_chunk c))) not may = tt
+  was_sent (plain (unworked (init_ack_chunk c))) not may = tt
+  was_sent (plain (unworked (sack_chunk c))) not may = tt
+  was_sent (plain (unworked (heartbeat_chunk c))) not may = tt
+  was_sent (plain (unworked (heartbeat_ack_chunk c))) not may = tt
+  was_sent (plain (unworked (abort_chunk t c))) not may = tt
+  was_sent (plain (unworked (shutdown_chunk c))) not may = tt
+  was_sent (plain (unworked shutdown_ack_chunk)) not may = tt
+  was_sent (plain (unworked (error_chunk c))) not may = tt
+  was_sent (plain (unworked (cookie_echo_chunk c))) not may = tt
+  was_sent (plain (unworked cookie_ack_chunk)) not may = tt
+  was_sent (plain (unworked (shutdown_complete_chunk c))) not may = tt
+  was_sent (plain (unworked (re_config_chunk c))) not may = tt
+  was_sent (plain (unworked (unknown_chunk t f v))) not may = tt
+  was_sent (plain (unknown t f v)) not may = tt
+  was_sent (plain (heartbeat c)) not may = tt
+  was_sent (plain (heartbeat_ack c)) not may = tt
+  was_sent (init c) not may = tt
+  was_sent (init_ack c k) not may = tt
+  was_sent (cookie_echo c) not may = tt
+  was_sent cookie_ack not may = tt
+  was_sent (re_config c) not may = tt
+  was_sent (abort t c) not may = tt
+  was_sent (shutdown c) not may = tt
+  was_sent shutdown_ack not may = tt
+  was_sent (shutdown_complete t) not may = tt
+
+-- ---- the tag of the association, chunk by chunk
+
+by_becomes : {to : ℕ} {adds : _} {taken : _} (tag : ℕ) (e : Endpoint) (came : Option Content) (o : Outcome) → (IsOpening came → ⊥) → TagIs tag e → Becomes came to adds taken e o → TagIs tag o.after
+by_becomes tag e came o not is (goes_on linked makes) = λ link there. is link (sym linked ∙ there)
+by_becomes tag e came o not is (ends none unread last makes below) = λ link there. (let clash : ◌≡◌ {A = Option Link} None (Some link) = sym none ∙ there in absurd (cc))
+by_becomes tag e came o not is (begins begun opening linked alike unread makes) = absurd (not opening)
+
+-- A chunk that begins no association leaves its tag.
+pub tag_stays : (tag : ℕ) (e : Endpoint) (input : Input) (o : Outcome) → (IsOpening (came_by input) → ⊥) → IsCall input → TagIs tag e → Turn e input o → TagIs tag o.after
+tag_stays tag e input o not may is turn = by_becomes tag e (came_by input) o not is (turns_are_actions e input o may turn)
+
+pub not_opening : (content : Content) → MayFollow content → IsOpening (Some content) → ⊥
+not_opening (init introduction) may opening = opening
+not_opening (init_ack introduction cookie) may opening = may
+not_opening (cookie_echo bytes) may opening = may
+not_opening cookie_ack may opening = opening
+not_opening (re_config parameters) may opening = opening
+not_opening (abort reflected causes) may opening = opening
+not_opening (shutdown tsn) may opening = opening
+not_opening shutdown_ack may opening = opening
+not_opening (shutdown_complete reflected) may opening = opening
+not_opening (plain chunk) may opening = opening
+
+pub own_is : (core : Core) (tag : ℕ) → own_tag core ≡ tag → (link : Link) → link_in core ≡ Some link → link.my.tag ≡ tag
+own_is closed tag own link is = absurd (cc)
+own_is (cookie_wait my) tag own link is = absurd (cc)
+own_is (cookie_echoed my held cookie) tag own link is = (let same : link_of my held ≡ link = cc in ap (λ (l : Link). l.my.tag) (sym same) ∙ own)
+own_is (open_in phase my held) tag own link is = (let same : link_of my held ≡ link = cc in ap (λ (l : Link). l.my.tag) (sym same) ∙ own)
+
+-- So does an INIT ACK: the association that it begins has the tag that the handshake had.
+echoed_link : (b : Bool) (e : Endpoint) (words : List Word) (tag : ℕ) (cookie : List ℕ) (answers : List Answer) → EchoAnswers b e tag cookie answers
+    → link_in (cond b (flush_answered answers e words [] true tag (cookie_echo cookie ∷ [])) (quiet e words [])).after.core ≡ link_in e.core
+echoed_link true e words tag cookie answers allowed = flush_link e (echo_emission tag cookie) answers allowed
+echoed_link false e words tag cookie answers allowed = refl
+
+init_ack_link : (tag : ℕ) (e : Endpoint) (theirs : Introduction) (cookie : Option (List ℕ)) (core : Core) (word : ℕ) (answers : List Answer) → e.core ≡ core → own_tag core ≡ tag
+    → InitAckAnswers e theirs cookie core word answers → (link : Link) → link_in (init_ack_by (flush_answered answers) e theirs cookie core word).after.core ≡ Some link → link.my.tag ≡ tag
+init_ack_link tag e theirs cookie closed word answers at own allowed link is = own_is e.core tag (ap own_tag at ∙ own) link is
+init_ack_link tag e theirs cookie (cookie_echoed my held echoed) word answers at own allowed link is = own_is e.core tag (ap own_tag at ∙ own) link is
+init_ack_link tag e theirs cookie (open_in phase my held) word answers at own allowed link is = own_is e.core tag (ap own_tag at ∙ own) link is
+init_ack_link tag e theirs None (cookie_wait my) word answers at own allowed link is = absurd (cc)
+init_ack_link tag e theirs (Some cookie) (cookie_wait my) word answers at own allowed link is =
+    let awaiting : Endpoint = awaits_cookie_ack e my theirs cookie word in
+    own_is awaiting.core tag own link (sym (echoed_link (fits awaiting (echo_emission theirs.pair.tag cookie)) awaiting (U64 word ∷ []) theirs.pair.tag cookie answers allowed) ∙ is)
+
+pub init_ack_tag : (tag : ℕ) (e : Endpoint) (theirs : Introduction) (cookie : Option (List ℕ)) (o : Outcome) → own_tag e.core ≡ tag → InitAckTurn e theirs cookie o → TagIs tag o.after
+init_ack_tag tag e theirs cookie o own (word, answers, allowed, is) =
+    λ link there. init_ack_link tag e theirs cookie e.core word answers refl own allowed link (sym (ap (λ (x : Outcome). link_in x.after.core) is) ∙ there)
