@@ -5,5 +5,6 @@ pub mod SenderBegins
 pub mod SenderTurns
 pub mod WhatIsRead
 pub mod ReceiverStays
+pub mod ReceiverBegins
 pub mod ReceiverTurns
 pub mod Delivers

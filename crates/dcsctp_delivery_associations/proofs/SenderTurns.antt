@@ -1,5 +1,5 @@
 -- Each turn of the sender.
-use Rattle.std.proofs.Common.{◌≡◌, ◌<◌, ◌^◌, List, [], ◌∷◌, ◌++◌, length, refl, sym, ◌∙◌, ap, arith, subst}
+use Rattle.std.proofs.Common.{Some, ◌≡◌, ◌<◌, ◌^◌, List, [], ◌∷◌, ◌++◌, length, refl, sym, ◌∙◌, ap, arith, subst}
 use Rattle.std.proofs.lemmas.List.{length-append}
 use Rattle.dcsctp_machine.specs.declared.options.Options.{Options}
 use Rattle.dcsctp_machine.specs.Endpoint.{Endpoint}
@@ -8,9 +8,9 @@ use Rattle.dcsctp_machine.specs.Outcome.{Outcome}
 use Rattle.dcsctp_machine.specs.Packet.{Emission}
 use Rattle.dcsctp_machine.specs.Turn.{Input, Turn}
 use Rattle.dcsctp_machine.specs.World.{after_effects}
-use Rattle.dcsctp_machine.specs.control.Effect.{Effect, link_of}
+use Rattle.dcsctp_machine.specs.control.Effect.{link_in, Effect, link_of}
 use Rattle.dcsctp_delivery_sending.specs.Log.{Message}
-use Rattle.dcsctp_delivery_turns.specs.Actions.{peer_tag, queued_after, Begun, IsCall}
+use Rattle.dcsctp_delivery_turns.specs.Actions.{IsOpening, came_by, peer_tag, queued_after, Begun, IsCall}
 use Rattle.dcsctp_delivery_turns.specs.Runs.{SenderTurns, run_goes_on, run_ends, run_begins}
 use Rattle.dcsctp_delivery_turns.proofs.Runs.{senders_go_on}
 use Rattle.dcsctp_delivery_associations.specs.Ends.{joined, Ends, NewPeer, Between}
@@ -31,16 +31,16 @@ queues_none more queued same = no_message more (let long = length-append more qu
 -- ---- each turn
 
 module _ (options : Options) (ends : Ends) (e : Endpoint) (queued : List Message) (past : List Effect) (packets : List Emission) (d : Endpoint) (their_past : List Effect) (reads : List Read)
-    (h : Between options ends e queued past packets d their_past reads) (input : Input) (o : Outcome) (new : (begun : Begun e o) → NewPeer past their_past (link_of begun.my begun.held)) where
+    (h : Between options ends e queued past packets d their_past reads) (input : Input) (o : Outcome) (new : (begun : Begun e o) → IsOpening (came_by input) → link_in o.after.core ≡ Some (link_of begun.my begun.held) → NewPeer past their_past (link_of begun.my begun.held)) where
   by_turn : SenderTurns options (ends.firsts (peer_tag e.core)) options.max_receiver_window_buffer_size (joined (ends.sends (peer_tag e.core)) (ends.gets (peer_tag e.core))) e input o
       → AreEnds options o.after (queued_after e input queued) (after_effects o.effects past) (packets ++ packets_in o.events) d their_past reads
   by_turn (run_goes_on linked addressed acknowledged run) = goes_on options ends e queued past packets d their_past reads h input o linked addressed acknowledged run
   by_turn (run_ends none addressed last acknowledged run is shown fit) = ended options ends e queued past packets d their_past reads h input o none addressed last is shown fit acknowledged run
-  by_turn (run_begins begun linked addressed same shown fit later) =
+  by_turn (run_begins begun opening linked addressed same shown fit later) =
       let none : queued_after e input [] ≡ [] = queues_none (queued_after e input []) (ends.sends (peer_tag e.core)).queued (sym (input_adds e input (ends.sends (peer_tag e.core)).queued) ∙ same) in
       let stays : queued_after e input queued ≡ queued = input_adds e input queued ∙ ap (λ (l : List Message). l ++ queued) none in
       subst (λ (l : List Message). AreEnds options o.after l (after_effects o.effects past) (packets ++ packets_in o.events) d their_past reads) (sym stays)
-      (begins options ends e queued past packets d their_past reads h input o begun (new begun) linked addressed shown fit later)
+      (begins options ends e queued past packets d their_past reads h input o begun (new begun opening linked) linked addressed shown fit later)
 
   pub sender_turns : length (queued_after e input queued) < 2 ^ 64 → IsCall input → Turn e input o → AreEnds options o.after (queued_after e input queued) (after_effects o.effects past) (packets ++ packets_in o.events) d their_past reads
   sender_turns few may turn =

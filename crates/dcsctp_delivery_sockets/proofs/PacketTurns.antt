@@ -18,7 +18,7 @@ use Rattle.dcsctp_machine_agreement.proofs.Growth.{after_effects-append}
 use Rattle.dcsctp_delivery_sending.specs.Log.{Message}
 use Rattle.dcsctp_delivery_sending.specs.Places as places
 use Rattle.dcsctp_delivery_sending.specs.Flushes.{NoData}
-use Rattle.dcsctp_delivery_turns.specs.Actions.{came_by, Begun, IsCall}
+use Rattle.dcsctp_delivery_turns.specs.Actions.{IsOpening, came_by, Begun, IsCall}
 use Rattle.dcsctp_delivery_turns.specs.Sides.{WasSent}
 use Rattle.dcsctp_delivery_turns.proofs.Addressed.{addressed_tags_are_own}
 use Rattle.dcsctp_delivery_turns.proofs.Tags.{echoes_own}
@@ -83,15 +83,15 @@ module _ (options : Options) (e : Endpoint) (queued : List Message) (past : List
       subst (λ (l : List Effect). Have (after_all t.outcome.after turns) l (reads_through t.outcome.after turns (reads_after d t.input reads))) (sym (after_effects-append t.outcome.effects (effects_of turns) their_past)) rest
 
   one_turn : (d : Endpoint) (their_past : List Effect) (reads : List Read) (input : Input) (t : Turned) → (h : Have d their_past reads) → IsTurn d input t → SameOptions options d.options
-      → ((begun : Begun d t.outcome) → NewTag their_past past (link_of begun.my begun.held))
+      → ((begun : Begun d t.outcome) → IsOpening (came_by t.input) → link_in t.outcome.after.core ≡ Some (link_of begun.my begun.held) → NewTag their_past past (link_of begun.my begun.held))
       → ((transfer : Transfer) (link : Link) → d.below.transfer ≡ Some transfer → link_in d.core ≡ Some link → WasSent (h.ends.sends link.my.tag).sent (came_by input)) → IsCall input
       → Have t.outcome.after (after_effects t.outcome.effects their_past) (reads_after d t.input reads)
   one_turn d their_past reads input t h turn same new sent may =
       subst (λ (i : Input). Have t.outcome.after (after_effects t.outcome.effects their_past) (reads_after d i reads)) (sym turn.is)
-      (receiver_turns options h.ends e queued past packets d their_past reads h.between few same input t.outcome new sent may turn.comes)
+      (receiver_turns options h.ends e queued past packets d their_past reads h.between few same input t.outcome (λ begun opening linked. new begun (subst (λ (i : Input). IsOpening (came_by i)) (sym turn.is) opening) linked) sent may turn.comes)
 
   chunk_turn : (d : Endpoint) (their_past : List Effect) (reads : List Read) (tag : ℕ) (content : Content) (t : Turned) → Have d their_past reads → IsTurn d (chunk_input tag content) t → SameOptions options d.options
-      → ((begun : Begun d t.outcome) → NewTag their_past past (link_of begun.my begun.held)) → IsNotInterleaved content → MayHandle emission d content
+      → ((begun : Begun d t.outcome) → IsOpening (came_by t.input) → link_in t.outcome.after.core ≡ Some (link_of begun.my begun.held) → NewTag their_past past (link_of begun.my begun.held)) → IsNotInterleaved content → MayHandle emission d content
       → Have t.outcome.after (after_effects t.outcome.effects their_past) (reads_after d t.input reads)
   chunk_turn d their_past reads tag content t h turn same new not may =
       one_turn d their_past reads (chunk_input tag content) t h turn same new

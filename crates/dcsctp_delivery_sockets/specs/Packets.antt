@@ -1,5 +1,5 @@
 -- A packet that a sender sent, handled by the receiver: what is handled in an association was sent in it. So far without interleaving.
-use Rattle.std.specs.Prelude.{◌<◌, ◌^◌, List, [], ◌∷◌, length}
+use Rattle.std.specs.Prelude.{◌<◌, ◌^◌, List, [], ◌∷◌, length, ◌≡◌, Some}
 use Rattle.std.specs.List.{AllByRecursion}
 use Rattle.dcsctp_wire.specs.Content.{i_data_chunk, i_forward_tsn_chunk}
 use Rattle.dcsctp_machine.specs.declared.options.Options.{Options}
@@ -9,10 +9,10 @@ use Rattle.dcsctp_machine.specs.CallTurns.{Turned, AdmittedTurns, after_all, eff
 use Rattle.dcsctp_machine.specs.Endpoint.{Endpoint}
 use Rattle.dcsctp_machine.specs.Packet.{Content, unworked, plain, Emission}
 use Rattle.dcsctp_machine.specs.World.{after_effects}
-use Rattle.dcsctp_machine.specs.control.Effect.{Effect, link_of}
+use Rattle.dcsctp_machine.specs.control.Effect.{Effect, link_of, link_in}
 use Rattle.dcsctp_delivery_sending.specs.Log.{Message}
 use Rattle.dcsctp_delivery_sending.specs.Places as places
-use Rattle.dcsctp_delivery_turns.specs.Actions.{Begun}
+use Rattle.dcsctp_delivery_turns.specs.Actions.{came_by, IsOpening, Begun}
 use Rattle.dcsctp_delivery_associations.specs.Ends.{Ends, NewTag, Between}
 use Rattle.dcsctp_delivery_associations.specs.Laws.{AreEnds}
 use Rattle.dcsctp_delivery_associations.specs.Reads.{Read, reads_after}
@@ -33,7 +33,7 @@ IsNotInterleaved content = Unit {0}
 abbrev pub AreNewTags : Options → List Effect → List Effect → Endpoint → List Turned → Type 0
 AreNewTags options their_past past e [] = Unit {0}
 AreNewTags options their_past past e (turn ∷ turns) =
-    SameOptions options e.options × ((begun : Begun e turn.outcome) → NewTag their_past past (link_of begun.my begun.held))
+    SameOptions options e.options × ((begun : Begun e turn.outcome) → IsOpening (came_by turn.input) → link_in turn.outcome.after.core ≡ Some (link_of begun.my begun.held) → NewTag their_past past (link_of begun.my begun.held))
     × AreNewTags options (after_effects turn.outcome.effects their_past) past turn.outcome.after turns
 
 -- The chunks of a packet that the sender sent leave what is known of all associations.

@@ -131,7 +131,7 @@ module _ (options : Options) (first size : ℕ) (direction : Direction) (e : End
       run_ends none (addressed (peer_tag e.core) _ _ refl (makes direction.queued [] [])) last after.0 after.1 is left.0 left.1
   sender_becomes (begins begun opening linked alike unread makes) =
       let both = direction_queues options first size direction run small (let more = input_more e input direction.queued in omega (arith, few, more)) in
-      run_begins begun linked (addressed begun.held.peer.tag _ _ refl (makes direction.queued [] [])) (alike direction.queued) earlier both.1 later
+      run_begins begun opening linked (addressed begun.held.peer.tag _ _ refl (makes direction.queued [] [])) (alike direction.queued) earlier both.1 later
     where
       later : (other : Options) (room : ℕ) (awaiting : Direction) (queued : List Message) → QueueHolds queued [] e.below.queue → AllByRecursion Fits queued → Run other begun.my.first_tsn room awaiting → IsAwaited awaiting
           → (acknowledged : ℕ) × Run other begun.my.first_tsn room (sender_at awaiting queued o.after.below acknowledged (packets_in o.events))

@@ -47,7 +47,7 @@ pub data SenderTurns (options : Options) (first size : ℕ) (direction : Directi
       → Run options first size (sender_at direction (queued_after e input direction.queued) last acknowledged (direction.sent ++ packets_in o.events))
       → o.after.below ≡ record last { transfer = None } → QueueHolds (queued_after e input direction.queued) [] last.queue → AllByRecursion Fits (queued_after e input direction.queued)
       → SenderTurns options first size direction e input o
-  run_begins : (begun : Begun e o) → link_in o.after.core ≡ Some (link_of begun.my begun.held) → AreAddressed begun.held.peer.tag (packets_in o.events) → queued_after e input direction.queued ≡ direction.queued
+  run_begins : (begun : Begun e o) → IsOpening (came_by input) → link_in o.after.core ≡ Some (link_of begun.my begun.held) → AreAddressed begun.held.peer.tag (packets_in o.events) → queued_after e input direction.queued ≡ direction.queued
       → QueueHolds direction.queued [] e.below.queue → AllByRecursion Fits direction.queued
       → ((other : Options) (room : ℕ) (awaiting : Direction) (queued : List Message) → QueueHolds queued [] e.below.queue → AllByRecursion Fits queued → Run other begun.my.first_tsn room awaiting → IsAwaited awaiting
       → (acknowledged : ℕ) × Run other begun.my.first_tsn room (sender_at awaiting queued o.after.below acknowledged (packets_in o.events)))

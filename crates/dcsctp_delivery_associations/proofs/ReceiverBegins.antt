@@ -1,0 +1,171 @@
+-- A turn of the receiver in which an association begins.
+use Rattle.std.proofs.Common.{◌≡◌, ◌≢◌, ℕ, ◌<◌, ◌^◌, Option, None, Some, List, [], ◌∷◌, length, refl, sym, ◌∙◌, ap, arith, subst, inl, inr}
+use Rattle.std.specs.Prelude.{◌⊎◌}
+use Rattle.dcsctp_machine.specs.declared.association.Pair.{Pair}
+use Rattle.dcsctp_machine.specs.declared.options.Options.{Options}
+use Rattle.dcsctp_machine.specs.Settings.{SameOptions}
+use Rattle.dcsctp_machine.specs.Endpoint.{Endpoint, own_tag}
+use Rattle.dcsctp_machine.specs.Outcome.{Outcome}
+use Rattle.dcsctp_machine.specs.Packet.{Emission}
+use Rattle.dcsctp_machine.specs.Past.{Has}
+use Rattle.dcsctp_machine.specs.Turn.{Input, Turn}
+use Rattle.dcsctp_machine.specs.World.{after_effects}
+use Rattle.dcsctp_machine.specs.control.Effect.{Link, Effect, holds, link_of, link_in}
+use Rattle.dcsctp_machine.specs.transfer.Messages.{MessageContent}
+use Rattle.dcsctp_machine.specs.transfer.Reassembly.{ReassemblyState, new_reassembly}
+use Rattle.dcsctp_machine.specs.transfer.Tracker.{TrackerState, new_tracker}
+use Rattle.dcsctp_machine.specs.transfer.Transfer.{Transfer, Below}
+use Rattle.dcsctp_machine_agreement.proofs.Growth.{after_within}
+use Rattle.dcsctp_delivery_sending.specs.Places.{set_at}
+use Rattle.dcsctp_delivery_sending.specs.Log.{Message}
+use Rattle.dcsctp_delivery_sending.proofs.Places.{decide, set_same, set_other}
+use Rattle.dcsctp_delivery_directions.specs.Directions as steps
+use Rattle.dcsctp_delivery_directions.specs.Directions.{Direction, Run}
+use Rattle.dcsctp_delivery_directions.proofs.Directions.{direction_queues}
+use Rattle.dcsctp_delivery_turns.specs.Actions.{IsOpening, came_by, peer_tag, read_after, Begun, IsCall}
+use Rattle.dcsctp_delivery_turns.specs.Sides.{WasSent, receiving}
+use Rattle.dcsctp_delivery_turns.specs.Runs.{Opens, ReceiverTurns, receiver_goes_on, receiver_ends, receiver_begins, IdleTurns, idle_stays, idle_begins}
+use Rattle.dcsctp_delivery_turns.proofs.Runs.{receivers_go_on, receivers_begin}
+use Rattle.dcsctp_delivery_associations.specs.Ends.{ReceivingEnd, joined, new_end, Ends, HadPeer, Awaits, Sender, NewTag, HadTag, IsCurrent, Receiver, Between}
+use Rattle.dcsctp_delivery_associations.specs.Reads.{Read, reads_after, with_tag}
+use Rattle.dcsctp_delivery_associations.proofs.WhatIsRead.{tag_of, reads_still, own_read, other_read}
+use Rattle.dcsctp_delivery_associations.proofs.Growing.{set_all}
+use Rattle.dcsctp_delivery_associations.proofs.SenderStays.{set_three}
+use Rattle.dcsctp_delivery_associations.specs.Laws.{AreEnds}
+use Rattle.dcsctp_delivery_associations.proofs.ReceiverStays.{tag_later, begun_later, sender_same, sender_first}
+
+-- What an association has received that just begins.
+begun_end : (options other : Options) (first : ℕ) → SameOptions options other
+    → ◌≡◌ {A = ReceivingEnd} (record { tracker = new_tracker other first; reassembly = new_reassembly other.max_receiver_window_buffer_size; read = [] }) (new_end options first)
+begun_end options other first same =
+    ap (λ (o : Options). record { tracker = new_tracker o first; reassembly = new_reassembly o.max_receiver_window_buffer_size; read = [] }) same
+
+-- At the sender there is the matching association, or none yet.
+data Known (ends : Ends) (key : ℕ) (new : Link) : Type 0 where
+  is_crossed : ends.firsts new.my.tag ≡ new.peer.first_tsn → Known ends key new
+  is_awaited : Awaits (ends.sends new.my.tag) → new.my.tag ≢ key → Known ends key new
+
+known : (ends : Ends) (key : ℕ) (below : Below) (queued : List Message) (past their_past : List Effect) (packets : List Emission) (new : Link) → Sender ends key below queued past packets → NewTag their_past past new → Known ends key new
+known ends key below queued past their_past packets new s is =
+    elim (decide new.my.tag key) [
+      | inl e ↦ is_crossed (of_had (subst (λ (t : ℕ). HadPeer past t (ends.firsts t)) (sym e) (s.current (λ zero. is.some (e ∙ zero)))))
+      | inr ne ↦ elim (s.begun new.my.tag is.some) [
+        | inl waits ↦ is_awaited waits ne
+        | inr had ↦ is_crossed (of_had had)
+      ]
+    ]
+  where
+    of_had : HadPeer past new.my.tag (ends.firsts new.my.tag) → ends.firsts new.my.tag ≡ new.peer.first_tsn
+    of_had had = sym had.first_is ∙ ap (λ (p : Pair). p.first_tsn) (is.match had.link had.held had.tag_is)
+
+module _ (options : Options) (ends : Ends) (e : Endpoint) (queued : List Message) (past : List Effect) (packets : List Emission) (d : Endpoint) (their_past : List Effect) (reads : List Read)
+    (h : Between options ends e queued past packets d their_past reads) (few : length queued < 2 ^ 64) (same : SameOptions options d.options) (input : Input) (o : Outcome) where
+  module _ (opens : Opens d input o) (is : NewTag their_past past (link_of opens.begun.my opens.begun.held)) where
+    abbrev tag : ℕ
+    tag = opens.begun.my.tag
+
+    abbrev first : ℕ
+    first = opens.begun.held.peer.first_tsn
+
+    abbrev got : ReceivingEnd
+    got = record { tracker = opens.left.tracker; reassembly = opens.left.reassembly; read = [] }
+
+    had_new : HadTag (after_effects o.effects their_past) tag first
+    had_new =
+        record {
+          link = link_of opens.begun.my opens.begun.held;
+          held = subst (λ (l : List Effect). Has (holds (link_of opens.begun.my opens.begun.held)) (after_effects l their_past)) (sym opens.begun.noted)
+              (after_within opens.begun.later (holds (link_of opens.begun.my opens.begun.held) ∷ their_past) (holds (link_of opens.begun.my opens.begun.held)) (inl refl));
+          tag_is = refl;
+          first_is = refl;
+          some = is.some;
+        }
+
+    -- The run goes on to the end of the turn.
+    opened : Run options first options.max_receiver_window_buffer_size (joined (ends.sends tag) (new_end options first)) → Run options first options.max_receiver_window_buffer_size (joined (ends.sends tag) got)
+    opened run =
+        opens.runs options first options.max_receiver_window_buffer_size (joined (ends.sends tag) (new_end options first))
+        (subst (λ (g : ReceivingEnd). Run options first options.max_receiver_window_buffer_size (joined (ends.sends tag) g)) (sym (begun_end options d.options first same)) run)
+
+    later_receiver : (firsts : ℕ → ℕ) → firsts tag ≡ first → ((t : ℕ) → t ≢ tag → firsts t ≡ ends.firsts t) → ends.gets tag ≡ new_end options (ends.firsts tag)
+        → Receiver options (record { sends = ends.sends; gets = set_at tag got ends.gets; firsts = firsts }) o.after (after_effects o.effects their_past) reads
+    later_receiver firsts here others fresh =
+        record {
+          current = λ transfer there. (
+              let one : opens.left ≡ transfer = same_transfer o.after.below.transfer opens.left transfer opens.is there in
+              record {
+                link = link_of opens.begun.my opens.begun.held;
+                linked = opens.linked;
+                had = subst (λ (n : ℕ). HadTag (after_effects o.effects their_past) tag n) (sym here) had_new;
+                tracker = ap (λ (g : ReceivingEnd). g.tracker) (set_same tag got ends.gets) ∙ ap (λ (t : Transfer). t.tracker) one;
+                reassembly = ap (λ (g : ReceivingEnd). g.reassembly) (set_same tag got ends.gets) ∙ ap (λ (t : Transfer). t.reassembly) one;
+              }
+              );
+          were_read = set_all (λ t g. with_tag t reads ≡ g.read) tag got ends.gets (h.receiver.were_read tag ∙ ap (λ (g : ReceivingEnd). g.read) fresh) (λ t ne. h.receiver.were_read t);
+          begun = λ t. elim (decide t tag) [
+            | inl e' ↦ inr (subst (λ (n : ℕ). HadTag (after_effects o.effects their_past) n (firsts n)) (sym e') (subst (λ (n : ℕ). HadTag (after_effects o.effects their_past) tag n) (sym here) had_new))
+            | inr ne ↦ other t ne (h.receiver.begun t)
+          ];
+        }
+      where
+        same_transfer : (found : Option Transfer) (one two : Transfer) → found ≡ Some one → found ≡ Some two → one ≡ two
+        same_transfer found one two a b = cc
+
+        other : (t : ℕ) → t ≢ tag → (ends.gets t ≡ new_end options (ends.firsts t)) ⊎ HadTag their_past t (ends.firsts t)
+            → (set_at tag got ends.gets t ≡ new_end options (firsts t)) ⊎ HadTag (after_effects o.effects their_past) t (firsts t)
+        other t ne (inl new) = inl (set_other tag t got ends.gets ne ∙ new ∙ ap (new_end options) (sym (others t ne)))
+        other t ne (inr had) = inr (subst (λ (n : ℕ). HadTag (after_effects o.effects their_past) t n) (sym (others t ne)) (tag_later o.effects their_past t (ends.firsts t) had))
+
+    crossed_opens : ends.firsts tag ≡ first → ends.gets tag ≡ new_end options (ends.firsts tag) → AreEnds options e queued past packets o.after (after_effects o.effects their_past) reads
+    crossed_opens here fresh =
+        let end : ends.gets tag ≡ new_end options first = fresh ∙ ap (new_end options) here in
+        let start : Run options first options.max_receiver_window_buffer_size (joined (ends.sends tag) (new_end options first)) =
+        subst (λ (n : ℕ). Run options n options.max_receiver_window_buffer_size (joined (ends.sends tag) (new_end options first))) here
+        (subst (λ (g : ReceivingEnd). Run options (ends.firsts tag) options.max_receiver_window_buffer_size (joined (ends.sends tag) g)) end (h.runs tag)) in
+        record {
+          ends = record { sends = ends.sends; gets = set_at tag got ends.gets; firsts = ends.firsts };
+          between = record {
+            runs = set_all (λ t g. Run options (ends.firsts t) options.max_receiver_window_buffer_size (joined (ends.sends t) g)) tag got ends.gets
+                (subst (λ (n : ℕ). Run options n options.max_receiver_window_buffer_size (joined (ends.sends tag) got)) (sym here) (opened start)) (λ t ne. h.runs t);
+            small = h.small;
+            sender = sender_same ends (set_at tag got ends.gets) (peer_tag e.core) e.below queued past packets h.sender;
+            receiver = later_receiver ends.firsts here (λ t ne. refl) fresh;
+          };
+        }
+
+    awaited_opens : Awaits (ends.sends tag) → tag ≢ peer_tag e.core → ends.gets tag ≡ new_end options (ends.firsts tag) → AreEnds options e queued past packets o.after (after_effects o.effects their_past) reads
+    awaited_opens waits apart fresh =
+        let queues = direction_queues options (ends.firsts tag) options.max_receiver_window_buffer_size (joined (ends.sends tag) (ends.gets tag)) (h.runs tag) (h.small tag)
+        (let short = h.sender.short tag in omega (arith, few, short)) in
+        let start : Run options first options.max_receiver_window_buffer_size (joined (ends.sends tag) (new_end options first)) =
+        steps.begins (joined (ends.sends tag) (new_end options first))
+        (record {
+          fit = queues.1;
+          queues = queues.0;
+          flight = subst (steps.NoneInFlight first) (sym waits.transfer) tt;
+          acknowledged = waits.acknowledged;
+          sent = waits.sent;
+          tracker = refl;
+          reassembly = refl;
+          read = refl;
+        }) in
+        record {
+          ends = record { sends = ends.sends; gets = set_at tag got ends.gets; firsts = set_at tag first ends.firsts };
+          between = record {
+            runs = set_three (λ t f s g. Run options f options.max_receiver_window_buffer_size (joined (ends.sends t) g)) tag first (ends.sends tag) got ends.firsts ends.sends ends.gets (opened start) (λ t ne. h.runs t);
+            small = set_all (λ t f. f < 2 ^ 32) tag first ends.firsts is.small (λ t ne. h.small t);
+            sender = sender_first ends (set_at tag got ends.gets) tag first (peer_tag e.core) e.below queued past packets h.sender apart waits;
+            receiver = later_receiver (set_at tag first ends.firsts) (set_same tag first ends.firsts) (λ t ne. set_other tag t first ends.firsts ne) fresh;
+          };
+        }
+
+    pub opens_goes : AreEnds options e queued past packets o.after (after_effects o.effects their_past) reads
+    opens_goes =
+        elim (h.receiver.begun tag) [
+          | inl fresh ↦ go fresh (known ends (peer_tag e.core) e.below queued past their_past packets (link_of opens.begun.my opens.begun.held) h.sender is)
+          | inr had ↦ absurd (is.other had.link had.held had.tag_is)
+        ]
+      where
+        go : ends.gets tag ≡ new_end options (ends.firsts tag) → Known ends (peer_tag e.core) (link_of opens.begun.my opens.begun.held) → AreEnds options e queued past packets o.after (after_effects o.effects their_past) reads
+        go fresh (is_crossed here) = crossed_opens here fresh
+        go fresh (is_awaited waits apart) = awaited_opens waits apart fresh
