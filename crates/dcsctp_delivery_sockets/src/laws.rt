@@ -1,5 +1,6 @@
 //! The laws of this crate.
 
+ghost use Rattle.dcsctp_delivery_sockets.specs.Acts.{ReceiversCall, ReceiversHandle, SendersAct};
 ghost use Rattle.dcsctp_delivery_sockets.specs.Echoes.{EchoesGoToMakers};
 ghost use Rattle.dcsctp_delivery_sockets.specs.Packets.{PacketsKeepEnds};
 
@@ -29,4 +30,12 @@ pub fn echoes_go_to_makers()
 /// was sent in the association that handles it (RFC 9260, section 8.5).
 pub fn packets_keep_ends()
     ensures { PacketsKeepEnds }
+{}
+
+/// So does each act: whatever a socket does leaves what is known of all associations in which it sends. A call leaves
+/// what is known of those in which it receives, and so do the bytes of a packet that the other socket sent.
+pub fn acts_keep_ends()
+    ensures sends { SendersAct }
+    ensures calls { ReceiversCall }
+    ensures handles { ReceiversHandle }
 {}

@@ -1,0 +1,118 @@
+-- What two sockets do one after another.
+use Rattle.std.proofs.Common.{◌≡◌, ℕ, ◌<◌, ◌≤◌, ◌^◌, List, [], ◌∷◌, ◌++◌, length, refl, sym, ◌∙◌, ap, arith, subst, append_assoc}
+use Rattle.std.specs.List.{AllByRecursion}
+use Rattle.std.proofs.lemmas.List.{append-nil, length-append}
+use Rattle.dcsctp_wire.specs.Content.{PacketContent}
+use Rattle.dcsctp_wire.specs.Format.{IsPacket}
+use Rattle.dcsctp_machine.specs.declared.options.Options.{Options}
+use Rattle.dcsctp_machine.specs.Settings.{wire_options}
+use Rattle.dcsctp_machine.specs.Admission.{admits}
+use Rattle.dcsctp_machine.specs.CallTurns.{Turned, IsTurn, Turns, AdmittedTurns, HandleInput, unreadable, readable, after_all, effects_of, events_of}
+use Rattle.dcsctp_machine.specs.Endpoint.{Endpoint, Core}
+use Rattle.dcsctp_machine.specs.Event.{packets_in}
+use Rattle.dcsctp_machine.specs.Outcome.{Outcome}
+use Rattle.dcsctp_machine.specs.Packet.{Packet, packet_in, Emission}
+use Rattle.dcsctp_machine.specs.Turn.{Input, arrival, refusal, chunk_input, Turn, unreadable_text}
+use Rattle.dcsctp_machine.specs.Turn as inputs
+use Rattle.dcsctp_machine.specs.World.{after_effects}
+use Rattle.dcsctp_machine.specs.control.Effect.{Effect}
+use Rattle.dcsctp_machine_agreement.proofs.Growth.{after_effects-append}
+use Rattle.dcsctp_machine_refinement.proofs.Bursts.{packets_in-append}
+use Rattle.dcsctp_delivery_sending.specs.Log.{Message}
+use Rattle.dcsctp_delivery_sending.specs.Places as places
+use Rattle.dcsctp_delivery_turns.specs.Actions.{came_by, queued_after, IsCall}
+use Rattle.dcsctp_delivery_turns.specs.Sides.{WasSent}
+use Rattle.dcsctp_delivery_associations.specs.Laws.{AreEnds}
+use Rattle.dcsctp_delivery_associations.specs.Reads.{Read, reads_after}
+use Rattle.dcsctp_delivery_associations.proofs.Growing.{input_adds}
+use Rattle.dcsctp_delivery_associations.proofs.SenderTurns.{sender_turns}
+use Rattle.dcsctp_delivery_associations.proofs.ReceiverTurns.{receiver_turns}
+use Rattle.dcsctp_delivery_sockets.specs.Acts.{queued_through, AreTurns, AreNewPeers}
+use Rattle.dcsctp_delivery_sockets.specs.Echoes.{GoesToMaker}
+use Rattle.dcsctp_delivery_sockets.specs.Packets.{reads_through, IsNotInterleaved, AreNewTags}
+use Rattle.dcsctp_delivery_sockets.proofs.Calls.{NoChunk, NoChunks}
+use Rattle.dcsctp_delivery_sockets.proofs.PacketTurns.{packet_goes}
+
+-- ---- the sender
+
+queued_grows : (e : Endpoint) (turns : List Turned) (queued : List Message) → length queued ≤ length (queued_through e turns queued)
+queued_grows e [] queued = omega arith
+queued_grows e (t ∷ turns) queued =
+    let rest = queued_grows t.outcome.after turns (queued_after e t.input queued) in
+    let first = ap (λ (l : List Message). length l) (input_adds e t.input queued) ∙ length-append (queued_after e t.input []) queued in
+    omega (arith, rest, first)
+
+module _ (options : Options) (d : Endpoint) (their_past : List Effect) (reads : List Read) where
+  pub senders_act : (turns : List Turned) (e : Endpoint) (queued : List Message) (past : List Effect) (packets : List Emission) → AreEnds options e queued past packets d their_past reads → AreTurns e turns
+      → AreNewPeers past their_past e turns → length (queued_through e turns queued) < 2 ^ 64
+      → AreEnds options (after_all e turns) (queued_through e turns queued) (after_effects (effects_of turns) past) (packets ++ packets_in (events_of turns)) d their_past reads
+  senders_act [] e queued past packets h taken new few = subst (λ (l : List Emission). AreEnds options e queued past l d their_past reads) (sym (append-nil packets)) h
+  senders_act (t ∷ turns) e queued past packets h taken new few =
+      let grows = queued_grows t.outcome.after turns (queued_after e t.input queued) in
+      let first = sender_turns options h.ends e queued past packets d their_past reads h.between t.input t.outcome new.1 (omega (arith, few, grows)) new.0 taken.0 in
+      let rest = senders_act turns t.outcome.after (queued_after e t.input queued) (after_effects t.outcome.effects past) (packets ++ packets_in t.outcome.events) first taken.1 new.2 few in
+      subst (λ (l : List Effect). AreEnds options (after_all t.outcome.after turns) (queued_through t.outcome.after turns (queued_after e t.input queued)) l (packets ++ packets_in (t.outcome.events ++ events_of turns)) d their_past reads)
+      (sym (after_effects-append t.outcome.effects (effects_of turns) past))
+      (subst (λ (l : List Emission). AreEnds options (after_all t.outcome.after turns) (queued_through t.outcome.after turns (queued_after e t.input queued)) (after_effects (effects_of turns) (after_effects t.outcome.effects past)) l d their_past reads)
+      (append_assoc packets (packets_in t.outcome.events) (packets_in (events_of turns)) ∙ ap (λ (l : List Emission). packets ++ l) (sym (packets_in-append t.outcome.events (events_of turns)))) rest)
+
+-- ---- the receiver
+
+-- Where no chunk is handled, all that is was sent.
+none_sent : (sent : List Emission) (input : Input) → NoChunk input → WasSent sent (came_by input)
+none_sent sent (chunk_input tag content) none = absurd none
+none_sent sent inputs.arrival none = tt
+none_sent sent (inputs.refusal text) none = tt
+none_sent sent (inputs.packet_begins contents) none = tt
+none_sent sent inputs.packet_ends none = tt
+none_sent sent (inputs.act_input act) none = tt
+none_sent sent (inputs.user_sets setting) none = tt
+none_sent sent (inputs.user_sends messages) none = tt
+none_sent sent (inputs.user_resets ids) none = tt
+none_sent sent inputs.user_takes none = tt
+none_sent sent (inputs.timer_expires timer) none = tt
+none_sent sent (inputs.time_passes moment) none = tt
+none_sent sent (inputs.restores state) none = tt
+
+module _ (options : Options) (e : Endpoint) (queued : List Message) (past : List Effect) (packets : List Emission) (few : length queued < 2 ^ 64) where
+  pub receivers_act : (turns : List Turned) (d : Endpoint) (their_past : List Effect) (reads : List Read) → AreEnds options e queued past packets d their_past reads → NoChunks turns → AreTurns d turns
+      → AllByRecursion (λ turn. IsCall turn.input) turns → AreNewTags options their_past past d turns
+      → AreEnds options e queued past packets (after_all d turns) (after_effects (effects_of turns) their_past) (reads_through d turns reads)
+  receivers_act [] d their_past reads h none taken may new = h
+  receivers_act (t ∷ turns) d their_past reads h none taken may new =
+      let first = receiver_turns options h.ends e queued past packets d their_past reads h.between few new.0 t.input t.outcome new.1 (λ transfer link there linked. none_sent (h.ends.sends link.my.tag).sent t.input none.0) may.0 taken.0 in
+      let rest = receivers_act turns t.outcome.after (after_effects t.outcome.effects their_past) (reads_after d t.input reads) first none.1 taken.1 may.1 new.2 in
+      subst (λ (l : List Effect). AreEnds options e queued past packets (after_all t.outcome.after turns) l (reads_through t.outcome.after turns (reads_after d t.input reads)))
+      (sym (after_effects-append t.outcome.effects (effects_of turns) their_past)) rest
+
+  one_turn : (d : Endpoint) (their_past : List Effect) (reads : List Read) (input : Input) (t : Turned) → NoChunk input → IsCall input → IsTurn d input t → NoChunk t.input × IsCall t.input × Turn d t.input t.outcome
+  one_turn d their_past reads input t none may turn =
+      (subst NoChunk (sym turn.is) none, subst IsCall (sym turn.is) may, subst (λ (i : Input). Turn d i t.outcome) (sym turn.is) turn.comes)
+
+  pub receivers_handle : (d : Endpoint) (their_past : List Effect) (reads : List Read) (emission : Emission) (bytes : List ℕ) (turns : List Turned) → AreEnds options e queued past packets d their_past reads → places.Has emission packets
+      → GoesToMaker emission → AllByRecursion IsNotInterleaved emission.packet.contents → ((packet : PacketContent) → IsPacket (wire_options d.options) packet bytes → packet_in packet ≡ emission.packet)
+      → AreNewTags options their_past past d turns → HandleInput d bytes turns
+      → AreEnds options e queued past packets (after_all d turns) (after_effects (effects_of turns) their_past) (reads_through d turns reads)
+  receivers_handle d their_past reads emission bytes turns h has go not is new (unreadable ts unread taken) = two ts new taken
+    where
+      two : (turns : List Turned) → AreNewTags options their_past past d turns → Turns d (arrival ∷ refusal unreadable_text ∷ []) turns
+          → AreEnds options e queued past packets (after_all d turns) (after_effects (effects_of turns) their_past) (reads_through d turns reads)
+      two [] new taken = absurd taken
+      two (t ∷ []) new taken = absurd taken.1
+      two (t ∷ u ∷ []) new taken =
+          let a = one_turn d their_past reads arrival t tt tt taken.0 in
+          let b = one_turn t.outcome.after their_past reads (refusal unreadable_text) u tt tt taken.1.0 in
+          receivers_act (t ∷ u ∷ []) d their_past reads h (a.0, (b.0, tt)) (a.2, (b.2, tt)) (a.1, (b.1, tt)) new
+      two (t ∷ u ∷ v ∷ turns) new taken = absurd taken.1.1
+  receivers_handle d their_past reads emission bytes turns h has go not is new (readable packet counted ts is_packet counting admitted) =
+      let a = one_turn d their_past reads arrival counted tt tt counting in
+      let first = receivers_act (counted ∷ []) d their_past reads h (a.0, tt) (a.2, tt) (a.1, tt) (new.0, new.1, tt) in
+      let core : counted.outcome.after.core ≡ d.core = ap (λ (x : Outcome). x.after.core) counting.comes in
+      let same : AdmittedTurns counted.outcome.after emission.packet (admits counted.outcome.after.core emission.packet) ts =
+      subst (λ (c : Core). AdmittedTurns counted.outcome.after emission.packet (admits c emission.packet) ts) (sym core)
+      (subst (λ (p : Packet). AdmittedTurns counted.outcome.after p (admits d.core p) ts) (is packet is_packet) admitted) in
+      subst (λ (l : List Effect). AreEnds options e queued past packets (after_all counted.outcome.after ts) l (reads_through counted.outcome.after ts (reads_after d counted.input reads)))
+      (sym (after_effects-append counted.outcome.effects (effects_of ts) their_past))
+      (packet_goes options e queued past packets few emission has counted.outcome.after (after_effects counted.outcome.effects their_past) (reads_after d counted.input reads) ts
+      (subst (λ (l : List Effect). AreEnds options e queued past packets counted.outcome.after (after_effects l their_past) (reads_after d counted.input reads)) (append-nil counted.outcome.effects) first) new.2 not go
+      (admits counted.outcome.after.core emission.packet) refl same)

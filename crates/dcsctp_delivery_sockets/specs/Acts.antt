@@ -1,0 +1,65 @@
+-- What two sockets do one after another, and all their associations. So far without interleaving.
+use Rattle.std.specs.Prelude.{◌≡◌, ◌<◌, ◌^◌, ℕ, Some, List, [], ◌∷◌, ◌++◌, length}
+use Rattle.std.specs.List.{AllByRecursion}
+use Rattle.dcsctp_wire.specs.Content.{PacketContent}
+use Rattle.dcsctp_wire.specs.Format.{IsPacket}
+use Rattle.dcsctp_machine.specs.declared.options.Options.{Options}
+use Rattle.dcsctp_machine.specs.Schedule.{CallContent}
+use Rattle.dcsctp_machine.specs.Settings.{wire_options}
+use Rattle.dcsctp_machine.specs.CallTurns.{Turned, HandleInput, after_all, effects_of, events_of}
+use Rattle.dcsctp_machine.specs.Endpoint.{Endpoint}
+use Rattle.dcsctp_machine.specs.Event.{packets_in}
+use Rattle.dcsctp_machine.specs.Packet.{packet_in, Emission}
+use Rattle.dcsctp_machine.specs.Sockets.{UserTurns}
+use Rattle.dcsctp_machine.specs.Turn.{Turn}
+use Rattle.dcsctp_machine.specs.World.{after_effects}
+use Rattle.dcsctp_machine.specs.control.Effect.{Effect, link_of, link_in}
+use Rattle.dcsctp_delivery_sending.specs.Log.{Message}
+use Rattle.dcsctp_delivery_sending.specs.Places as places
+use Rattle.dcsctp_delivery_turns.specs.Actions.{came_by, queued_after, IsOpening, Begun, IsCall}
+use Rattle.dcsctp_delivery_associations.specs.Ends.{Ends, NewPeer, Between}
+use Rattle.dcsctp_delivery_associations.specs.Laws.{AreEnds}
+use Rattle.dcsctp_delivery_associations.specs.Reads.{Read}
+use Rattle.dcsctp_delivery_sockets.specs.Echoes.{GoesToMaker}
+use Rattle.dcsctp_delivery_sockets.specs.Packets.{reads_through, IsNotInterleaved, AreNewTags}
+
+-- the messages that were queued, newest first, with those that these turns queue
+abbrev pub queued_through : Endpoint → List Turned → List Message → List Message
+queued_through e [] queued = queued
+queued_through e (turn ∷ turns) queued = queued_through turn.outcome.after turns (queued_after e turn.input queued)
+
+-- Each of these is a turn.
+abbrev pub AreTurns : Endpoint → List Turned → Type 0
+AreTurns e [] = Unit {0}
+AreTurns e (turn ∷ turns) = Turn e turn.input turn.outcome × AreTurns turn.outcome.after turns
+
+-- Each input is a call, a timer or a chunk; and an association that begins has a peer of a new tag, and the matching one at the other side.
+abbrev pub AreNewPeers : List Effect → List Effect → Endpoint → List Turned → Type 0
+AreNewPeers past their_past e [] = Unit {0}
+AreNewPeers past their_past e (turn ∷ turns) =
+    IsCall turn.input
+    × ((begun : Begun e turn.outcome) → IsOpening (came_by turn.input) → link_in turn.outcome.after.core ≡ Some (link_of begun.my begun.held) → NewPeer past their_past (link_of begun.my begun.held))
+    × AreNewPeers (after_effects turn.outcome.effects past) their_past turn.outcome.after turns
+
+-- Turns of the sender leave what is known of all associations.
+abbrev pub SendersAct : Type 0
+SendersAct =
+    (options : Options) (ends : Ends) (e : Endpoint) (queued : List Message) (past : List Effect) (packets : List Emission) (other : Endpoint) (their_past : List Effect) (reads : List Read) (turns : List Turned)
+    → Between options ends e queued past packets other their_past reads → AreTurns e turns → AreNewPeers past their_past e turns → length (queued_through e turns queued) < 2 ^ 64
+    → AreEnds options (after_all e turns) (queued_through e turns queued) (after_effects (effects_of turns) past) (packets ++ packets_in (events_of turns)) other their_past reads
+
+-- So does a call at the receiver,
+abbrev pub ReceiversCall : Type 0
+ReceiversCall =
+    (options : Options) (ends : Ends) (e : Endpoint) (queued : List Message) (past : List Effect) (packets : List Emission) (other : Endpoint) (their_past : List Effect) (reads : List Read) (call : CallContent) (turns : List Turned)
+    → Between options ends e queued past packets other their_past reads → length queued < 2 ^ 64 → UserTurns other call turns → AreTurns other turns → AllByRecursion (λ turn. IsCall turn.input) turns
+    → AreNewTags options their_past past other turns → AreEnds options e queued past packets (after_all other turns) (after_effects (effects_of turns) their_past) (reads_through other turns reads)
+
+-- and so do bytes that are handed to it, if they are those of a packet that was sent.
+abbrev pub ReceiversHandle : Type 0
+ReceiversHandle =
+    (options : Options) (ends : Ends) (e : Endpoint) (queued : List Message) (past : List Effect) (packets : List Emission) (other : Endpoint) (their_past : List Effect) (reads : List Read) (emission : Emission)
+    (bytes : List ℕ) (turns : List Turned) → Between options ends e queued past packets other their_past reads → length queued < 2 ^ 64 → places.Has emission packets → GoesToMaker emission
+    → AllByRecursion IsNotInterleaved emission.packet.contents → ((packet : PacketContent) → IsPacket (wire_options other.options) packet bytes → packet_in packet ≡ emission.packet)
+    → AreNewTags options their_past past other turns → HandleInput other bytes turns
+    → AreEnds options e queued past packets (after_all other turns) (after_effects (effects_of turns) their_past) (reads_through other turns reads)
