@@ -1,19 +1,18 @@
 -- A turn of the receiver in which an association begins.
-use Rattle.std.proofs.Common.{◌≡◌, ◌≢◌, ℕ, ◌<◌, ◌^◌, Option, None, Some, List, [], ◌∷◌, length, refl, sym, ◌∙◌, ap, arith, subst, inl, inr}
+use Rattle.std.proofs.Common.{◌≡◌, ◌≢◌, ℕ, ◌<◌, ◌^◌, Option, Some, List, [], ◌∷◌, length, refl, sym, ◌∙◌, ap, arith, subst, inl, inr}
 use Rattle.std.specs.Prelude.{◌⊎◌}
 use Rattle.dcsctp_machine.specs.declared.association.Pair.{Pair}
 use Rattle.dcsctp_machine.specs.declared.options.Options.{Options}
 use Rattle.dcsctp_machine.specs.Settings.{SameOptions}
-use Rattle.dcsctp_machine.specs.Endpoint.{Endpoint, own_tag}
+use Rattle.dcsctp_machine.specs.Endpoint.{Endpoint}
 use Rattle.dcsctp_machine.specs.Outcome.{Outcome}
 use Rattle.dcsctp_machine.specs.Packet.{Emission}
 use Rattle.dcsctp_machine.specs.Past.{Has}
-use Rattle.dcsctp_machine.specs.Turn.{Input, Turn}
+use Rattle.dcsctp_machine.specs.Turn.{Input}
 use Rattle.dcsctp_machine.specs.World.{after_effects}
-use Rattle.dcsctp_machine.specs.control.Effect.{Link, Effect, holds, link_of, link_in}
-use Rattle.dcsctp_machine.specs.transfer.Messages.{MessageContent}
-use Rattle.dcsctp_machine.specs.transfer.Reassembly.{ReassemblyState, new_reassembly}
-use Rattle.dcsctp_machine.specs.transfer.Tracker.{TrackerState, new_tracker}
+use Rattle.dcsctp_machine.specs.control.Effect.{Link, Effect, holds, link_of}
+use Rattle.dcsctp_machine.specs.transfer.Reassembly.{new_reassembly}
+use Rattle.dcsctp_machine.specs.transfer.Tracker.{new_tracker}
 use Rattle.dcsctp_machine.specs.transfer.Transfer.{Transfer, Below}
 use Rattle.dcsctp_machine_agreement.proofs.Growth.{after_within}
 use Rattle.dcsctp_delivery_sending.specs.Places.{set_at}
@@ -22,17 +21,14 @@ use Rattle.dcsctp_delivery_sending.proofs.Places.{decide, set_same, set_other}
 use Rattle.dcsctp_delivery_directions.specs.Directions as steps
 use Rattle.dcsctp_delivery_directions.specs.Directions.{Direction, Run}
 use Rattle.dcsctp_delivery_directions.proofs.Directions.{direction_queues}
-use Rattle.dcsctp_delivery_turns.specs.Actions.{IsOpening, came_by, peer_tag, read_after, Begun, IsCall}
-use Rattle.dcsctp_delivery_turns.specs.Sides.{WasSent, receiving}
-use Rattle.dcsctp_delivery_turns.specs.Runs.{Opens, ReceiverTurns, receiver_goes_on, receiver_ends, receiver_begins, IdleTurns, idle_stays, idle_begins}
-use Rattle.dcsctp_delivery_turns.proofs.Runs.{receivers_go_on, receivers_begin}
-use Rattle.dcsctp_delivery_associations.specs.Ends.{ReceivingEnd, joined, new_end, Ends, HadPeer, Awaits, Sender, NewTag, HadTag, IsCurrent, Receiver, Between}
-use Rattle.dcsctp_delivery_associations.specs.Reads.{Read, reads_after, with_tag}
-use Rattle.dcsctp_delivery_associations.proofs.WhatIsRead.{tag_of, reads_still, own_read, other_read}
+use Rattle.dcsctp_delivery_turns.specs.Actions.{peer_tag}
+use Rattle.dcsctp_delivery_turns.specs.Runs.{Opens}
+use Rattle.dcsctp_delivery_associations.specs.Ends.{ReceivingEnd, joined, new_end, Ends, HadPeer, Awaits, Sender, NewTag, HadTag, Receiver, Between}
+use Rattle.dcsctp_delivery_associations.specs.Reads.{Read, with_tag}
 use Rattle.dcsctp_delivery_associations.proofs.Growing.{set_all}
 use Rattle.dcsctp_delivery_associations.proofs.SenderStays.{set_three}
 use Rattle.dcsctp_delivery_associations.specs.Laws.{AreEnds}
-use Rattle.dcsctp_delivery_associations.proofs.ReceiverStays.{tag_later, begun_later, sender_same, sender_first}
+use Rattle.dcsctp_delivery_associations.proofs.ReceiverStays.{tag_later, sender_same, sender_first}
 
 -- What an association has received that just begins.
 begun_end : (options other : Options) (first : ℕ) → SameOptions options other

@@ -1,38 +1,32 @@
 -- Each turn of the receiver.
-use Rattle.std.proofs.Common.{◌≡◌, ◌≢◌, ℕ, ◌<◌, ◌^◌, Option, None, Some, List, [], ◌∷◌, length, refl, sym, ◌∙◌, ap, arith, subst, inl, inr}
+use Rattle.std.proofs.Common.{◌≡◌, ◌≢◌, ℕ, ◌<◌, ◌^◌, Option, None, Some, List, length, refl, sym, ◌∙◌, ap, subst, inl, inr}
 use Rattle.std.specs.Prelude.{◌⊎◌}
-use Rattle.dcsctp_machine.specs.declared.association.Pair.{Pair}
 use Rattle.dcsctp_machine.specs.declared.options.Options.{Options}
 use Rattle.dcsctp_machine.specs.Settings.{SameOptions}
 use Rattle.dcsctp_machine.specs.Endpoint.{Endpoint, own_tag}
 use Rattle.dcsctp_machine.specs.Outcome.{Outcome}
 use Rattle.dcsctp_machine.specs.Packet.{Emission}
-use Rattle.dcsctp_machine.specs.Past.{Has}
 use Rattle.dcsctp_machine.specs.Turn.{Input, Turn}
 use Rattle.dcsctp_machine.specs.World.{after_effects}
-use Rattle.dcsctp_machine.specs.control.Effect.{Link, Effect, holds, link_of, link_in}
+use Rattle.dcsctp_machine.specs.control.Effect.{Link, Effect, link_of, link_in}
 use Rattle.dcsctp_machine.specs.transfer.Messages.{MessageContent}
-use Rattle.dcsctp_machine.specs.transfer.Reassembly.{ReassemblyState, new_reassembly}
-use Rattle.dcsctp_machine.specs.transfer.Tracker.{TrackerState, new_tracker}
-use Rattle.dcsctp_machine.specs.transfer.Transfer.{Transfer, Below}
-use Rattle.dcsctp_machine_agreement.proofs.Growth.{after_within}
+use Rattle.dcsctp_machine.specs.transfer.Reassembly.{ReassemblyState}
+use Rattle.dcsctp_machine.specs.transfer.Tracker.{TrackerState}
+use Rattle.dcsctp_machine.specs.transfer.Transfer.{Transfer}
 use Rattle.dcsctp_delivery_sending.specs.Places.{set_at}
 use Rattle.dcsctp_delivery_sending.specs.Log.{Message}
 use Rattle.dcsctp_delivery_sending.proofs.Places.{decide, set_same, set_other}
-use Rattle.dcsctp_delivery_directions.specs.Directions as steps
-use Rattle.dcsctp_delivery_directions.specs.Directions.{Direction, Run}
-use Rattle.dcsctp_delivery_directions.proofs.Directions.{direction_queues}
+use Rattle.dcsctp_delivery_directions.specs.Directions.{Run}
 use Rattle.dcsctp_delivery_turns.specs.Actions.{IsOpening, came_by, peer_tag, read_after, Begun, IsCall}
 use Rattle.dcsctp_delivery_turns.specs.Sides.{WasSent, receiving}
-use Rattle.dcsctp_delivery_turns.specs.Runs.{Opens, ReceiverTurns, receiver_goes_on, receiver_ends, receiver_begins, IdleTurns, idle_stays, idle_begins}
+use Rattle.dcsctp_delivery_turns.specs.Runs.{ReceiverTurns, receiver_goes_on, receiver_ends, receiver_begins, IdleTurns, idle_stays, idle_begins}
 use Rattle.dcsctp_delivery_turns.proofs.Runs.{receivers_go_on, receivers_begin}
-use Rattle.dcsctp_delivery_associations.specs.Ends.{ReceivingEnd, joined, new_end, Ends, HadPeer, Awaits, Sender, NewTag, HadTag, IsCurrent, Receiver, Between}
+use Rattle.dcsctp_delivery_associations.specs.Ends.{ReceivingEnd, joined, new_end, Ends, NewTag, HadTag, IsCurrent, Between}
 use Rattle.dcsctp_delivery_associations.specs.Reads.{Read, reads_after, with_tag}
 use Rattle.dcsctp_delivery_associations.proofs.WhatIsRead.{tag_of, reads_still, own_read, other_read}
 use Rattle.dcsctp_delivery_associations.proofs.Growing.{set_all}
-use Rattle.dcsctp_delivery_associations.proofs.SenderStays.{set_three}
 use Rattle.dcsctp_delivery_associations.specs.Laws.{AreEnds}
-use Rattle.dcsctp_delivery_associations.proofs.ReceiverStays.{tag_later, begun_later, sender_same, sender_first}
+use Rattle.dcsctp_delivery_associations.proofs.ReceiverStays.{tag_later, begun_later, sender_same}
 use Rattle.dcsctp_delivery_associations.proofs.ReceiverBegins.{opens_goes}
 
 module _ (options : Options) (ends : Ends) (e : Endpoint) (queued : List Message) (past : List Effect) (packets : List Emission) (d : Endpoint) (their_past : List Effect) (reads : List Read)

@@ -34,7 +34,7 @@ module _ (queued : List Message) (log : List Slot) (cut : Cut queued log) (n : �
       let both : Some h.message ≡ Some f.message = sym one ∙ ap (λ (p : ℕ). at_place p queued) same ∙ other in
       cc
 
-  -- no piece of the message comes behind it
+  -- no piece of the message comes after it
   none_behind : (d k : ℕ) (h : Piece) → at_place k log ≡ Some (Some h) → h.place ≡ f.place → k ≡ n + d → h.start + h.size < length f.message.payload → ⊥
   none_behind zero k h there same is less =
       let here : k ≡ n = omega (arith, is) in

@@ -14,7 +14,7 @@ use Rattle.dcsctp_delivery_receiving.specs.Received.{Received, Few}
 use Rattle.dcsctp_delivery_directions.specs.Directions.{Direction, in_flight, assigned}
 use Rattle.dcsctp_delivery_sending.proofs.Places.{at_stays}
 
--- what the other side has, where few TSNs were given out
+-- what the receiver has, where few TSNs were assigned
 pub record Arrived (first : ℕ) (log : List Slot) (direction : Direction) : Type 0 where
   pub places : List ℕ
   pub were : WereQueued direction.queued places direction.read
@@ -76,4 +76,4 @@ pub counted_flight : (log : List Slot) (first acknowledged : ℕ) (transfer : Op
 counted_flight log first acknowledged None flight = omega (arith, flight)
 counted_flight log first acknowledged (Some transfer) flight = flight.count
 
--- another way with the same side that sends
+-- another direction with the same sender

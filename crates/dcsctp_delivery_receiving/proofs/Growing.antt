@@ -15,7 +15,7 @@ use Rattle.dcsctp_delivery_receiving.specs.Received.{Carries, IsTsn, Reassembles
 use Rattle.dcsctp_delivery_sending.proofs.Packets.{at_more}
 use Rattle.dcsctp_delivery_receiving.proofs.Tracked.{more_given_out}
 
--- ---- more is queued and given out
+-- ---- more is queued and assigned
 
 module _ (queued more : List Message) (log later : List Slot) where
   row_more : (got : List ℕ) (base : ℕ) (Named : Piece → ℕ → Type 0) (run : RunModel) → IsRow log got base Named run → IsRow (later ++ log) got base Named run

@@ -162,7 +162,7 @@ defers_forward log first tsn entries (n ∷ later) (arrived t' ch ∷ actions) t
 defers_forward log first tsn entries [] (skipping t' es ∷ actions) t defers = (defers.0, defers_forward log first tsn entries [] actions t defers.1)
 defers_forward log first tsn entries (n ∷ later) (skipping t' es ∷ actions) t defers = (defers.0, defers_forward log first tsn entries (n ∷ later) actions t defers.1)
 
--- what is deferred waits behind the others
+-- what is deferred waits after the others
 pub waiting_data : (log : List Slot) (first offset tsn : ℕ) (chunk : ChunkModel) (later : List ℕ) (deferral : Option DeferralModel) → is_deferred tsn chunk.stream deferral ≡ true → Carries log first offset tsn chunk
     → Defers log first later (actions_of deferral) → Defers log first (later ++ offset ∷ []) (actions_of (with_waiting (arrived tsn chunk) deferral))
 waiting_data log first offset tsn chunk later None is c defers = absurd (cc)

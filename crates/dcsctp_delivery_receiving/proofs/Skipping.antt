@@ -172,7 +172,7 @@ module _ (queued : List Message) (log : List Slot) (got : List ℕ) (base : ℕ)
       (apart_rows (λ id. stream_on id new.streams) old.unordered new.unordered (old.ready ++ deliveries_by entries (λ id. stream_on id old.streams))
       (holds_same (λ id. skipped_by entries id (stream_on id old.streams)) (λ id. stream_on id new.streams) old.unordered (old.ready ++ deliveries_by entries (λ id. stream_on id old.streams)) moves.streams skipped_all) rows)
 
-  -- ---- streams that start anew
+  -- ---- streams that are reset
 
   -- these streams are new, and the others unchanged
   renewed : (named : ℕ → Bool) (streams later : ℕ → StreamModel) (unordered others : List RunModel) (ready : List MessageContent) → ((id : ℕ) → later id ≡ (if named id then new_stream id else streams id))

@@ -177,7 +177,7 @@ pub give_up_all_stays : (queued : List Message) (log : List Slot) (first acknowl
 give_up_all_stays queued log first acknowledged now old new stands gives =
     steps_stay queued first acknowledged (GivesUpFirst now) (λ l o n s step. gives_up_stays queued l first acknowledged now step.place o n s step.gives_up) log old new stands gives.steps
 
--- ---- what goes out
+-- ---- what is sent
 
 chunk_of_log : (log : List Slot) (first acknowledged : ℕ) (outstanding : OutstandingState) (tsn : ℕ) (chunk : Plain) → Bears log first acknowledged outstanding → IsChunkOf outstanding tsn chunk → IsOfLog log first outstanding.is_interleaved chunk
 chunk_of_log log first acknowledged outstanding tsn chunk b is =

@@ -93,7 +93,7 @@ module _ (queued : List Message) (log : List Slot) (max place : ℕ) (queue : Se
   here_rest : AllBeyond piece.place (drop 1 (stream_at queue.streams place).messages)
   here_rest = subst (λ (k : ℕ). AllBeyond k (drop 1 (stream_at queue.streams place).messages)) named (rest_of (stream_at queue.streams place).messages message (ascend place) front)
 
-  -- on this stream all pieces come before what waits behind the message, and on others before all that waits
+  -- on this stream all pieces come before what waits after the message, and on others before all that waits
   pub here : (q n : ℕ) (f : Piece) → at_place n (Some piece ∷ log) ≡ Some (Some f) → f.message.stream ≡ (stream_at queue.streams q).id → (stream_at queue.streams q).id ≡ (stream_at queue.streams place).id
       → AllBeyond f.place (drop 1 (stream_at queue.streams q).messages)
   here q n f at of same =

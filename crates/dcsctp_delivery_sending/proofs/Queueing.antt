@@ -25,12 +25,7 @@ queued_again queued m id (w ∷ messages) are = (
   queued_again queued m id messages are.1,
 )
 
-going_again : (queued : List Message) (m : Message) (log : List Slot) (streams : List Stream) (u : Option UnderWay) → Going queued log streams u → Going (m ∷ queued) log streams u
-going_again queued m log streams None g = tt
-going_again queued m log streams (Some u) g =
-    record { place = g.place; message = g.message; at = at_stays g.place m g.message queued g.at; unfinished = g.unfinished; begun = g.begun; there = g.there; came = g.came; front = g.front }
-
--- ---- a message behind the others
+-- ---- a message after the others
 
 -- those of one stream have one more
 record OneMore (id : ℕ) (m : Waiting) (old new : List Stream) : Type 0 where

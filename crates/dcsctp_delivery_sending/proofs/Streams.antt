@@ -104,7 +104,7 @@ ascend_drop : (messages : List Waiting) → Ascend messages → Ascend (drop 1 m
 ascend_drop [] are = tt
 ascend_drop (w ∷ messages) are = are.1
 
--- those behind the oldest were queued behind it
+-- those after the oldest were queued after it
 pub rest_of : (messages : List Waiting) (w : Waiting) → Ascend messages → front_of messages ≡ Some w → AllBeyond w.message_id (drop 1 messages)
 rest_of [] w are e = absurd (cc)
 rest_of (v ∷ messages) w are e = let same : v ≡ w = cc in subst (λ (x : Waiting). AllBeyond x.message_id messages) same are.0

@@ -153,7 +153,7 @@ module _ (options : Options) (e : Endpoint) (queued : List Message) (past : List
 
   -- ---- the first chunk
 
-  -- the tag of the association behind the first chunk, if more is handled
+  -- the tag of the association after the first chunk, if more is handled
   front_tag : (d : Endpoint) (content : Content) (contents : List Content) (t : Turned) → IsTurn d (chunk_input emission.packet.tag content) t → ContentsGo emission.packet.tag (content ∷ contents)
       → (is_echo_in_front (content ∷ contents) ≡ false → own_tag d.core ≡ emission.packet.tag) → t.outcome.following ≡ next_chunk → TagIs emission.packet.tag t.outcome.after
   front_tag d (cookie_echo bytes) contents t turn go own next =

@@ -41,9 +41,9 @@ module _ (came : Option Content) (to : ℕ) where
       subst (λ (s : List Emission). Actions came to (ledger_of queued old sent read) (ledger_of queued new s read)) (append_assoc sent packets later)
       (joined (ledger_of queued old sent read) (ledger_of queued between (sent ++ packets) read) (ledger_of queued new ((sent ++ packets) ++ later) read) (first queued sent read) (second queued (sent ++ packets) read))
 
-  -- one bit without a packet
-  pub bit : (old new : Below) → ((queued : List Message) (sent : List Emission) (read : List MessageContent) → Action came to (ledger_of queued old sent read) (ledger_of queued new sent read)) → Makes came to old [] new
-  bit old new does = λ queued sent read.
+  -- one action without a packet
+  pub action_of : (old new : Below) → ((queued : List Message) (sent : List Emission) (read : List MessageContent) → Action came to (ledger_of queued old sent read) (ledger_of queued new sent read)) → Makes came to old [] new
+  action_of old new does = λ queued sent read.
       subst (λ (s : List Emission). Actions came to (ledger_of queued old sent read) (ledger_of queued new s read)) (sym (append-nil sent))
       (further (ledger_of queued old sent read) (ledger_of queued new sent read) nothing (does queued sent read))
 
@@ -69,12 +69,12 @@ module _ (came : Option Content) (to : ℕ) where
   pub emitted : (e : Endpoint) (words : List Word) (emission : Emission) → NoData emission.packet.contents → MakesTo came to e.below (emits e words emission)
   emitted e words emission no_data = packet_if (fits e emission) e words emission no_data
 
-  -- behind events without a packet
+  -- after events without a packet
   pub makes_behind : (old : Below) (words : List Word) (events : List (Event Emission)) (o : Outcome) → packets_in events ≡ [] → MakesTo came to old o → MakesTo came to old (behind words events o)
   makes_behind old words events o none makes =
       subst (λ (l : List Emission). Makes came to old l o.after.below) (sym (packets_in-append events o.events ∙ ap (λ (l : List Emission). l ++ packets_in o.events) none)) makes
 
-  -- an end behind this
+  -- an end after this
   pub ended : (e : Endpoint) (before : Outcome) (event : Event Emission) → packets_in (event ∷ []) ≡ [] → MakesTo came to e.below before → Goes came to e (ended_outcome before event)
   ended e before event none makes =
       ends refl (λ read. refl) before.after.below

@@ -24,7 +24,7 @@ use Rattle.dcsctp_delivery_turns.specs.Actions.{ledger_of, with_below, Actions, 
 use Rattle.dcsctp_machine.specs.control.Effect.{link_in}
 use Rattle.dcsctp_delivery_turns.proofs.Tags.{flush_link}
 use Rattle.dcsctp_delivery_turns.specs.Tags.{IsPeerTag}
-use Rattle.dcsctp_delivery_turns.proofs.Actions.{emits_link, Goes, MakesTo, both, bit, rests, emitted, flushed, makes_behind}
+use Rattle.dcsctp_delivery_turns.proofs.Actions.{emits_link, Goes, MakesTo, both, action_of, rests, emitted, flushed, makes_behind}
 use Rattle.dcsctp_delivery_turns.proofs.Shutdown.{step_link, step_makes, step_below, step_peer}
 use Rattle.dcsctp_delivery_turns.proofs.Fixed.{held_tag, sack_no_data, delivered_none, fast_core, Alike, sack_no_end, delayed_alike}
 
@@ -69,12 +69,12 @@ module _ (came : Option Content) (to : ℕ) where
   pub data_goes : (e : Endpoint) (chunk : DataContent) (o : Outcome) → came ≡ Some (plain (unworked (data_chunk chunk))) → DataTurn e (data_arrival chunk) o → Goes came to e o
   data_goes e chunk o is turn =
       data_where_goes e (data_arrival chunk) chunk.payload o
-      (λ old new some known does. bit came to e.below (with_transfer e new).below (λ queued sent read. actions.receives chunk old new is some known does)) turn
+      (λ old new some known does. action_of came to e.below (with_transfer e new).below (λ queued sent read. actions.receives chunk old new is some known does)) turn
 
   pub i_data_goes : (e : Endpoint) (chunk : IDataContent) (o : Outcome) → came ≡ Some (plain (unworked (i_data_chunk chunk))) → DataTurn e (i_data_arrival chunk) o → Goes came to e o
   i_data_goes e chunk o is turn =
       data_where_goes e (i_data_arrival chunk) (i_data_arrival chunk).chunk.payload o
-      (λ old new some known does. bit came to e.below (with_transfer e new).below (λ queued sent read. actions.receives_interleaved chunk old new is known does)) turn
+      (λ old new some known does. action_of came to e.below (with_transfer e new).below (λ queued sent read. actions.receives_interleaved chunk old new is known does)) turn
 
   forward_where_goes : (e : Endpoint) (transfer : Option Transfer) (tsn : ℕ) (entries : List SkippedTo) (o : Outcome)
       → ((old new : Transfer) → transfer ≡ Some old → MovesForward tsn entries old new → Makes came to e.below [] (with_transfer e new).below)
@@ -85,19 +85,19 @@ module _ (came : Option Content) (to : ℕ) where
   pub forward_goes : (e : Endpoint) (tsn : ℕ) (streams : List ℕ) (o : Outcome) → came ≡ Some (plain (unworked (forward_tsn_chunk tsn streams))) → ForwardTurn e e.below.transfer tsn (skipped_in streams) o → Goes came to e o
   forward_goes e tsn streams o is turn =
       forward_where_goes e e.below.transfer tsn (skipped_in streams) o
-      (λ old new known does. bit came to e.below (with_transfer e new).below (λ queued sent read. actions.forwards tsn streams old new is known does)) turn
+      (λ old new known does. action_of came to e.below (with_transfer e new).below (λ queued sent read. actions.forwards tsn streams old new is known does)) turn
 
   pub i_forward_goes : (e : Endpoint) (tsn : ℕ) (streams : List ℕ) (o : Outcome) → came ≡ Some (plain (unworked (i_forward_tsn_chunk tsn streams))) → ForwardTurn e e.below.transfer tsn (messages_skipped_in streams) o → Goes came to e o
   i_forward_goes e tsn streams o is turn =
       forward_where_goes e e.below.transfer tsn (messages_skipped_in streams) o
-      (λ old new known does. bit came to e.below (with_transfer e new).below (λ queued sent read. actions.forwards_interleaved tsn streams old new is known does)) turn
+      (λ old new known does. action_of came to e.below (with_transfer e new).below (λ queued sent read. actions.forwards_interleaved tsn streams old new is known does)) turn
 
   -- ---- SACK
 
   out_makes : (e : Endpoint) (held : Held) (transfer : Transfer) (o : Outcome) (turn : FastRetransmits true e held transfer o) → held.peer.tag ≡ to → e.below.transfer ≡ Some transfer → (chunks : List Plain) → turn.chunks ≡ chunks
       → MakesTo came to e.below (goes_out (with_transfer e (record transfer { retransmission = turn.left })) [] (draft_to held).with_checksum (draft_to held).packet.tag (plain_contents chunks))
   out_makes e held transfer o turn tag known [] is =
-      bit came to e.below (with_below (record transfer { retransmission = turn.left }) e.below)
+      action_of came to e.below (with_below (record transfer { retransmission = turn.left }) e.below)
       (λ queued sent read. actions.resends_nothing e.moment (room_in e (draft_to held)) transfer turn.left turn.tsns known turn.sends)
   out_makes e held transfer o turn tag known (chunk ∷ chunks) is =
       let emission : Emission = record { with_checksum = (draft_to held).with_checksum; packet = record { tag = (draft_to held).packet.tag; contents = plain_contents (chunk ∷ chunks) } } in
@@ -118,7 +118,7 @@ module _ (came : Option Content) (to : ℕ) where
       let last_at : IsPeerTag turn.fast.after.core to =
       subst (λ (c : Core). IsPeerTag c to) (sym (fast_core (has_fast_retransmit turn.left.retransmission) turn.stepped.after held turn.left turn.fast turn.resends)) later in
       let taken : Endpoint = sack_taken e transfer turn.left in
-      let first : Makes came to e.below [] taken.below = bit came to e.below taken.below (λ queued sent read. actions.acknowledges e.moment sack transfer turn.left known valid turn.takes) in
+      let first : Makes came to e.below [] taken.below = action_of came to e.below taken.below (λ queued sent read. actions.acknowledges e.moment sack transfer turn.left known valid turn.takes) in
       let step : MakesTo came to taken.below turn.stepped = subst (MakesTo came to taken.below) (sym turn.steps) (step_makes came to taken e.core) in
       let same : turn.stepped.after.below ≡ taken.below = ap (λ (x : Outcome). x.after.below) turn.steps ∙ step_below taken e.core in
       let fast : MakesTo came to turn.stepped.after.below turn.fast =
@@ -158,7 +158,7 @@ module _ (came : Option Content) (to : ℕ) where
   -- ---- the end of a packet
 
   tracked : (e : Endpoint) (transfer : Transfer) (tracker : TrackerState) → e.below.transfer ≡ Some transfer → Alike tracker transfer.tracker → Makes came to e.below [] (with_tracker e transfer tracker).below
-  tracked e transfer tracker known alike = bit came to e.below (with_tracker e transfer tracker).below (λ queued sent read. actions.tracks transfer tracker known alike.cumulative alike.ranges)
+  tracked e transfer tracker known alike = action_of came to e.below (with_tracker e transfer tracker).below (λ queued sent read. actions.tracks transfer tracker known alike.cumulative alike.ranges)
 
   end_where_goes : (b : Bool) (e : Endpoint) (peer : Option Held) (transfer : Transfer) (tracker : TrackerState) (o : Outcome) → IsPeerTag e.core to → held_in e.core ≡ peer → e.below.transfer ≡ Some transfer → Alike tracker transfer.tracker
       → EndWhere b e peer transfer tracker o → Goes came to e o
@@ -187,4 +187,4 @@ module _ (came : Option Content) (to : ℕ) where
   pub loss_goes : (e : Endpoint) (transfer : Option Transfer) (o : Outcome) → e.below.transfer ≡ transfer → LossTurn e transfer o → Goes came to e o
   loss_goes e None o known turn = subst (Goes came to e) (sym turn) (goes_on refl (rests came to e.below))
   loss_goes e (Some transfer) o known turn =
-      subst (Goes came to e) (sym turn) (goes_on refl (bit came to e.below _ (λ queued sent read. actions.loses e.moment transfer known)))
+      subst (Goes came to e) (sym turn) (goes_on refl (action_of came to e.below _ (λ queued sent read. actions.loses e.moment transfer known)))

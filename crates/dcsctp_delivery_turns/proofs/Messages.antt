@@ -20,7 +20,7 @@ use Rattle.dcsctp_delivery_turns.specs.Actions.{ledger_of, with_below, Actions, 
 use Rattle.dcsctp_machine.specs.control.Effect.{link_in}
 use Rattle.dcsctp_delivery_turns.specs.Tags.{IsPeerTag}
 use Rattle.dcsctp_delivery_sending.specs.Queueing.{message_of}
-use Rattle.dcsctp_delivery_turns.proofs.Actions.{Goes, MakesTo, joined, both, bit, rests, makes_behind}
+use Rattle.dcsctp_delivery_turns.proofs.Actions.{Goes, MakesTo, joined, both, action_of, rests, makes_behind}
 use Rattle.dcsctp_delivery_turns.proofs.Fixed.{prepared_none, queue_all_core, refusal_none}
 use Rattle.dcsctp_delivery_turns.proofs.Data.{to_link, turn_link, flush_makes, to_makes}
 
@@ -33,7 +33,7 @@ module _ (came : Option Content) (to : ℕ) where
       subst (Goes came to e) (sym turn.is)
       (goes_on (turn_link base turn.flushed turn.flushes) (makes_behind came to e.below [] (prepare_all_events ids e.below.queue) turn.flushed (prepared_none ids e.below.queue)
       (both came to e.below base.below turn.flushed.after.below [] (packets_in turn.flushed.events)
-      (bit came to e.below base.below (λ queued sent read. actions.prepares ids)) (flush_makes came to base turn.flushed at turn.flushes))))
+      (action_of came to e.below base.below (λ queued sent read. actions.prepares ids)) (flush_makes came to base turn.flushed at turn.flushes))))
   resets_where_goes (Some refusal) e ids o at turn = subst (Goes came to e) (sym turn) (goes_on refl (rests came to e.below))
 
   pub own_resets_go : (e : Endpoint) (ids : List ℕ) (o : Outcome) → IsPeerTag e.core to → OwnResetsTurn e ids o → Goes came to e o

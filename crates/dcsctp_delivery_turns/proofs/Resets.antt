@@ -31,7 +31,7 @@ use Rattle.dcsctp_machine.specs.declared.capabilities.Capabilities.{Capabilities
 use Rattle.dcsctp_machine.specs.control.Effect.{Link, link_of, link_in}
 use Rattle.dcsctp_delivery_turns.proofs.Tags.{flush_link}
 use Rattle.dcsctp_delivery_turns.specs.Tags.{IsPeerTag}
-use Rattle.dcsctp_delivery_turns.proofs.Actions.{emits_link, Goes, MakesTo, both, bit, rests, silent, spoken, emitted, flushed}
+use Rattle.dcsctp_delivery_turns.proofs.Actions.{emits_link, Goes, MakesTo, both, action_of, rests, silent, spoken, emitted, flushed}
 use Rattle.dcsctp_delivery_turns.proofs.Handshake.{aborting_goes}
 use Rattle.dcsctp_delivery_turns.proofs.Data.{data_goes, i_data_goes, sack_goes, forward_goes, i_forward_goes, delay_goes, loss_goes}
 
@@ -74,12 +74,12 @@ module _ (came : Option Content) (to : ℕ) where
       → ResetsBelow performed in_progress reset transfer left → Makes came to old [] (with_left left old)
   left_makes true in_progress (Some reset) (Some transfer) left old known below =
       subst (λ (l : Option Transfer). Makes came to old [] (with_left l old)) (sym (below.1 ∙ ap (λ (t : Transfer). Some t) below.2.rest))
-      (bit came to old _ (λ queued sent read. actions.resets transfer reset.streams below.0.reassembly known below.2.reassembly))
+      (action_of came to old _ (λ queued sent read. actions.resets transfer reset.streams below.0.reassembly known below.2.reassembly))
   left_makes true in_progress (Some reset) None left old known below = same_left old left (below ∙ sym known)
   left_makes true in_progress None (Some transfer) left old known below = same_left old left (below ∙ sym known)
   left_makes true in_progress None None left old known below = same_left old left (below ∙ sym known)
   left_makes false true (Some reset) (Some transfer) left old known below =
-      subst (λ (l : Option Transfer). Makes came to old [] (with_left l old)) (sym below) (bit came to old _ (λ queued sent read. actions.defers transfer reset.last_tsn reset.streams known))
+      subst (λ (l : Option Transfer). Makes came to old [] (with_left l old)) (sym below) (action_of came to old _ (λ queued sent read. actions.defers transfer reset.last_tsn reset.streams known))
   left_makes false true (Some reset) None left old known below = same_left old left (below ∙ sym known)
   left_makes false true None (Some transfer) left old known below = same_left old left (below ∙ sym known)
   left_makes false true None None left old known below = same_left old left (below ∙ sym known)
@@ -91,8 +91,8 @@ module _ (came : Option Content) (to : ℕ) where
   worked_makes : (e : Endpoint) (answer : OwnAnswer) (held : Held) (left : Option Transfer) → Makes came to (with_left left e.below) [] (resets_worked e answer held left).below
   worked_makes e unanswered held left = rests came to _
   worked_makes e retried held left = rests came to _
-  worked_makes e was_performed held left = bit came to _ _ (λ queued sent read. actions.commits)
-  worked_makes e has_failed held left = bit came to _ _ (λ queued sent read. actions.rolls_back)
+  worked_makes e was_performed held left = action_of came to _ _ (λ queued sent read. actions.commits)
+  worked_makes e has_failed held left = action_of came to _ _ (λ queued sent read. actions.rolls_back)
 
   responses_make : (e : Endpoint) (held : Held) (responses : List ResetParameter) → MakesTo came to e.below (responses_outcome e held responses)
   responses_make e held [] = rests came to e.below

@@ -1,5 +1,5 @@
 -- A turn, as what it does to runs of two directions.
-use Rattle.dcsctp_delivery_directions.specs.Directions as ways
+use Rattle.dcsctp_delivery_directions.specs.Directions as directions
 use Rattle.std.proofs.Common.{◌≡◌, ◌<◌, ◌≤◌, ◌^◌, ℕ, zero, suc, Option, None, Some, List, [], ◌∷◌, ◌++◌, length, refl, sym, ap, subst, inl, inr, arith}
 use Rattle.std.specs.List.{AllByRecursion}
 use Rattle.dcsctp_machine.specs.declared.options.Options.{Options}
@@ -57,12 +57,12 @@ input_more e (timer_expires timer) queued = omega arith
 input_more e (time_passes moment) queued = omega arith
 input_more e (restores state) queued = omega arith
 
--- ---- ways that begin
+-- ---- directions that begin
 
-anew_runs : (options : Options) (first size : ℕ) (queued : List Message) (below : Below) → AllByRecursion Fits queued → QueueHolds queued [] below.queue → ways.NoneInFlight first below.transfer
+anew_runs : (options : Options) (first size : ℕ) (queued : List Message) (below : Below) → AllByRecursion Fits queued → QueueHolds queued [] below.queue → directions.NoneInFlight first below.transfer
     → Run options first size (new_direction options first size queued below 0 [])
 anew_runs options first size queued below fit queues none =
-    ways.begins (new_direction options first size queued below 0 [])
+    directions.begins (new_direction options first size queued below 0 [])
     (record { fit = fit; queues = queues; flight = none; acknowledged = refl; sent = refl; tracker = refl; reassembly = refl; read = refl })
 
 pub senders_begin : (mine options : Options) (first size : ℕ) → Run options first size (new_direction options first size [] (record { queue = empty_queue mine; transfer = None }) 0 [])
@@ -100,7 +100,7 @@ begun_queues e o begun queued queues =
 
 pub begins_anew : (options : Options) (first size : ℕ) (queued : List Message) (below : Below) → AllByRecursion Fits queued → QueueHolds queued [] below.queue → below.transfer ≡ None
     → Run options first size (new_direction options first size queued below 0 [])
-begins_anew options first size queued below fit queues none = anew_runs options first size queued below fit queues (subst (ways.NoneInFlight first) (sym none) tt)
+begins_anew options first size queued below fit queues none = anew_runs options first size queued below fit queues (subst (directions.NoneInFlight first) (sym none) tt)
 
 -- ---- the side that sends
 
@@ -137,7 +137,7 @@ module _ (options : Options) (first size : ℕ) (direction : Direction) (e : End
           → (acknowledged : ℕ) × Run other begun.my.first_tsn room (sender_at awaiting queued o.after.below acknowledged (packets_in o.events))
       later other room awaiting queued shown fit waits awaited =
           let start : Run other begun.my.first_tsn room (sender_at awaiting queued (begun_below e o begun) awaiting.acknowledged awaiting.sent) =
-          ways.starts awaiting queued (begun_below e o begun) waits awaited fit (begun_queues e o begun queued shown) (refl, refl) in
+          directions.starts awaiting queued (begun_below e o begun) waits awaited fit (begun_queues e o begun queued shown) (refl, refl) in
           let here : Run other begun.my.first_tsn room (sender_at awaiting queued (begun_below e o begun) 0 []) =
           subst (λ (g : ℕ). Run other begun.my.first_tsn room (sender_at awaiting queued (begun_below e o begun) g [])) awaited.acknowledged
           (subst (λ (l : List Emission). Run other begun.my.first_tsn room (sender_at awaiting queued (begun_below e o begun) awaiting.acknowledged l)) awaited.sent start) in

@@ -1,5 +1,5 @@
 -- The actions of a socket, as steps of its two directions.
-use Rattle.dcsctp_delivery_directions.specs.Directions as ways
+use Rattle.dcsctp_delivery_directions.specs.Directions as directions
 use Rattle.std.proofs.Common.{◌≡◌, ℕ, ◌+◌, Bool, true, false, Option, None, Some, List, [], ◌∷◌, refl, sym, ◌∙◌, ap, subst}
 use Rattle.dcsctp_wire.specs.Content.{data_chunk, forward_tsn_chunk}
 use Rattle.dcsctp_machine.specs.declared.options.Options.{Options}
@@ -110,34 +110,34 @@ flush_left _ _ _ _ _ transfer known (after_packet ask more e draft answer answer
     let second = flush_left later_ask more (asked e draft answer).after (next_draft e.core draft) answers first.left first.is rest in
     record { left = second.left; is = second.is; same = alike_then transfer first.left second.left first.same second.same }
 
--- ---- the way on which it sends
+-- ---- the direction on which it sends
 
 module _ (came : Option Content) (to : ℕ) (tracker : TrackerState) (reassembly : ReassemblyState) (read : List MessageContent) where
   by : (old new : Ledger) (acknowledged later : ℕ) → Step (sending old acknowledged tracker reassembly read) (sending new later tracker reassembly read) → SendingSteps old new acknowledged tracker reassembly read
   by old new acknowledged later step = record { later = later; steps = one_step (sending old acknowledged tracker reassembly read) (sending new later tracker reassembly read) step }
 
   action_sends : (old new : Ledger) (acknowledged : ℕ) → Action came to old new → SendingSteps old new acknowledged tracker reassembly read
-  action_sends old _ acknowledged (queues now message fits some) = by old _ acknowledged acknowledged (ways.queues now message fits some)
-  action_sends old _ acknowledged (sets setting) = by old _ acknowledged acknowledged (ways.sets setting)
-  action_sends old _ acknowledged (prepares ids) = by old _ acknowledged acknowledged (ways.prepares ids)
-  action_sends old _ acknowledged commits = by old _ acknowledged acknowledged ways.commits
-  action_sends old _ acknowledged rolls_back = by old _ acknowledged acknowledged ways.rolls_back
-  action_sends old _ acknowledged (flushes e draft answers same at tag no_data no_end allowed) = by old _ acknowledged acknowledged (ways.flushes e draft answers same no_data allowed)
+  action_sends old _ acknowledged (queues now message fits some) = by old _ acknowledged acknowledged (directions.queues now message fits some)
+  action_sends old _ acknowledged (sets setting) = by old _ acknowledged acknowledged (directions.sets setting)
+  action_sends old _ acknowledged (prepares ids) = by old _ acknowledged acknowledged (directions.prepares ids)
+  action_sends old _ acknowledged commits = by old _ acknowledged acknowledged directions.commits
+  action_sends old _ acknowledged rolls_back = by old _ acknowledged acknowledged directions.rolls_back
+  action_sends old _ acknowledged (flushes e draft answers same at tag no_data no_end allowed) = by old _ acknowledged acknowledged (directions.flushes e draft answers same no_data allowed)
   action_sends old _ acknowledged (resends now room transfer left tsns chunks emission tag known sends are contents) =
-      by old _ acknowledged acknowledged (ways.resends now room transfer left tsns chunks emission known sends are contents)
-  action_sends old _ acknowledged (resends_nothing now room transfer left tsns known sends) = by old _ acknowledged acknowledged (ways.resends_nothing now room transfer left tsns known sends)
-  action_sends old _ acknowledged (speaks emission no_data) = by old _ acknowledged acknowledged (ways.speaks emission no_data)
+      by old _ acknowledged acknowledged (directions.resends now room transfer left tsns chunks emission known sends are contents)
+  action_sends old _ acknowledged (resends_nothing now room transfer left tsns known sends) = by old _ acknowledged acknowledged (directions.resends_nothing now room transfer left tsns known sends)
+  action_sends old _ acknowledged (speaks emission no_data) = by old _ acknowledged acknowledged (directions.speaks emission no_data)
   action_sends old _ acknowledged (acknowledges now sack transfer new known valid does) =
-      by old _ acknowledged (acknowledged + acknowledged_by transfer.retransmission.outstanding sack.cumulative_tsn_ack) (ways.acknowledges now sack transfer new known valid does)
-  action_sends old _ acknowledged (loses now transfer known) = by old _ acknowledged acknowledged (ways.loses now transfer known)
-  action_sends old _ acknowledged (receives chunk transfer new is some known does) = by old _ acknowledged acknowledged (ways.turns_aside transfer new known (data_where _ _ transfer new does))
-  action_sends old _ acknowledged (receives_interleaved chunk transfer new is known does) = by old _ acknowledged acknowledged (ways.turns_aside transfer new known (data_where _ _ transfer new does))
-  action_sends old _ acknowledged (forwards tsn streams transfer new is known does) = by old _ acknowledged acknowledged (ways.turns_aside transfer new known (forward_where _ tsn _ transfer new does))
-  action_sends old _ acknowledged (forwards_interleaved tsn streams transfer new is known does) = by old _ acknowledged acknowledged (ways.turns_aside transfer new known (forward_where _ tsn _ transfer new does))
-  action_sends old _ acknowledged (tracks transfer tracked known cumulative ranges) = by old _ acknowledged acknowledged (ways.turns_aside transfer _ known refl)
-  action_sends old _ acknowledged (defers transfer last_tsn streams known) = by old _ acknowledged acknowledged (ways.turns_aside transfer _ known refl)
-  action_sends old _ acknowledged (resets transfer streams new known leaves) = by old _ acknowledged acknowledged (ways.turns_aside transfer _ known refl)
-  action_sends old _ acknowledged (takes transfer message messages known ready) = by old _ acknowledged acknowledged (ways.turns_aside transfer _ known refl)
+      by old _ acknowledged (acknowledged + acknowledged_by transfer.retransmission.outstanding sack.cumulative_tsn_ack) (directions.acknowledges now sack transfer new known valid does)
+  action_sends old _ acknowledged (loses now transfer known) = by old _ acknowledged acknowledged (directions.loses now transfer known)
+  action_sends old _ acknowledged (receives chunk transfer new is some known does) = by old _ acknowledged acknowledged (directions.turns_aside transfer new known (data_where _ _ transfer new does))
+  action_sends old _ acknowledged (receives_interleaved chunk transfer new is known does) = by old _ acknowledged acknowledged (directions.turns_aside transfer new known (data_where _ _ transfer new does))
+  action_sends old _ acknowledged (forwards tsn streams transfer new is known does) = by old _ acknowledged acknowledged (directions.turns_aside transfer new known (forward_where _ tsn _ transfer new does))
+  action_sends old _ acknowledged (forwards_interleaved tsn streams transfer new is known does) = by old _ acknowledged acknowledged (directions.turns_aside transfer new known (forward_where _ tsn _ transfer new does))
+  action_sends old _ acknowledged (tracks transfer tracked known cumulative ranges) = by old _ acknowledged acknowledged (directions.turns_aside transfer _ known refl)
+  action_sends old _ acknowledged (defers transfer last_tsn streams known) = by old _ acknowledged acknowledged (directions.turns_aside transfer _ known refl)
+  action_sends old _ acknowledged (resets transfer streams new known leaves) = by old _ acknowledged acknowledged (directions.turns_aside transfer _ known refl)
+  action_sends old _ acknowledged (takes transfer message messages known ready) = by old _ acknowledged acknowledged (directions.turns_aside transfer _ known refl)
 
   all_send : (old new : Ledger) (acknowledged : ℕ) → Actions came to old new → SendingSteps old new acknowledged tracker reassembly read
   all_send old _ acknowledged nothing = record { later = acknowledged; steps = stays }
@@ -153,7 +153,7 @@ pub actions_send : (came : Option Content) (to : ℕ) (old new : Ledger) (acknow
     → SendingSteps old new acknowledged tracker reassembly read
 actions_send came to old new acknowledged tracker reassembly read actions = all_send came to tracker reassembly read old new acknowledged actions
 
--- ---- the way on which it receives
+-- ---- the direction on which it receives
 
 module _ (came : Option Content) (to : ℕ) (direction : Direction) (was : WasSent direction.sent came) where
   -- where the same was received
@@ -164,7 +164,7 @@ module _ (came : Option Content) (to : ℕ) (direction : Direction) (was : WasSe
         is = is;
         steps = subst (λ (l : List MessageContent). Steps (receiving direction transfer old.read) (receiving direction left l)) (sym same)
             (subst (λ (r : ReassemblyState). Steps (receiving direction transfer old.read) (record direction { tracker = left.tracker; reassembly = r; read = old.read })) (sym like.reassembly)
-            (one_step (receiving direction transfer old.read) (record direction { tracker = left.tracker; reassembly = transfer.reassembly; read = old.read }) (ways.tracks left.tracker like.cumulative like.ranges)));
+            (one_step (receiving direction transfer old.read) (record direction { tracker = left.tracker; reassembly = transfer.reassembly; read = old.read }) (directions.tracks left.tracker like.cumulative like.ranges)));
       }
 
   by_step : (old new : Ledger) (transfer left : Transfer) → new.below.transfer ≡ Some left → Step (receiving direction transfer old.read) (receiving direction left new.read) → ReceivingSteps direction transfer old new
@@ -211,13 +211,13 @@ module _ (came : Option Content) (to : ℕ) (direction : Direction) (was : WasSe
       let same : found ≡ transfer = same_transfer old.below.transfer found transfer known is in
       let sent : WasIn direction.sent (data_chunk chunk) = subst (λ (c : Option Content). WasSent direction.sent c) came_is was in
       by_step old _ transfer new refl
-      (ways.receives sent.emission chunk found new sent.was sent.holds some (ap (λ (t : Transfer). t.tracker) same) (ap (λ (t : Transfer). t.reassembly) same) does)
+      (directions.receives sent.emission chunk found new sent.was sent.holds some (ap (λ (t : Transfer). t.tracker) same) (ap (λ (t : Transfer). t.reassembly) same) does)
   action_receives old _ transfer is (receives_interleaved chunk found new came_is known does) = absurd (subst (λ (c : Option Content). WasSent direction.sent c) came_is was)
   action_receives old _ transfer is (forwards tsn streams found new came_is known does) =
       let same : found ≡ transfer = same_transfer old.below.transfer found transfer known is in
       let sent : WasIn direction.sent (forward_tsn_chunk tsn streams) = subst (λ (c : Option Content). WasSent direction.sent c) came_is was in
       by_step old _ transfer new refl
-      (ways.forwards sent.emission tsn streams found new sent.was sent.holds (ap (λ (t : Transfer). t.tracker) same) (ap (λ (t : Transfer). t.reassembly) same) does)
+      (directions.forwards sent.emission tsn streams found new sent.was sent.holds (ap (λ (t : Transfer). t.tracker) same) (ap (λ (t : Transfer). t.reassembly) same) does)
   action_receives old _ transfer is (forwards_interleaved tsn streams found new came_is known does) = absurd (subst (λ (c : Option Content). WasSent direction.sent c) came_is was)
   action_receives old _ transfer is (tracks found tracked known cumulative ranges) =
       alike_receives old _ transfer _ refl refl (like (same_transfer old.below.transfer found transfer known is))
@@ -226,13 +226,13 @@ module _ (came : Option Content) (to : ℕ) (direction : Direction) (was : WasSe
       like same = subst (λ (t : Transfer). Alike t (record found { tracker = tracked })) same (record { cumulative = cumulative; ranges = ranges; reassembly = refl })
   action_receives old new transfer is (defers found last_tsn streams known) =
       subst (λ (t : Transfer). ReceivingSteps direction t old new) (same_transfer old.below.transfer found transfer known is)
-      (by_step old new found _ refl (ways.defers last_tsn streams))
+      (by_step old new found _ refl (directions.defers last_tsn streams))
   action_receives old new transfer is (resets found streams reassembly known leaves) =
       subst (λ (t : Transfer). ReceivingSteps direction t old new) (same_transfer old.below.transfer found transfer known is)
-      (by_step old new found _ refl (ways.resets streams reassembly leaves))
+      (by_step old new found _ refl (directions.resets streams reassembly leaves))
   action_receives old new transfer is (takes found message messages known ready) =
       subst (λ (t : Transfer). ReceivingSteps direction t old new) (same_transfer old.below.transfer found transfer known is)
-      (by_step old new found _ refl (ways.takes message messages ready))
+      (by_step old new found _ refl (directions.takes message messages ready))
 
   all_receive : (old new : Ledger) (transfer : Transfer) → old.below.transfer ≡ Some transfer → Actions came to old new → ReceivingSteps direction transfer old new
   all_receive old _ transfer is nothing = record { left = transfer; is = is; steps = stays }

@@ -60,7 +60,7 @@ tags_own core packet no_abort no_complete no_echo single e =
     ∙ ap (λ (c : Option Bool). admits_by core packet None c (has_shutdown_ack packet.contents) (is_echo_in_front packet.contents) (packet.tag == 0)) no_complete
     ∙ ap (λ (b : Bool). admits_by core packet None None (has_shutdown_ack packet.contents) b (packet.tag == 0)) no_echo) ∙ e)
 
--- ---- behind a COOKIE ECHO
+-- ---- after a COOKIE ECHO
 
 asking_tag : (core : Core) → own_tag (core_asking core) ≡ own_tag core
 asking_tag closed = refl

@@ -10,7 +10,7 @@ use Rattle.dcsctp_machine.specs.control.Acts.{Act, connect, t1_expires, shut_dow
 use Rattle.dcsctp_machine.specs.turns.TimerOutcomes.{t1_goes_on}
 use Rattle.dcsctp_delivery_turns.specs.Actions.{Becomes, goes_on, came_by, queued_after, read_after, IsCall, peer_tag}
 use Rattle.dcsctp_delivery_turns.specs.Tags.{IsPeerTag}
-use Rattle.dcsctp_delivery_turns.proofs.Actions.{Goes, rests, bit}
+use Rattle.dcsctp_delivery_turns.proofs.Actions.{Goes, rests, action_of}
 use Rattle.dcsctp_delivery_turns.proofs.Handshake.{again_link, init_goes, connect_goes, init_ack_goes, cookie_ack_goes, echo_goes, hand_over_goes, abort_goes, aborting_goes, again_goes, gives_up_goes}
 use Rattle.dcsctp_delivery_turns.proofs.Shutdown.{step_link, step_makes, shut_down_goes, shutdown_goes, shutdown_ack_goes, shutdown_complete_goes, t2_again_goes, begin_goes}
 use Rattle.dcsctp_delivery_turns.proofs.Data.{turn_link, flush_makes, end_goes}
@@ -54,7 +54,7 @@ turns_are_actions e (packet_begins contents) o may turn = begin_goes None (peer_
 turns_are_actions e (chunk_input tag content) o may turn = content_goes e tag content o turn
 turns_are_actions e packet_ends o may turn = end_goes None (peer_tag e.core) e e.below.transfer o (own_peer e.core) refl turn
 turns_are_actions e (act_input act) o may turn = act_goes e act o may turn
-turns_are_actions e (user_sets setting) o may turn = subst (Goes None (peer_tag e.core) e) (sym turn) (goes_on refl (bit None (peer_tag e.core) e.below _ (λ queued sent read. actions.sets setting)))
+turns_are_actions e (user_sets setting) o may turn = subst (Goes None (peer_tag e.core) e) (sym turn) (goes_on refl (action_of None (peer_tag e.core) e.below _ (λ queued sent read. actions.sets setting)))
 turns_are_actions e (user_sends messages) o may turn = send_goes None (peer_tag e.core) e messages o (own_peer e.core) may turn
 turns_are_actions e (user_resets ids) o may turn = own_resets_go None (peer_tag e.core) e ids o (own_peer e.core) turn
 turns_are_actions e user_takes o may turn = take_goes None (peer_tag e.core) e e.below.transfer o refl turn
