@@ -1,10 +1,13 @@
 //! An association with a peer (RFC 9260, section 14.2).
 
-ghost use Rattle.std.specs.Prelude.{◌≡◌, ◌==◌, Some, bit_or, is_some, IfOk};
+ghost use Rattle.std.specs.Prelude.{◌≡◌, ◌==◌, ◌+◌, ◌<◌, ◌^◌, Some, bit_or, is_some, length, IfOk};
 ghost use Rattle.dcsctp_machine.specs.Readiness.{reason_where, pending_stream_reset_request};
 ghost use Rattle.dcsctp_machine.specs.Settings.{IsValid};
 ghost use Rattle.dcsctp_machine.specs.Soundness.{IsSoundTransfer};
+ghost use Rattle.dcsctp_machine.specs.transfer.Chunks.{chunk_said};
+ghost use Rattle.dcsctp_machine.specs.transfer.Outstanding.{header_of};
 ghost use Rattle.dcsctp_machine.specs.transfer.Readiness.{transfer_readiness};
+ghost use Rattle.dcsctp_wire.specs.Content.{chunk_content};
 ghost use Rattle.dcsctp_core.specs.View.{held_of, number_of, IsNew};
 ghost use Rattle.dcsctp_core.specs.Flushing.{empty_packet};
 
@@ -13,7 +16,8 @@ use dcsctp_api::{
 };
 use dcsctp_machine::HandoverReadiness;
 use dcsctp_send_timer::Timer;
-use dcsctp_transfer::Transfer;
+use dcsctp_transfer::{DataToSend, Transfer, make_data_chunk};
+use dcsctp_wire::Chunk;
 use dcsctp_wire_build::SctpPacketBuilder;
 use std::alloc::{AllocError, Global};
 
@@ -130,6 +134,16 @@ impl TransmissionControlBlock {
             options.mtu,
         )?;
         Ok(builder.write_checksum(!self.capabilities.zero_checksum_enabled()))
+    }
+
+    /// The fragment under this TSN, as a chunk to the peer: I-DATA if interleaving was negotiated, else DATA (RFC 9260,
+    /// section 3.3.1; RFC 8260, section 2.1). With its header it has less than 65,536 bytes, by contract. Allocates
+    /// nothing.
+    pub fn make_data_chunk<'a>(&self, tsn: u32, fragment: &'a DataToSend) -> Chunk<'a>
+        requires { header_of self.now.capabilities.message_interleaving + length fragment.now.payload < 2 ^ 16 }
+        ensures { chunk_content result ≡ chunk_said self.now.capabilities.message_interleaving tsn fragment.now }
+    {
+        make_data_chunk(tsn, fragment, self.capabilities.message_interleaving)
     }
 
     /// Why the association can't be handed over to another process. `with_outstanding_data`: what is in

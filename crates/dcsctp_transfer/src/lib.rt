@@ -14,6 +14,8 @@ mod showing;
 mod transfer;
 
 pub use dcsctp_receive::{Data, Numbering, SkippedTo};
+pub use dcsctp_send::DataToSend;
 pub use queued_messages::QueuedMessages;
 pub use sacks::HandledSack;
+pub use sending::make_data_chunk;
 pub use transfer::Transfer;

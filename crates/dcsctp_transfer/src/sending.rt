@@ -187,13 +187,15 @@ fn add_chunk(queue: &RetransmissionQueue, tsn: u32, packet: &mut SctpPacketBuild
     ensures places { FindsPlaces queue.now.outstanding }
 {
     if let Some(fragment) = queue.chunk(tsn) {
-        packet.add(&chunk_of(tsn, fragment, queue.is_interleaving()));
+        packet.add(&make_data_chunk(tsn, fragment, queue.is_interleaving()));
     }
 }
 
-// What the fragment says under this TSN, as DATA or I-DATA.
+/// The fragment under this TSN, as I-DATA if interleaving was negotiated, else as DATA (RFC 9260, section 3.3.1; RFC 8260,
+/// section 2.1). It isn't to be acknowledged at once. With its header it has
+/// less than 65,536 bytes, by contract. Allocates nothing.
 #[inline(always)]
-fn chunk_of<'a>(tsn: u32, fragment: &'a DataToSend, interleaving: bool) -> Chunk<'a>
+pub fn make_data_chunk<'a>(tsn: u32, fragment: &'a DataToSend, interleaving: bool) -> Chunk<'a>
     requires { header_of interleaving + length fragment.now.payload < 2 ^ 16 }
     ensures says { chunk_content result ≡ chunk_said interleaving tsn fragment.now }
     ensures fits { FitsChunk (chunk_content result) }

@@ -8,5 +8,5 @@ returns-in_default-clause-adds c size has =
 
 pub returns-in-Some-clause-adds : goal.returns-in-Some-clause-adds
 returns-in-Some-clause-adds c =
-    adds_chunk c.args.queue.now.outstanding c.is_interleaving.result c.args.tsn c.in-Some.fragment.now (chunk_content c.chunk_of.result) c.args.packet.now c.add.new.self
-    c.is_interleaving.ensures c.chunk.ensures.places c.in-Some.ensures.found c.chunk_of.ensures.says c.chunk_of.ensures.fits c.chunk_of.ensures.size c.add.ensures
+    adds_chunk c.args.queue.now.outstanding c.is_interleaving.result c.args.tsn c.in-Some.fragment.now (chunk_content c.make_data_chunk.result) c.args.packet.now c.add.new.self
+    c.is_interleaving.ensures c.chunk.ensures.places c.in-Some.ensures.found c.make_data_chunk.ensures.says c.make_data_chunk.ensures.fits c.make_data_chunk.ensures.size c.add.ensures
