@@ -215,6 +215,22 @@ impl End {
         }
     }
 
+    /// Tells the socket this moment. Its events so far have been taken. Before its deadline nothing happens, and the
+    /// deadline stays. From then on there is a later one, or none.
+    pub fn advance(&mut self, rt: &impl Abort, now: SocketTime) {
+        let deadline = self.socket.poll_timeout();
+        self.socket.advance_time(now).expect(rt, "the time");
+        let next = self.socket.poll_timeout();
+        if now < deadline {
+            let event = self.socket.poll_event();
+            assert!(rt; event.is_none(), "before {deadline:?}: {event:?}");
+            drop(event);
+            assert_eq!(rt; next, deadline, "the deadline moves at {now:?}");
+        } else {
+            assert!(rt; now < next, "the deadline stays at {now:?}");
+        }
+    }
+
     /// Hands in the packets of the other end that have arrived. The messages of each are taken before the
     /// streams that it has reset are looked at.
     pub fn receive(&mut self, rt: &impl Abort, other: &mut End, now: SocketTime) {

@@ -14,8 +14,8 @@ const SEEDS: u64 = 20;
 
 // What happens at this moment.
 fn step(rt: &impl Abort, a: &mut End, b: &mut End, now: SocketTime) {
-    a.socket.advance_time(now).expect(rt, "the time of A");
-    b.socket.advance_time(now).expect(rt, "the time of B");
+    a.advance(rt, now);
+    b.advance(rt, now);
     a.drain(rt, now);
     b.drain(rt, now);
     b.receive(rt, a, now);
@@ -127,6 +127,7 @@ fn resets_are_over(rt: &impl Abort, run: &Run, end: &End, other: &End) {
 // What is the same of each run: A connects to B, both send all that they have, and come to rest.
 fn runs_between(rt: &impl Abort, alloc: Global, run: &Run, a: &mut End, b: &mut End) {
     a.socket.connect().expect(rt, "no association was begun");
+    a.drain(rt, SocketTime::zero());
     let has_rest = comes_to_rest(rt, alloc, run, a, b);
     assert!(rt; has_rest, "{}, seed {}: no rest", run.name, run.seed);
     a.is_over(rt, run, "A");
