@@ -8,9 +8,16 @@ pub mod FillLemmas
 pub mod FirstLemmas
 pub mod FlushLemmas
 pub mod ForwardLemmas
+pub mod GapLemmas
 pub mod LendingLemmas
+pub mod ListingLemmas
 pub mod LoopLemmas
 pub mod Moving
+pub mod PlaceLemmas
+pub mod RelistLemmas
 pub mod ResetLemmas
 pub mod RestLemmas
 pub mod SentLemmas
+pub mod SettingLemmas
+pub mod SevenLemmas
+pub mod TimeoutLemmas

@@ -5,9 +5,11 @@ pub mod Errors
 pub mod Flushing
 pub mod Handling
 pub mod Lending
+pub mod Listing
 pub mod Phases
 pub mod Reconfiguring
 pub mod Resetting
+pub mod Timeout
 pub mod Timing
 pub mod View
 pub use Rattle.dcsctp_api.specs.Events

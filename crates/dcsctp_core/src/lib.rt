@@ -4,6 +4,7 @@
 mod acknowledging;
 mod answering;
 mod context;
+mod deadlines;
 mod ending;
 mod expiry;
 mod flush;
@@ -13,13 +14,16 @@ mod reconfiguration;
 mod resetting;
 mod showing;
 mod state;
+mod timeout;
 mod transmission_control_block;
 mod tx_error_counter;
 
 pub use context::Context;
+pub use deadlines::{DeadlineKind, Deadlines, Entry, relist_tells, set_tells};
 pub use expiry::Expiry;
 pub use following::Following;
 pub use resetting::stream_bytes;
 pub use state::{CookieEchoState, CookieWaitState, OpenPhase, OpenState, ShutdownState, State};
+pub use timeout::{is_quiet, list_deadlines, poll_timeout};
 pub use transmission_control_block::{Peer, ResetRequest, TransmissionControlBlock};
 pub use tx_error_counter::TxErrorCounter;

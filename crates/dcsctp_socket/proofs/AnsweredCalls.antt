@@ -5,7 +5,7 @@ use Rattle.dcsctp_machine.specs.control.Acts.{abort_with}
 use Rattle.dcsctp_api.specs.declared.errors.SocketFault.{SocketFault}
 use Rattle.dcsctp_api.specs.Calls.{UserView, Connects, Follows, FailsWhole, Closes, RanOut}
 use Rattle.dcsctp_core.specs.declared.context.Context.{Context}
-use Rattle.dcsctp_core.specs.View.{View, view_of}
+use Rattle.dcsctp_core.specs.View.{View, view_of, call_start}
 use Rattle.dcsctp_socket_calls.specs.Parts.{WorksConnect, CallMoved, CallCut, ActTurns, WorksCall}
 use Rattle.dcsctp_socket.specs.SocketView.{Settles, user_view_of}
 use Rattle.dcsctp_machine.specs.declared.ends.AbortReason.TheVariants.{CloseCalled}
@@ -15,6 +15,10 @@ use Rattle.dcsctp_machine.specs.Endpoint.{Endpoint}
 use Rattle.dcsctp_machine.specs.CallTurns.{Turned}
 use Rattle.dcsctp_machine.specs.turns.MessageOutcomes.{sending_of}
 use Rattle.dcsctp_api.specs.declared.errors.BatchSendError.{BatchSendError}
+use Rattle.dcsctp_api.specs.declared.errors.HandoverError.{HandoverError}
+use Rattle.dcsctp_machine.specs.declared.snapshot.SocketHandoverState.{SocketHandoverState}
+use Rattle.dcsctp_api.specs.Handover.{HandsOver}
+use Rattle.dcsctp_socket_calls.specs.HandoverParts.{HandoverTurns, WorksHandover}
 use Rattle.dcsctp_api.specs.declared.errors.ResetStreamsError.{ResetStreamsError}
 use Rattle.dcsctp_api.specs.declared.errors.SendError.{SendError}
 use Rattle.dcsctp_api.specs.Messages.{Sends, SendsMany}
@@ -128,3 +132,22 @@ resets stream ids old new failed fails (Err error) answer runs cut settled =
     let now : UserView = user_view_of (record { view = view_of new; failed = fails }) in
     subst (λ (a : Result (Result (Unit {0}) ResetStreamsError) SocketFault). ResetsOwn ids was a now) (sym settled.0)
     (ran_out (ResetTurns ids) (view_of old) (view_of new) failed fails cut runs settled.1)
+
+-- ---- handover
+
+pub hands_over : {R E : Type 0} (stream : R → Stream) (old new : Context R) (failed fails : Bool)
+    (result : Result (Result SocketHandoverState HandoverError) E) (answer : Result (Result SocketHandoverState HandoverError) SocketFault) → failed ≡ false → WorksHandover stream old result new → Settles failed result answer fails
+    → HandsOver (user_view_of (record { view = view_of old; failed = failed })) answer (user_view_of (record { view = view_of new; failed = fails }))
+hands_over stream old new failed fails (Ok value) answer runs worked settled =
+    let was : UserView = user_view_of (record { view = view_of old; failed = failed }) in
+    let now : UserView = user_view_of (record { view = view_of new; failed = fails }) in
+    subst (λ (a : Result (Result SocketHandoverState HandoverError) SocketFault). HandsOver was a now) (sym settled.0)
+    (worked.0, worked.1.turns, worked.1.are, follows stream HandoverTurns (view_of old) (view_of new) failed fails worked.1 runs settled.1)
+hands_over {R = R} stream old new failed fails (Err error) answer runs same settled =
+    let was : UserView = user_view_of (record { view = view_of old; failed = failed }) in
+    let now : UserView = user_view_of (record { view = view_of new; failed = fails }) in
+    let only : now ≡ record was { words = now.words; pairs = now.pairs; failed = true } =
+    subst (λ (v : View R). user_view_of (record { view = v; failed = fails }) ≡ record was { words = v.words; pairs = v.pairs; failed = true }) (sym same)
+    (ap (λ (f : Bool). user_view_of (record { view = call_start (view_of old); failed = f })) settled.1) in
+    let out : FailsWhole was now = record { runs = runs; only = only } in
+    subst (λ (a : Result (Result SocketHandoverState HandoverError) SocketFault). HandsOver was a now) (sym settled.0) out

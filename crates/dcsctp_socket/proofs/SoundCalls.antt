@@ -1,12 +1,12 @@
 -- Each call keeps the tags of a socket's association other than 0, and its zero checksum method that of the options or none, unless
 -- an allocation fails.
-use Rattle.std.proofs.Common.{◌≡◌, ℕ, Bool, true, false, Result, Ok, Err, Option, List, [], ◌∷◌, refl, sym, subst}
+use Rattle.std.proofs.Common.{◌≡◌, ℕ, max, Bool, true, false, Result, Ok, Err, Option, List, [], ◌∷◌, refl, sym, subst}
 use Rattle.rand_core.specs.Stream.{Stream}
 use Rattle.dcsctp_machine.specs.declared.ends.AbortReason.TheVariants.{CloseCalled}
 use Rattle.dcsctp_machine.specs.declared.message.SendOptions.{SendOptions}
 use Rattle.dcsctp_machine.specs.declared.snapshot.SocketHandoverState.{SocketHandoverState}
 use Rattle.dcsctp_machine.specs.CallTurns.{Turned, turned, after_all}
-use Rattle.dcsctp_machine.specs.Turn.{user_sets, user_takes}
+use Rattle.dcsctp_machine.specs.Turn.{clock_at, user_sets, user_takes}
 use Rattle.dcsctp_machine.specs.declared.message.Message.{Message}
 use Rattle.dcsctp_machine.specs.Endpoint.{Endpoint}
 use Rattle.dcsctp_machine.specs.Schedule.{CallContent, connect_call, close_call, shutdown_call, advance_call, set_call, send_call, send_many_call, reset_call, take_call, hand_over_call}
@@ -23,13 +23,16 @@ use Rattle.dcsctp_api.specs.declared.errors.ResetStreamsError.{ResetStreamsError
 use Rattle.dcsctp_api.specs.declared.errors.RestoreError.{RestoreError}
 use Rattle.dcsctp_api.specs.declared.errors.SendError.{SendError}
 use Rattle.dcsctp_core.specs.declared.context.Context.{Context}
-use Rattle.dcsctp_core.specs.View.{View, view_of, CallMoves}
+use Rattle.dcsctp_core.specs.View.{View, view_of, endpoint_of, call_start, CallMoves}
 use Rattle.dcsctp_socket.specs.SocketView.{Settles}
 use Rattle.dcsctp_socket_calls.specs.HandoverParts.{WorksHandover, WorksRestore}
 use Rattle.dcsctp_socket_calls.specs.MessageParts.{WorksSend, WorksSendMany, WorksTake}
 use Rattle.dcsctp_socket_calls.specs.Parts.{WorksInput, WorksConnect, WorksCall, ActTurns, WorksSetting, set_view}
 use Rattle.dcsctp_socket_calls.specs.ResetParts.{WorksReset}
-use Rattle.dcsctp_socket_calls.specs.TimeParts.{WorksTime}
+use Rattle.dcsctp_socket_calls.specs.TimeParts.{TimeMoves, WorksTime}
+use Rattle.dcsctp_core.specs.declared.deadlines.Entry.{Entry}
+use Rattle.dcsctp_core.specs.Timeout.{IsTold}
+use Rattle.dcsctp_core.proofs.TimeoutLemmas.{told_kept}
 
 -- the endpoint of a socket's parts
 abbrev SoundContext : {R : Type 0} → Context R → Type 0
@@ -116,3 +119,18 @@ pub take_sound : {R : Type 0} → CallsKeepSoundness → (old new : Context R) (
 take_sound {R} law old new result sound taken =
     subst (λ (v : View R). IsSound v.endpoint) (sym taken.is)
     (law.calls (view_of old).endpoint take_call (turned user_takes taken.outcome ∷ []) (record { is = refl; comes = taken.turn }, tt) sound)
+
+-- ---- a moment at which nothing is due
+
+pub clock_sound : {R : Type 0} → CallsKeepSoundness → (stream : R → Stream) (old new : Context R) → SoundContext old → (moment : ℕ) → TimeMoves stream moment (view_of old) (view_of new) → SoundContext new
+clock_sound law stream old new sound moment moved = after_call law stream old new sound (advance_call moment) moved.turns moved.are moved.moves
+
+-- The clock has moved, and nothing else.
+abbrev pub OnlyClock : {R : Type 0} → Context R → ℕ → Context R → Type 0
+OnlyClock old moment new = view_of new ≡ record (call_start (view_of old)) { endpoint = clock_at (max old.moment moment) (endpoint_of old) }
+
+-- So the list keeps what counts.
+pub clock_told : {R : Type 0} (old new : Context R) (moment : ℕ) (entries : List Entry) → OnlyClock old moment new → IsTold (endpoint_of old) entries → IsTold (endpoint_of new) entries
+clock_told {R} old new moment entries only told =
+    subst (λ (v : View R). IsTold v.endpoint entries) (sym only)
+    (told_kept (endpoint_of old) (clock_at (max old.moment moment) (endpoint_of old)) entries refl refl refl refl told)

@@ -8,8 +8,7 @@ use dcsctp_api::{
     Options, Pair, ResetStreamsError, RestoreError, SendError, SendOptions, SocketEvent,
     SocketFault, SocketState, SocketTime, StreamId, Word,
 };
-use dcsctp_core::Context;
-use dcsctp_core_decisions::poll_timeout;
+use dcsctp_core::{Context, Deadlines, is_quiet, list_deadlines, poll_timeout};
 use dcsctp_machine::{calls_keep_soundness, time_passes_quietly};
 use rand_core::Rng;
 use std::alloc::{AllocError, Global};
@@ -23,6 +22,9 @@ pub struct Socket<R> {
     context: Box<Context<R>>,
 
     failed: bool,
+
+    // The running deadlines. Each call that may move a timer ends by making the list anew.
+    deadlines: Deadlines,
 }
 
 // Written out, so that the drop of all that a socket holds is proved here once, and not in each crate that
@@ -33,6 +35,7 @@ impl<R: Drop> Drop for Socket<R> {
             name: _,
             context: _,
             failed: _,
+            deadlines: _,
         } = self;
     }
 }
@@ -40,15 +43,17 @@ impl<R: Drop> Drop for Socket<R> {
 impl<R> Model for Socket<R> {
     ghost use Rattle.std.specs.Prelude.{◌≡◌, false};
     ghost use Rattle.dcsctp_machine.specs.Soundness.{IsSound};
-    ghost use Rattle.dcsctp_core.specs.View.{view_of};
+    ghost use Rattle.dcsctp_core.specs.Timeout.{IsTold};
+    ghost use Rattle.dcsctp_core.specs.View.{endpoint_of, view_of};
     ghost use Rattle.dcsctp_socket.specs.SocketView.{SocketView};
 
     ghost Value = { SocketView R };
 
     ghost view = { λ s. record { view = view_of s.context.value; failed = s.failed } };
 
-    // So that its snapshots are valid.
-    ghost invariant = { λ s. s.failed ≡ false → IsSound (view_of s.context.value).endpoint };
+    // So that its snapshots are valid, and the list has the deadlines that count, of a socket that has failed
+    // too.
+    ghost invariant = { λ s. (s.failed ≡ false → IsSound (view_of s.context.value).endpoint) × IsTold (endpoint_of s.context.value) s.deadlines };
 }
 
 // The result of a call. Once an allocation has failed, the socket has failed for good.
@@ -89,6 +94,7 @@ impl<R: Rng + Drop> Socket<R> {
             name,
             context,
             failed: false,
+            deadlines: Deadlines::new(),
         })
     }
 
@@ -179,6 +185,7 @@ impl<R: Rng + Drop> DcSctpSocket for Socket<R> {
         }
         calls_keep_soundness();
         let outcome = dcsctp_socket_calls::handle_input(&mut self.context, packet);
+        list_deadlines(&self.context, &mut self.deadlines);
         settled(&mut self.failed, outcome)
     }
 
@@ -197,6 +204,7 @@ impl<R: Rng + Drop> DcSctpSocket for Socket<R> {
         }
         calls_keep_soundness();
         let outcome = dcsctp_socket_calls::connect(&mut self.context);
+        list_deadlines(&self.context, &mut self.deadlines);
         settled(&mut self.failed, outcome)
     }
 
@@ -215,6 +223,7 @@ impl<R: Rng + Drop> DcSctpSocket for Socket<R> {
         }
         calls_keep_soundness();
         let outcome = dcsctp_socket_calls::close(&mut self.context);
+        list_deadlines(&self.context, &mut self.deadlines);
         settled(&mut self.failed, outcome)
     }
 
@@ -233,6 +242,7 @@ impl<R: Rng + Drop> DcSctpSocket for Socket<R> {
         }
         calls_keep_soundness();
         let outcome = dcsctp_socket_calls::shutdown(&mut self.context);
+        list_deadlines(&self.context, &mut self.deadlines);
         settled(&mut self.failed, outcome)
     }
 
@@ -252,14 +262,19 @@ impl<R: Rng + Drop> DcSctpSocket for Socket<R> {
         }
         calls_keep_soundness();
         time_passes_quietly();
+        if is_quiet(&self.context, &self.deadlines, now) {
+            dcsctp_socket_calls::move_clock(&mut self.context, now);
+            return Ok(());
+        }
         let outcome = dcsctp_socket_calls::advance_time(&mut self.context, now);
+        list_deadlines(&self.context, &mut self.deadlines);
         settled(&mut self.failed, outcome)
     }
 
     fn poll_timeout(&self) -> SocketTime
         ensures { result ≡ next_moment self.now.view.endpoint }
     {
-        poll_timeout(&self.context)
+        poll_timeout(&self.context, &self.deadlines)
     }
 
     fn send(
@@ -279,6 +294,7 @@ impl<R: Rng + Drop> DcSctpSocket for Socket<R> {
         }
         calls_keep_soundness();
         let outcome = dcsctp_socket_calls::send(&mut self.context, message, options);
+        list_deadlines(&self.context, &mut self.deadlines);
         settled(&mut self.failed, outcome)
     }
 
@@ -299,6 +315,7 @@ impl<R: Rng + Drop> DcSctpSocket for Socket<R> {
         }
         calls_keep_soundness();
         let outcome = dcsctp_socket_calls::send_many(&mut self.context, messages, options);
+        list_deadlines(&self.context, &mut self.deadlines);
         settled(&mut self.failed, outcome)
     }
 
@@ -320,6 +337,7 @@ impl<R: Rng + Drop> DcSctpSocket for Socket<R> {
         }
         calls_keep_soundness();
         let outcome = dcsctp_socket_calls::reset_streams(&mut self.context, stream_ids);
+        list_deadlines(&self.context, &mut self.deadlines);
         settled(&mut self.failed, outcome)
     }
 
@@ -364,6 +382,7 @@ impl<R: Rng + Drop> DcSctpSocket for Socket<R> {
         }
         calls_keep_soundness();
         let outcome = dcsctp_socket_calls::get_handover_state_and_close(&mut self.context);
+        list_deadlines(&self.context, &mut self.deadlines);
         settled(&mut self.failed, outcome)
     }
 
@@ -386,6 +405,7 @@ impl<R: Rng + Drop> DcSctpSocket for Socket<R> {
         }
         calls_keep_soundness();
         let outcome = dcsctp_socket_calls::restore_from_state(&mut self.context, state);
+        list_deadlines(&self.context, &mut self.deadlines);
         settled(&mut self.failed, outcome)
     }
 

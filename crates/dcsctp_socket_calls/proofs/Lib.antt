@@ -3,6 +3,7 @@ mod ActLemmas
 mod CallLemmas
 mod ChunkLemmas
 mod ChunkLoop
+mod ClockLemmas
 mod DataTurns
 mod DispatchLemmas
 mod ExpiryLemmas

@@ -20,20 +20,20 @@ use Rattle.dcsctp_socket_calls.proofs.CallLemmas.{adds_begun}
 -- ---- the call
 
 -- the turns of a moment that isn't earlier
-abbrev moment_turns : Endpoint → ℕ → List Turned → List Turned
+abbrev pub moment_turns : Endpoint → ℕ → List Turned → List Turned
 moment_turns e moment due = turned (time_passes moment) (still (clock_at moment e)) ∷ due
 
-moment_are : (e : Endpoint) (moment : ℕ) (due : List Turned) → e.moment ≤ moment → DueTurns (clock_at moment e) due → AdvanceTurns e moment (moment_turns e moment due)
+pub moment_are : (e : Endpoint) (moment : ℕ) (due : List Turned) → e.moment ≤ moment → DueTurns (clock_at moment e) due → AdvanceTurns e moment (moment_turns e moment due)
 moment_are e moment due later are =
     subst (λ (b : Bool). TimeTurns b e moment (moment_turns e moment due)) (let is : true ≡ nat_le e.moment moment = grind arith in is)
     (record { is = refl; comes = refl }, are)
 
-clock_moves : {R : Type 0} (stream : R → Stream) (a : View R) (moment : ℕ) → MovesAll stream a (turned (time_passes moment) (still (clock_at moment a.endpoint)) ∷ []) (record a { endpoint = clock_at moment a.endpoint })
+pub clock_moves : {R : Type 0} (stream : R → Stream) (a : View R) (moment : ℕ) → MovesAll stream a (turned (time_passes moment) (still (clock_at moment a.endpoint)) ∷ []) (record a { endpoint = clock_at moment a.endpoint })
 clock_moves stream a moment =
     record { endpoint = refl; events = sym (append-nil a.events); words = sym (append-nil a.words); pairs = sym (append-nil a.pairs); drawn = refl }
 
 -- the view as a call begins, with its clock moved
-abbrev view_at : {R : Type 0} → ℕ → View R → View R
+abbrev pub view_at : {R : Type 0} → ℕ → View R → View R
 view_at moment view = record view { endpoint = clock_at moment view.endpoint }
 
 -- The clock was moved, and what was due had its turns.

@@ -17,3 +17,4 @@ pub use calls::{advance_time, close, connect, handle_input, shutdown};
 pub use handover::{get_handover_state_and_close, restore_from_state};
 pub use messages::{get_next_message, reset_streams, send, send_many};
 pub use settings::{set_buffered_amount_low_threshold, set_max_message_size, set_stream_priority};
+pub use timers::move_clock;

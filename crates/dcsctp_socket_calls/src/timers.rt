@@ -1,13 +1,14 @@
 //! Which timers are due, and what follows them.
 
-ghost use Rattle.std.specs.Prelude.{◌≡◌, [], ◌∷◌, IsOk, map};
+ghost use Rattle.std.specs.Prelude.{◌≡◌, [], ◌∷◌, max, IsOk, map};
 ghost use Rattle.dcsctp_machine.specs.TimeTurns.{timers_in, NoneIsDue, DueTurns};
-ghost use Rattle.dcsctp_machine.specs.Turn.{act_input};
+ghost use Rattle.dcsctp_machine.specs.Turn.{act_input, clock_at};
 ghost use Rattle.dcsctp_machine.specs.control.Acts.{flushes};
 ghost use Rattle.dcsctp_core.specs.Timing.{Expires};
-ghost use Rattle.dcsctp_core.specs.View.{core_of, endpoint_of};
-ghost use Rattle.dcsctp_socket_calls.specs.TimeParts.{timer_in, WorksTurns, EndTurns, TurnsBehind};
+ghost use Rattle.dcsctp_core.specs.View.{call_start, core_of, endpoint_of, view_of};
+ghost use Rattle.dcsctp_socket_calls.specs.TimeParts.{timer_in, EndTurns, TimeMoves, TurnsBehind, WorksTurns};
 
+use dcsctp_api::SocketTime;
 use dcsctp_core::{Context, State};
 use dcsctp_core_data::{handle_acknowledgement_delay, handle_retransmission};
 use dcsctp_core_ends::abort_association;
@@ -137,4 +138,19 @@ pub(crate) fn handle_timers<R: Rng>(context: &mut Context<R>) -> Result<(), Allo
         end_where_held(context)?;
     }
     Ok(())
+}
+
+/// Moves the clock to `now`, where no timer is due then. An earlier moment changes nothing.
+pub fn move_clock<R: Rng>(context: &mut Context<R>, now: SocketTime)
+    requires { NoneIsDue (clock_at now (endpoint_of context.old)) (timers_in (core_of context.old.state)) }
+    ensures turn { TimeMoves R.stream now (view_of context.old) (view_of context.new) }
+    ensures only { view_of context.new ≡ record (call_start (view_of context.old)) {
+      endpoint = clock_at (max context.old.moment now) (endpoint_of context.old);
+    } }
+{
+    context.begin_call();
+    if now < context.moment {
+        return;
+    }
+    context.moment = now;
 }

@@ -23,6 +23,8 @@ mod damaged_init;
 #[cfg(test)]
 mod data_bytes;
 #[cfg(test)]
+mod deadlines;
+#[cfg(test)]
 mod driving;
 #[cfg(test)]
 mod forward_tsn;

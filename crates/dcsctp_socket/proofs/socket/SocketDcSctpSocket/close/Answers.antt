@@ -1,7 +1,8 @@
 use Rattle.std.proofs.Common.{subst}
 use Rattle.dcsctp_api.specs.Calls.{Closes}
 use Rattle.dcsctp_core.specs.declared.context.Context.{Context}
-use Rattle.dcsctp_core.specs.View.{view_of}
+use Rattle.dcsctp_core.specs.Timeout.{IsTold}
+use Rattle.dcsctp_core.specs.View.{endpoint_of, view_of}
 use Rattle.dcsctp_socket.specs.SocketView.{SocketView, user_view_of}
 use Rattle.dcsctp_machine.specs.declared.ends.AbortReason.TheVariants.{CloseCalled}
 use Rattle.dcsctp_machine.specs.control.Acts.{abort_with}
@@ -20,7 +21,10 @@ returns-clause-call g c =
     c.settled.ensures)
 
 pub invariant_of-self : goal.invariant_of-self
-invariant_of-self g c = λ goes_on.
-    close_sound c.calls_keep_soundness.ensures g.R.Rng.stream c.self.inside.context.value c.close-outcome.new.context c.self.inside.failed c.settled.new.failed (c.self.invariant c.if-self.false) goes_on
-    c.close-outcome.result c.settled.result
-    (subst (λ (x : Context g.row.R.Denot). WorksCall g.R.Rng.stream (ActTurns (abort_with CloseCalled)) x c.close-outcome.result c.close-outcome.new.context) c.deref_mut.ensures.value c.close-outcome.ensures.turn) c.settled.ensures
+invariant_of-self g c = (
+  λ goes_on.
+      close_sound c.calls_keep_soundness.ensures g.R.Rng.stream c.self.inside.context.value c.close-outcome.new.context c.self.inside.failed c.settled.new.failed (c.self.invariant.0 c.if-self.false) goes_on
+      c.close-outcome.result c.settled.result
+      (subst (λ (x : Context g.row.R.Denot). WorksCall g.R.Rng.stream (ActTurns (abort_with CloseCalled)) x c.close-outcome.result c.close-outcome.new.context) c.deref_mut.ensures.value c.close-outcome.ensures.turn) c.settled.ensures,
+  subst (λ (x : Context g.row.R.Denot). IsTold (endpoint_of x) c.list_deadlines.new.deadlines) c.deref.ensures c.list_deadlines.ensures,
+)

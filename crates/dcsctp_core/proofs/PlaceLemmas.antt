@@ -1,0 +1,227 @@
+-- Lemmas about the place of an entry in a list of deadlines.
+use Rattle.std.proofs.Common.{◌≡◌, ℕ, suc, zero, ◌+◌, ◌-◌, ◌<◌, ◌≤◌, Bool, true, false, Option, None, Some, List, [], ◌∷◌, ◌++◌, length, get_or, take, drop, set, refl, sym, ap, ap₂, subst, ◌∙◌, arith, get_or-take, get_or-set_same, length-set, length-take-le}
+use Rattle.std.specs.Prelude.{if◌then◌else◌, nat_lt}
+use Rattle.std.proofs.lemmas.Bool.Decides.{nat_tests}
+use Rattle.std.proofs.lemmas.List.{take_more, take_more_set, take-set-le, take-take, take-append-drop}
+use Rattle.dcsctp_core.specs.declared.deadlines.DeadlineKind.{DeadlineKind}
+use Rattle.dcsctp_core.specs.declared.deadlines.Entry.{Entry}
+use Rattle.dcsctp_core.specs.Listing.{is_before, is_same, listed, besides, place_of, placed, rank, without, AllBelow, IsAbsent, IsFirst, IsListing, EndsBefore, BeginsAfter}
+use Rattle.dcsctp_core.proofs.GapLemmas.{from_place, gap_filled}
+use Rattle.dcsctp_core.proofs.ListingLemmas.{before-total, same-sym, first-absent, same-absent}
+
+-- ---- looking for a kind
+
+place-append : (kind : DeadlineKind) (xs ys : List Entry) → place_of kind xs ≡ length xs → place_of kind (xs ++ ys) ≡ length xs + place_of kind ys
+place-append kind [] ys none = omega arith
+place-append kind (x ∷ xs) ys none = go (is_same kind x.kind) none (place-append kind xs ys)
+  where
+    go : (same : Bool) → (if same then 0 else suc (place_of kind xs)) ≡ suc (length xs) → (place_of kind xs ≡ length xs → place_of kind (xs ++ ys) ≡ length xs + place_of kind ys)
+        → (if same then 0 else suc (place_of kind (xs ++ ys))) ≡ suc (length xs) + place_of kind ys
+    go true none rest = absurd (omega (arith, none))
+    go false none rest = omega (arith, rest (omega (arith, none)))
+
+-- one entry further
+pub place_further : (kind : DeadlineKind) (xs : List Entry) (i : ℕ) (d : Entry) → i < length xs → place_of kind (take i xs) ≡ i → is_same kind (get_or xs i d).kind ≡ false
+    → place_of kind (take (i + 1) xs) ≡ i + 1
+place_further kind xs i d within none other =
+    let x = get_or xs i d in
+    ap (place_of kind) (take_more xs i d within) ∙ place-append kind (take i xs) (x ∷ []) (none ∙ sym (length-take-le i xs (omega arith)))
+    ∙ ap₂ ◌+◌ (length-take-le i xs (omega arith)) (ap (λ b. if b then 0 else 1) other)
+
+pub place_found : (kind : DeadlineKind) (xs : List Entry) (i n : ℕ) (d : Entry) → i < n → n ≤ length xs → place_of kind (take i xs) ≡ i → is_same kind (get_or xs i d).kind ≡ true
+    → i ≡ place_of kind (take n xs)
+place_found kind xs i n d below within none same =
+    let rest = drop (i + 1) (take n xs) in
+    let parts : take n xs ≡ take i xs ++ get_or xs i d ∷ rest =
+    sym (take-append-drop i (take n xs)) ∙ ap₂ ◌++◌ (take-take i n xs (omega arith)) (from_place xs i n d below within) in
+    sym (ap (place_of kind) parts ∙ place-append kind (take i xs) (get_or xs i d ∷ rest) (none ∙ sym (length-take-le i xs (omega arith)))
+    ∙ ap₂ ◌+◌ (length-take-le i xs (omega arith)) (ap (λ b. if b then 0 else suc (place_of kind rest)) same) ∙ omega arith)
+
+pub place-within : (kind : DeadlineKind) (xs : List Entry) → place_of kind xs ≤ length xs
+place-within kind [] = omega arith
+place-within kind (x ∷ xs) = go (is_same kind x.kind) (place-within kind xs)
+  where
+    go : (same : Bool) → place_of kind xs ≤ length xs → (if same then 0 else suc (place_of kind xs)) ≤ suc (length xs)
+    go true rest = omega arith
+    go false rest = omega (arith, rest)
+
+-- none is of the kind
+pub place-absent : (kind : DeadlineKind) (xs : List Entry) → place_of kind xs ≡ length xs → IsAbsent kind xs
+place-absent kind [] none = tt
+place-absent kind (x ∷ xs) none = go (is_same kind x.kind) refl none (place-absent kind xs)
+  where
+    go : (same : Bool) → is_same kind x.kind ≡ same → (if same then 0 else suc (place_of kind xs)) ≡ suc (length xs) → (place_of kind xs ≡ length xs → IsAbsent kind xs)
+        → (is_same kind x.kind ≡ false) × IsAbsent kind xs
+    go true same none rest = absurd (omega (arith, none))
+    go false other none rest = (other, rest (omega (arith, none)))
+
+pub absent-without : (kind : DeadlineKind) (xs : List Entry) → IsAbsent kind xs → without kind xs ≡ xs
+absent-without kind [] absent = refl
+absent-without kind (x ∷ xs) absent =
+    ap (λ b. if b then without kind xs else x ∷ without kind xs) absent.0 ∙ ap (λ l. x ∷ l) (absent-without kind xs absent.1)
+
+-- the deadline of a kind, by its place
+listed-at : (kind : DeadlineKind) (xs : List Entry) (d : Entry) → place_of kind xs < length xs → listed kind xs ≡ Some (get_or xs (place_of kind xs) d).moment
+listed-at kind [] d some = absurd (omega (arith, some))
+listed-at kind (x ∷ xs) d some = go (is_same kind x.kind) some (listed-at kind xs d)
+  where
+    go : (same : Bool) → (if same then 0 else suc (place_of kind xs)) < suc (length xs)
+        → (place_of kind xs < length xs → listed kind xs ≡ Some (get_or xs (place_of kind xs) d).moment)
+        → (if same then Some x.moment else listed kind xs) ≡ Some (get_or (x ∷ xs) (if same then 0 else suc (place_of kind xs)) d).moment
+    go true some rest = refl
+    go false some rest = rest (omega (arith, some))
+
+pub listed_at : (kind : DeadlineKind) (xs : List Entry) (n p : ℕ) (d : Entry) → n ≤ length xs → p ≡ place_of kind (take n xs) → p < n → Some (get_or xs p d).moment ≡ listed kind (take n xs)
+listed_at kind xs n p d within is below =
+    ap (λ (x : Entry). Some x.moment) (sym (get_or-take n xs p d below) ∙ ap (λ q. get_or (take n xs) q d) is)
+    ∙ sym (listed-at kind (take n xs) d (omega (arith, is, length-take-le n xs within)))
+
+listed-absent : (kind : DeadlineKind) (xs : List Entry) → IsAbsent kind xs → listed kind xs ≡ None
+listed-absent kind [] absent = refl
+listed-absent kind (x ∷ xs) absent = ap (λ b. if b then Some x.moment else listed kind xs) absent.0 ∙ listed-absent kind xs absent.1
+
+pub listed_nowhere : (kind : DeadlineKind) (xs : List Entry) → place_of kind xs ≡ length xs → listed kind xs ≡ None
+listed_nowhere kind xs none = listed-absent kind xs (place-absent kind xs none)
+
+-- ---- the others
+
+others-without : (kind : DeadlineKind) (xs : List Entry) → place_of kind xs < length xs → IsListing xs
+    → take (place_of kind xs) xs ++ drop (place_of kind xs + 1) xs ≡ without kind xs
+others-without kind [] some is = absurd (omega (arith, some))
+others-without kind (x ∷ xs) some is = go (is_same kind x.kind) refl some (λ more. others-without kind xs more is.1)
+  where
+    go : (same : Bool) → is_same kind x.kind ≡ same → (if same then 0 else suc (place_of kind xs)) < suc (length xs)
+        → (place_of kind xs < length xs → take (place_of kind xs) xs ++ drop (place_of kind xs + 1) xs ≡ without kind xs)
+        → take (if same then 0 else suc (place_of kind xs)) (x ∷ xs) ++ drop ((if same then 0 else suc (place_of kind xs)) + 1) (x ∷ xs) ≡ (if same then without kind xs else x ∷ without kind xs)
+    go true same some rest = sym (absent-without kind xs (same-absent kind x.kind xs same (first-absent x xs is.0)))
+    go false other some rest =
+        let behind : suc (place_of kind xs) + 1 ≡ suc (place_of kind xs + 1) = omega arith in
+        ap (λ n. x ∷ take (place_of kind xs) xs ++ drop n (x ∷ xs)) behind ∙ ap (λ l. x ∷ l) (rest (omega (arith, some)))
+
+pub others_without : (kind : DeadlineKind) (xs : List Entry) (n p : ℕ) → n ≤ length xs → p ≡ place_of kind (take n xs) → p < n → IsListing (take n xs)
+    → besides p n xs ≡ without kind (take n xs)
+others_without kind xs n p within is below listing =
+    ap (λ l. l ++ drop (p + 1) (take n xs)) (sym (take-take p n xs (omega arith)))
+    ∙ ap (λ q. take q (take n xs) ++ drop (q + 1) (take n xs)) is
+    ∙ others-without kind (take n xs) (omega (arith, is, length-take-le n xs within)) listing
+
+drop_all : (n : ℕ) (xs : List Entry) → length xs ≤ n → drop n xs ≡ []
+drop_all zero [] h = refl
+drop_all (suc n) [] h = refl
+drop_all zero (x ∷ xs) h = absurd (omega arith)
+drop_all (suc n) (x ∷ xs) h = drop_all n xs (omega arith)
+
+append_nil : (xs : List Entry) → xs ++ [] ≡ xs
+append_nil [] = refl
+append_nil (x ∷ xs) = ap (λ rest. x ∷ rest) (append_nil xs)
+
+-- nothing comes after the gap
+pub last_gap : (xs : List Entry) (n p : ℕ) → n ≤ length xs → n ≡ p + 1 → besides p n xs ≡ take p xs
+last_gap xs n p within is =
+    ap (λ l. take p xs ++ l) (drop_all (p + 1) (take n xs) (omega (arith, length-take-le n xs within, is))) ∙ append_nil (take p xs)
+
+-- ---- what stands around the place of a new entry
+
+before-asym : (a b : Entry) → is_before a b ≡ true → is_before b a ≡ false
+before-asym a b before = grind (arith, nat_tests)
+
+not-before : (a b c : Entry) → is_before a b ≡ true → is_before c b ≡ false → is_before c a ≡ false
+not-before a b c ab cb = grind (arith, nat_tests)
+
+ends-append : (new : Entry) (xs : List Entry) (x : Entry) → is_before new x ≡ false → EndsBefore new (xs ++ x ∷ [])
+ends-append new [] x not = not
+ends-append new (y ∷ []) x not = not
+ends-append new (y ∷ z ∷ xs) x not = ends-append new (z ∷ xs) x not
+
+pub ends_at : (new : Entry) (xs : List Entry) (i p : ℕ) (d : Entry) → p ≡ i + 1 → i < length xs → is_before new (get_or xs i d) ≡ false → EndsBefore new (take p xs)
+ends_at new xs i p d is within not =
+    subst (EndsBefore new) (sym (ap (λ j. take j xs) is ∙ take_more xs i d within)) (ends-append new (take i xs) (get_or xs i d) not)
+
+get_or_known : (xs : List Entry) (i : ℕ) (d e : Entry) → i < length xs → get_or xs i d ≡ get_or xs i e
+get_or_known [] i d e within = absurd (omega arith)
+get_or_known (x ∷ xs) zero d e within = refl
+get_or_known (x ∷ xs) (suc i) d e within = get_or_known xs i d e (omega arith)
+
+pub ends_after : (new : Entry) (xs : List Entry) (i j : ℕ) (d e : Entry) → i < length xs → j < length xs → is_before (get_or xs j e) new ≡ true
+    → EndsBefore new (take (i + 1) (set xs i (get_or xs j d)))
+ends_after new xs i j d e within there before =
+    let x = get_or xs j d in
+    subst (EndsBefore new) (sym (take_more_set xs i x within))
+    (ends-append new (take i xs) x (before-asym x new (ap (λ y. is_before y new) (get_or_known xs j d e there) ∙ before)))
+
+pub begins_at : (new : Entry) (xs : List Entry) (i n : ℕ) (d : Entry) → i < n → n ≤ length xs → is_before (get_or xs i d) new ≡ false → BeginsAfter new (drop i (take n xs))
+begins_at new xs i n d below within not = subst (BeginsAfter new) (sym (from_place xs i n d below within)) not
+
+pub begins_nowhere : (new : Entry) (xs : List Entry) (i n : ℕ) → n ≤ i → n ≤ length xs → BeginsAfter new (drop i (take n xs))
+begins_nowhere new xs i n all within = subst (BeginsAfter new) (sym (drop_all i (take n xs) (omega (arith, all, length-take-le n xs within)))) tt
+
+-- ---- a new entry is placed between these
+
+pub placed-listing : (x : Entry) (xs : List Entry) → IsFirst x xs → IsListing xs → placed x xs ≡ x ∷ xs
+placed-listing x [] is listing = refl
+placed-listing x (y ∷ ys) is listing =
+    ap (λ b. if b then x ∷ placed y ys else y ∷ placed x ys) is.0 ∙ ap (λ l. x ∷ l) (placed-listing y ys listing.0 listing.1)
+
+placed-first : (new : Entry) (xs : List Entry) → IsListing xs → IsAbsent new.kind xs → BeginsAfter new xs → placed new xs ≡ new ∷ xs
+placed-first new [] listing absent begins = refl
+placed-first new (y ∷ ys) listing absent begins =
+    ap (λ b. if b then new ∷ placed y ys else y ∷ placed new ys) (before-total y new (same-sym y.kind new.kind ∙ absent.0) begins)
+    ∙ ap (λ l. new ∷ l) (placed-listing y ys listing.0 listing.1)
+
+first-not : (new x : Entry) (xs ys : List Entry) → IsListing (x ∷ xs ++ ys) → EndsBefore new (x ∷ xs) → is_before new x ≡ false
+first-not new x [] ys listing ends = ends
+first-not new x (y ∷ xs) ys listing ends = not-before x y new listing.0.0 (first-not new y xs ys listing.1 ends)
+
+ends-rest : (new x : Entry) (xs : List Entry) → EndsBefore new (x ∷ xs) → EndsBefore new xs
+ends-rest new x [] ends = tt
+ends-rest new x (y ∷ xs) ends = ends
+
+placed-between : (new : Entry) (xs ys : List Entry) → IsListing (xs ++ ys) → IsAbsent new.kind (xs ++ ys) → EndsBefore new xs → BeginsAfter new ys
+    → placed new (xs ++ ys) ≡ xs ++ new ∷ ys
+placed-between new [] ys listing absent ends begins = placed-first new ys listing absent begins
+placed-between new (x ∷ xs) ys listing absent ends begins =
+    ap (λ b. if b then new ∷ placed x (xs ++ ys) else x ∷ placed new (xs ++ ys)) (first-not new x xs ys listing ends)
+    ∙ ap (λ l. x ∷ l) (placed-between new xs ys listing.1 absent.1 (ends-rest new x xs ends) begins)
+
+pub put_there : (new : Entry) (xs : List Entry) (p n : ℕ) → p < n → n ≤ length xs → IsListing (besides p n xs) → IsAbsent new.kind (besides p n xs)
+    → EndsBefore new (take p xs) → BeginsAfter new (drop (p + 1) (take n xs)) → take n (set xs p new) ≡ placed new (besides p n xs)
+put_there new xs p n below within listing absent ends begins =
+    gap_filled xs p n new below within ∙ sym (placed-between new (take p xs) (drop (p + 1) (take n xs)) listing absent ends begins)
+
+-- ---- room for an entry of a later kind
+
+below-at : (n : ℕ) (xs : List Entry) (i : ℕ) (d : Entry) → i < length xs → AllBelow n xs → rank (get_or xs i d).kind < n
+below-at n [] i d within below = absurd (omega arith)
+below-at n (x ∷ xs) zero d within below = below.0
+below-at n (x ∷ xs) (suc i) d within below = below-at n xs i d (omega arith) below.1
+
+not-later : (new x : Entry) → nat_lt new.moment x.moment ≡ false → rank x.kind < rank new.kind → is_before new x ≡ false
+not-later new x by below = grind (arith, nat_tests)
+
+later : (new x : Entry) → nat_lt new.moment x.moment ≡ true → is_before x new ≡ false
+later new x expires = grind (arith, nat_tests)
+
+-- the entry in front of the room doesn't expire later
+pub ends_by : (new : Entry) (xs ys : List Entry) (n i p : ℕ) (d : Entry) → p ≡ i + 1 → p ≤ n → n ≤ length xs → n ≤ length ys → take p xs ≡ take p ys → AllBelow (rank new.kind) (take n ys)
+    → nat_lt new.moment (get_or xs i d).moment ≡ false → EndsBefore new (take p xs)
+ends_by new xs ys n i p d is within long longer same below by =
+    let x = get_or xs i d in
+    let front : get_or (take n ys) i d ≡ x =
+    get_or-take n ys i d (omega (arith, is, within)) ∙ sym (get_or-take p ys i d (omega (arith, is))) ∙ ap (λ l. get_or l i d) (sym same) ∙ get_or-take p xs i d (omega (arith, is)) in
+    let lower : rank x.kind < rank new.kind =
+    subst (λ (y : Entry). rank y.kind < rank new.kind) front (below-at (rank new.kind) (take n ys) i d (omega (arith, is, within, length-take-le n ys longer)) below) in
+    ends_at new xs i p d is (omega (arith, is, within, long)) (not-later new x by lower)
+
+-- it goes one place back
+pub begins_later : (new : Entry) (xs : List Entry) (k i j n : ℕ) (d e : Entry) → k ≡ i → i < n → j < length xs → n ≤ length xs → nat_lt new.moment (get_or xs j e).moment ≡ true
+    → BeginsAfter new (drop k (take n (set xs i (get_or xs j d))))
+begins_later new xs k i j n d e at below there within expires =
+    let x = get_or xs j d in
+    let expires_x : nat_lt new.moment x.moment ≡ true = ap (λ (y : Entry). nat_lt new.moment y.moment) (get_or_known xs j d e there) ∙ expires in
+    subst (λ l. BeginsAfter new (drop l (take n (set xs i x)))) (sym at)
+    (begins_at new (set xs i x) i n d below (omega (arith, length-set xs i x, within))
+    (ap (λ y. is_before y new) (get_or-set_same xs i x d (omega (arith, within, below))) ∙ later new x expires_x))
+
+pub front_same : (xs ys : List Entry) (p : ℕ) (x : Entry) → 0 < p → take p xs ≡ take p ys → take (p - 1) (set xs p x) ≡ take (p - 1) ys
+front_same xs ys p x some same =
+    take-set-le (p - 1) xs p x (omega arith) ∙ sym (take-take (p - 1) p xs (omega arith)) ∙ ap (take (p - 1)) same ∙ take-take (p - 1) p ys (omega arith)

@@ -1,0 +1,126 @@
+-- Deadlines in one list, the earliest first.
+use Rattle.std.specs.Prelude.{◌≡◌, ◌<◌, ℕ, suc, ◌+◌, ◌++◌, take, drop, Bool, true, false, ◌&&◌, ◌||◌, nat_lt, nat_eq, if◌then◌else◌, Option, None, Some, List, [], ◌∷◌}
+use Rattle.dcsctp_core.specs.declared.deadlines.DeadlineKind.{DeadlineKind}
+use Rattle.dcsctp_core.specs.declared.deadlines.DeadlineKind.TheVariants.{AcknowledgementDelay, Retransmission, HeartbeatInterval, HeartbeatTimeout, Reconfiguration, T1, T2}
+use Rattle.dcsctp_core.specs.declared.deadlines.Entry.{Entry}
+
+-- the deadline of each kind, if it runs
+pub record Told : Type 0 where
+  pub acknowledgement_delay : Option ℕ
+  pub retransmission : Option ℕ
+  pub heartbeat_interval : Option ℕ
+  pub heartbeat_timeout : Option ℕ
+  pub reconfiguration : Option ℕ
+  pub t1 : Option ℕ
+  pub t2 : Option ℕ
+
+-- The place of a kind in the order of kinds.
+abbrev pub rank : DeadlineKind → ℕ
+rank AcknowledgementDelay = 0
+rank Retransmission = 1
+rank HeartbeatInterval = 2
+rank HeartbeatTimeout = 3
+rank Reconfiguration = 4
+rank T1 = 5
+rank T2 = 6
+
+abbrev pub is_same : DeadlineKind → DeadlineKind → Bool
+is_same kind other = nat_eq (rank kind) (rank other)
+
+-- by moment, and then by kind
+abbrev pub is_before : Entry → Entry → Bool
+is_before entry other = nat_lt entry.moment other.moment || (nat_eq entry.moment other.moment && nat_lt (rank entry.kind) (rank other.kind))
+
+-- the deadline of a kind
+abbrev pub listed : DeadlineKind → List Entry → Option ℕ
+listed kind [] = None
+listed kind (entry ∷ entries) = if is_same kind entry.kind then Some entry.moment else listed kind entries
+
+-- the place of the first entry of a kind; how many entries there are if none is of it
+abbrev pub place_of : DeadlineKind → List Entry → ℕ
+place_of kind [] = 0
+place_of kind (entry ∷ entries) = if is_same kind entry.kind then 0 else suc (place_of kind entries)
+
+-- the moment of the first entry
+abbrev pub first_of : List Entry → Option ℕ
+first_of [] = None
+first_of (entry ∷ entries) = Some entry.moment
+
+-- the entries of the other kinds
+abbrev pub without : DeadlineKind → List Entry → List Entry
+without kind [] = []
+without kind (entry ∷ entries) = if is_same kind entry.kind then without kind entries else entry ∷ without kind entries
+
+-- the entries with one more, in its place
+abbrev pub placed : Entry → List Entry → List Entry
+placed new [] = new ∷ []
+placed new (entry ∷ entries) = if is_before new entry then new ∷ placed entry entries else entry ∷ placed new entries
+
+-- the first entries, but for the one at a place
+abbrev pub besides : ℕ → ℕ → List Entry → List Entry
+besides place count entries = take place entries ++ drop (place + 1) (take count entries)
+
+abbrev pub with_entry : DeadlineKind → Option ℕ → List Entry → List Entry
+with_entry kind None entries = entries
+with_entry kind (Some moment) entries = placed (record { moment = moment; kind = kind }) entries
+
+-- the list once the deadline of a kind is this one
+abbrev pub set_in : DeadlineKind → Option ℕ → List Entry → List Entry
+set_in kind deadline entries = with_entry kind deadline (without kind entries)
+
+-- None of these is of the kind.
+abbrev pub IsAbsent : DeadlineKind → List Entry → Type 0
+IsAbsent kind [] = Unit {0}
+IsAbsent kind (entry ∷ entries) = (is_same kind entry.kind ≡ false) × IsAbsent kind entries
+
+-- Each of these is of a kind whose place is below this one.
+abbrev pub AllBelow : ℕ → List Entry → Type 0
+AllBelow limit [] = Unit {0}
+AllBelow limit (entry ∷ entries) = (rank entry.kind < limit) × AllBelow limit entries
+
+-- A new entry isn't before the last of these, if there is one.
+abbrev pub EndsBefore : Entry → List Entry → Type 0
+EndsBefore new [] = Unit {0}
+EndsBefore new (entry ∷ []) = is_before new entry ≡ false
+EndsBefore new (entry ∷ next ∷ entries) = EndsBefore new (next ∷ entries)
+
+-- The first of these isn't before a new entry, if there is one.
+abbrev pub BeginsAfter : Entry → List Entry → Type 0
+BeginsAfter new [] = Unit {0}
+BeginsAfter new (entry ∷ entries) = is_before entry new ≡ false
+
+-- None of these is before the entry, and none is of its kind.
+abbrev pub IsFirst : Entry → List Entry → Type 0
+IsFirst first [] = Unit {0}
+IsFirst first (entry ∷ entries) = (is_before first entry ≡ true) × (is_same first.kind entry.kind ≡ false) × IsFirst first entries
+
+-- The entries are in order, and no two are of a kind.
+abbrev pub IsListing : List Entry → Type 0
+IsListing [] = Unit {0}
+IsListing (entry ∷ entries) = IsFirst entry entries × IsListing entries
+
+-- What `set` does to the deadlines: that of the kind is the new one, and the others stay.
+abbrev pub SetTells : Type 0
+SetTells =
+    (kind other : DeadlineKind) (deadline : Option ℕ) (entries : List Entry) → IsListing entries
+    → listed other (set_in kind deadline entries) ≡ (if is_same other kind then deadline else listed other entries)
+
+-- the list of what the timers say
+abbrev pub relisted : Told → List Entry
+relisted told =
+    with_entry T2 told.t2 (with_entry T1 told.t1 (with_entry Reconfiguration told.reconfiguration (with_entry HeartbeatTimeout told.heartbeat_timeout
+    (with_entry HeartbeatInterval told.heartbeat_interval (with_entry Retransmission told.retransmission (with_entry AcknowledgementDelay told.acknowledgement_delay []))))))
+
+-- what they say of a kind
+abbrev pub said_by : Told → DeadlineKind → Option ℕ
+said_by told AcknowledgementDelay = told.acknowledgement_delay
+said_by told Retransmission = told.retransmission
+said_by told HeartbeatInterval = told.heartbeat_interval
+said_by told HeartbeatTimeout = told.heartbeat_timeout
+said_by told Reconfiguration = told.reconfiguration
+said_by told T1 = told.t1
+said_by told T2 = told.t2
+
+-- It holds what each timer says, and nothing else.
+abbrev pub RelistTells : Type 0
+RelistTells = (told : Told) (kind : DeadlineKind) → listed kind (relisted told) ≡ said_by told kind

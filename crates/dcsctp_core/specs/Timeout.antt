@@ -1,0 +1,57 @@
+-- Which deadlines the list of a socket has, and what `poll_timeout` and `advance_time` learn from it.
+use Rattle.std.specs.Prelude.{◌≡◌, ℕ, max, Bool, true, false, nat_lt, if◌then◌else◌, Option, None, Some, List, [], ◌∷◌}
+use Rattle.std.specs.Duration.{max_nanos}
+use Rattle.dcsctp_machine.specs.Endpoint.{Endpoint, Core, closed, cookie_wait, cookie_echoed, open_in}
+use Rattle.dcsctp_machine.specs.TimeTurns.{Timer, t1_timer, own_timer, t2_timer, timers_told, deadline}
+use Rattle.dcsctp_machine.specs.turns.OwnTimers.{acknowledgement_delay, retransmission, heartbeat_interval, heartbeat_timeout, reconfiguration}
+use Rattle.dcsctp_core.specs.declared.deadlines.DeadlineKind.{DeadlineKind}
+use Rattle.dcsctp_core.specs.declared.deadlines.DeadlineKind.TheVariants.{AcknowledgementDelay, Retransmission, HeartbeatInterval, HeartbeatTimeout, Reconfiguration, T1, T2}
+use Rattle.dcsctp_core.specs.declared.deadlines.Entry.{Entry}
+use Rattle.dcsctp_core.specs.Listing.{is_same, listed, first_of, with_entry}
+
+-- the kind of a timer's deadline
+abbrev pub kind_of : Timer → DeadlineKind
+kind_of t1_timer = T1
+kind_of (own_timer acknowledgement_delay) = AcknowledgementDelay
+kind_of (own_timer retransmission) = Retransmission
+kind_of (own_timer heartbeat_interval) = HeartbeatInterval
+kind_of (own_timer heartbeat_timeout) = HeartbeatTimeout
+kind_of (own_timer reconfiguration) = Reconfiguration
+kind_of t2_timer = T2
+
+-- the deadline of a kind, if its timer is among these and runs
+abbrev pub told_among : Endpoint → List Timer → DeadlineKind → Option ℕ
+told_among e [] kind = None
+told_among e (timer ∷ timers) kind = if is_same kind (kind_of timer) then deadline e timer else told_among e timers kind
+
+-- the deadline of a kind, if it counts in the phase
+abbrev pub told_in : Endpoint → DeadlineKind → Option ℕ
+told_in e kind = told_among e (timers_told e.core) kind
+
+-- the list of the six deadlines of an open association
+abbrev pub listed_open : Endpoint → List Entry
+listed_open e =
+    with_entry T2 (deadline e t2_timer) (with_entry Reconfiguration (deadline e (own_timer reconfiguration)) (with_entry HeartbeatTimeout (deadline e (own_timer heartbeat_timeout))
+    (with_entry HeartbeatInterval (deadline e (own_timer heartbeat_interval)) (with_entry Retransmission (deadline e (own_timer retransmission))
+    (with_entry AcknowledgementDelay (deadline e (own_timer acknowledgement_delay)) [])))))
+
+-- The list has exactly the running deadlines that count in the phase.
+abbrev pub IsTold : Endpoint → List Entry → Type 0
+IsTold e entries = (kind : DeadlineKind) → listed kind entries ≡ told_in e kind
+
+-- a deadline, but not before the present moment; the last moment if there is none
+abbrev pub next_by : ℕ → Option ℕ → ℕ
+next_by moment None = max_nanos
+next_by moment (Some deadline) = max deadline moment
+
+-- Is the first deadline later than a moment, or is there none?
+abbrev pub is_later : ℕ → Option ℕ → Bool
+is_later moment None = true
+is_later moment (Some deadline) = nat_lt moment deadline
+
+-- Does the list say that nothing is due at a moment? In CookieEchoed it doesn't have the delay of an acknowledgement.
+abbrev pub is_quiet : Core → ℕ → List Entry → Bool
+is_quiet closed moment entries = is_later moment (first_of entries)
+is_quiet (cookie_wait mine) moment entries = is_later moment (first_of entries)
+is_quiet (cookie_echoed mine held cookie) moment entries = false
+is_quiet (open_in phase mine held) moment entries = is_later moment (first_of entries)

@@ -1,0 +1,146 @@
+//! The deadlines of a socket by its timers, and what its list of them tells.
+
+ghost use Rattle.std.specs.Prelude.{◌≡◌, [], true};
+ghost use Rattle.dcsctp_machine.specs.Turn.{clock_at};
+ghost use Rattle.dcsctp_machine.specs.TimeTurns.{deadline, next_moment, own_timer, t1_timer, t2_timer, timers_in, NoneIsDue};
+ghost use Rattle.dcsctp_machine.specs.turns.OwnTimers.{acknowledgement_delay, reconfiguration, retransmission};
+ghost use Rattle.dcsctp_core.specs.View.{core_of, endpoint_of};
+ghost use Rattle.dcsctp_core.specs.Timeout.{is_later, is_quiet, listed_open, next_by, IsTold};
+
+use crate::context::Context;
+use crate::deadlines::{DeadlineKind, Deadlines};
+use crate::state::State;
+use dcsctp_api::SocketTime;
+use rand_core::Rng;
+
+// When a delayed acknowledgement is due, if one is delayed.
+fn acknowledgement_deadline<R: Rng>(context: &Context<R>) -> Option<SocketTime>
+    ensures { result ≡ deadline (endpoint_of context.now) (own_timer acknowledgement_delay) }
+{
+    match context.state.tcb() {
+        None => None,
+        Some(tcb) => tcb.transfer.acknowledgement_deadline(),
+    }
+}
+
+// When what is in flight is lost, where something is.
+fn retransmission_deadline<R: Rng>(context: &Context<R>) -> Option<SocketTime>
+    ensures { result ≡ deadline (endpoint_of context.now) (own_timer retransmission) }
+{
+    match context.state.tcb() {
+        None => None,
+        Some(tcb) => tcb.transfer.retransmission_deadline(),
+    }
+}
+
+// When our own request to reset streams is sent again, if one is outstanding.
+fn reconfiguration_deadline<R: Rng>(context: &Context<R>) -> Option<SocketTime>
+    ensures { result ≡ deadline (endpoint_of context.now) (own_timer reconfiguration) }
+{
+    match context.state.tcb() {
+        None => None,
+        Some(tcb) => tcb.reconfiguration_deadline(),
+    }
+}
+
+// When a SHUTDOWN or SHUTDOWN ACK that isn't answered is sent again, if one is.
+fn t2_deadline<R: Rng>(context: &Context<R>) -> Option<SocketTime>
+    ensures { result ≡ deadline (endpoint_of context.now) t2_timer }
+{
+    context.state.t2_deadline()
+}
+
+// When an INIT or COOKIE ECHO that isn't answered is sent again, if one is.
+fn t1_deadline<R: Rng>(context: &Context<R>) -> Option<SocketTime>
+    ensures { result ≡ deadline (endpoint_of context.now) t1_timer }
+{
+    context.state.t1_deadline()
+}
+
+// Lists the six deadlines of an open association.
+fn list_open<R: Rng>(context: &Context<R>, deadlines: &mut Deadlines)
+    requires { deadlines.old ≡ [] }
+    ensures { deadlines.new ≡ listed_open (endpoint_of context.now) }
+{
+    deadlines.add(
+        DeadlineKind::AcknowledgementDelay,
+        acknowledgement_deadline(context),
+    );
+    deadlines.add(
+        DeadlineKind::Retransmission,
+        retransmission_deadline(context),
+    );
+    deadlines.add(
+        DeadlineKind::HeartbeatInterval,
+        context.heartbeat_interval_deadline(),
+    );
+    deadlines.add(
+        DeadlineKind::HeartbeatTimeout,
+        context.heartbeat_timeout_deadline(),
+    );
+    deadlines.add(
+        DeadlineKind::Reconfiguration,
+        reconfiguration_deadline(context),
+    );
+    deadlines.add(DeadlineKind::T2, t2_deadline(context));
+}
+
+/// Makes the list anew from the timers. Each call that may move a timer ends with it. During the handshake
+/// T1's deadline alone counts, and on an open association those of the other six.
+pub fn list_deadlines<R: Rng>(context: &Context<R>, deadlines: &mut Deadlines)
+    ensures { IsTold (endpoint_of context.now) deadlines.new }
+{
+    deadlines.clear();
+    match context.state {
+        State::Closed => {}
+        State::CookieWait(_) => deadlines.add(DeadlineKind::T1, t1_deadline(context)),
+        State::CookieEchoed(_) => deadlines.add(DeadlineKind::T1, t1_deadline(context)),
+        State::Open(_) => list_open(context, deadlines),
+    }
+}
+
+/// The next deadline, never before the present moment; the last moment if there is none. During the handshake
+/// it is T1's, and on an open association the first of its own timers'.
+pub fn poll_timeout<R: Rng>(context: &Context<R>, deadlines: &Deadlines) -> SocketTime
+    requires { IsTold (endpoint_of context.now) deadlines.now }
+    ensures { result ≡ next_moment (endpoint_of context.now) }
+{
+    not_before(context.moment, deadlines.first())
+}
+
+// A deadline, but not before the present moment; the last moment if there is none.
+fn not_before(moment: SocketTime, deadline: Option<SocketTime>) -> SocketTime
+    ensures { result ≡ next_by moment deadline }
+{
+    match deadline {
+        None => SocketTime::infinite_future(),
+        Some(deadline) if deadline < moment => moment,
+        Some(deadline) => deadline,
+    }
+}
+
+/// Does the list say that nothing is due at a moment? While a COOKIE ACK is awaited it doesn't, since the
+/// delay of an acknowledgement isn't in the list then.
+pub fn is_quiet<R: Rng>(context: &Context<R>, deadlines: &Deadlines, now: SocketTime) -> bool
+    requires { IsTold (endpoint_of context.now) deadlines.now }
+    ensures answer { result ≡ is_quiet (core_of context.now.state) now deadlines.now }
+    ensures quiet { result ≡ true → NoneIsDue (clock_at now (endpoint_of context.now))
+        (timers_in (core_of context.now.state)) }
+{
+    match context.state {
+        State::Closed => is_later(now, deadlines.first()),
+        State::CookieWait(_) => is_later(now, deadlines.first()),
+        State::CookieEchoed(_) => false,
+        State::Open(_) => is_later(now, deadlines.first()),
+    }
+}
+
+// Is a deadline later than a moment, or is there none?
+fn is_later(moment: SocketTime, deadline: Option<SocketTime>) -> bool
+    ensures { result ≡ is_later moment deadline }
+{
+    match deadline {
+        None => true,
+        Some(deadline) => moment < deadline,
+    }
+}
