@@ -1,99 +1,248 @@
--- The turns of a user's call handle no chunk.
+-- The inputs of a user's call, and of bytes that are handed in.
 use Rattle.std.proofs.Common.{◌≡◌, ℕ, zero, suc, Bool, true, false, List, [], ◌∷◌, map, sym, subst}
 use Rattle.std.specs.Prelude.{nat_le, if◌then◌else◌}
 use Rattle.std.specs.List.{AllByRecursion}
+use Rattle.dcsctp_machine.specs.declared.ends.AbortReason.{AbortReason}
 use Rattle.dcsctp_machine.specs.declared.ends.AbortReason.TheVariants.{CloseCalled, TooManyErrors}
+use Rattle.dcsctp_machine.specs.declared.message.SendOptions.{SendOptions}
 use Rattle.dcsctp_machine.specs.Schedule.{CallContent, connect_call, close_call, shutdown_call, advance_call, set_call, send_call, send_many_call, reset_call, take_call, hand_over_call}
+use Rattle.dcsctp_machine.specs.Admission.{Admission, all_chunks, shutdown_acks_alone, refused, shutdown_acks_in}
 use Rattle.dcsctp_machine.specs.Endpoint.{Endpoint, Core, closed, cookie_wait, cookie_echoed, open_in}
-use Rattle.dcsctp_machine.specs.control.Acts.{connect, shut_down, abort_with, flushes}
+use Rattle.dcsctp_machine.specs.Following.{Following, next_chunk, packet_end, dropped_rest}
+use Rattle.dcsctp_machine.specs.Packet.{Content, Packet, packet_in}
+use Rattle.dcsctp_machine.specs.control.Acts.{connect, t1_expires, shut_down, shutdown_repeats, abort_with, flushes}
+use Rattle.dcsctp_machine.specs.control.Acts as acts
+use Rattle.dcsctp_machine.specs.transfer.Messages.{MessageContent}
 use Rattle.dcsctp_machine.specs.turns.HeartbeatOutcomes.{is_exhausted}
 use Rattle.dcsctp_machine.specs.turns.MessageOutcomes.{sending_of}
-use Rattle.dcsctp_machine.specs.Turn.{Input, chunk_input, act_input, user_sets, user_sends, user_resets, user_takes, time_passes}
+use Rattle.dcsctp_machine.specs.turns.OwnTimers.{OwnTimer}
+use Rattle.dcsctp_machine.specs.turns.SettingOutcomes.{Setting}
+use Rattle.dcsctp_machine.specs.Turn.{Input, arrival, refusal, packet_begins, chunk_input, packet_ends, act_input, user_sets, user_sends, user_resets, user_takes, timer_expires, time_passes, unreadable_text}
 use Rattle.dcsctp_machine.specs.TimeTurns.{Timer, t1_timer, own_timer, t2_timer, timers_in, deadline, has_come, has_restart, t2_input, expiry_input, inputs_behind, after_expiries, ExpiryThen, ExpiryTurns, MomentTurns, TimeTurns}
-use Rattle.dcsctp_machine.specs.CallTurns.{Turned, IsTurn, Turns}
+use Rattle.dcsctp_machine.specs.CallTurns.{Turned, IsTurn, Turns, AfterChunk, ChunkTurns, AdmittedTurns, HandleInput, unreadable, readable}
 use Rattle.dcsctp_machine.specs.Handover.{readiness_of}
 use Rattle.dcsctp_machine.specs.Sockets.{inputs_of_handover, UserTurns}
+use Rattle.dcsctp_delivery_sending.specs.Log.{Fits}
+use Rattle.dcsctp_delivery_sending.specs.Queueing.{message_of}
+use Rattle.dcsctp_delivery_turns.specs.Actions.{IsCall}
+use Rattle.dcsctp_delivery_sockets.specs.Delivery.{FitsMessage, FitsCall}
+
+-- ---- any list of inputs
+
+module _ (May : Input → Type 0) where
+  abbrev MayEach : List Input → Type 0
+  MayEach inputs = AllByRecursion May inputs
+
+  abbrev AreSuch : List Turned → Type 0
+  AreSuch turns = AllByRecursion (λ turn. May turn.input) turns
+
+  none_of : (turns : List Turned) → turns ≡ [] → AreSuch turns
+  none_of turns none = subst AreSuch (sym none) tt
+
+  of_input : (e : Endpoint) (input : Input) (turn : Turned) → IsTurn e input turn → May input → May turn.input
+  of_input e input turn is h = subst May (sym is.is) h
+
+  pub of_turns : (e : Endpoint) (inputs : List Input) (turns : List Turned) → MayEach inputs → Turns e inputs turns → AreSuch turns
+  of_turns e [] [] h taken = tt
+  of_turns e [] (t ∷ turns) h taken = absurd taken
+  of_turns e (input ∷ inputs) [] h taken = absurd taken
+  of_turns e (input ∷ inputs) (t ∷ turns) h taken = (of_input e input t taken.0 h.0, of_turns t.outcome.after inputs turns h.1 taken.1)
+
+-- ---- calls
+
+-- What holds of the inputs of calls and timers. What a user sends is said apart.
+pub record MayCall (May : Input → Type 0) : Type 0 where
+  pub connects : May (act_input connect)
+  pub aborts : (reason : AbortReason) → May (act_input (abort_with reason))
+  pub shuts_down : May (act_input shut_down)
+  pub repeats : May (act_input shutdown_repeats)
+  pub expires : (again : Bool) → May (act_input (t1_expires again))
+  pub flushed : May (act_input flushes)
+  pub sets : (setting : Setting) → May (user_sets setting)
+  pub resets : (ids : List ℕ) → May (user_resets ids)
+  pub takes : May user_takes
+  pub hands_over : May (act_input acts.hands_over)
+  pub own_expires : (timer : OwnTimer) → May (timer_expires timer)
+  pub passes : (moment : ℕ) → May (time_passes moment)
+
+abbrev pub MaySend : (Input → Type 0) → CallContent → Type 0
+MaySend May (send_call message options) = May (user_sends (sending_of options message ∷ []))
+MaySend May (send_many_call messages options) = May (user_sends (map (sending_of options) messages))
+MaySend May call = Unit {0}
+
+module _ (May : Input → Type 0) (may : MayCall May) where
+  of_t2 : (again : Bool) → May (t2_input again)
+  of_t2 true = may.repeats
+  of_t2 false = may.aborts TooManyErrors
+
+  of_expiry : (e : Endpoint) (timer : Timer) → May (expiry_input e timer)
+  of_expiry e t1_timer = may.expires (has_restart e.timers.t1)
+  of_expiry e (own_timer timer) = may.own_expires timer
+  of_expiry e t2_timer = of_t2 (has_restart e.timers.t2)
+
+  of_too_many : (many : Bool) (inputs : List Input) → AllByRecursion May inputs → AllByRecursion May (if many then act_input (abort_with TooManyErrors) ∷ [] else inputs)
+  of_too_many true inputs h = (may.aborts TooManyErrors, tt)
+  of_too_many false inputs h = h
+
+  of_behind : (e : Endpoint) (core : Core) → AllByRecursion May (inputs_behind e core)
+  of_behind e closed = tt
+  of_behind e (cookie_wait my) = tt
+  of_behind e (cookie_echoed my held cookie) = of_too_many (is_exhausted e.options.max_retransmissions e.error_count) [] tt
+  of_behind e (open_in phase my held) = of_too_many (is_exhausted e.options.max_retransmissions e.error_count) (act_input flushes ∷ []) (may.flushed, tt)
+
+  of_after : (e : Endpoint) (has_expired : Bool) → AllByRecursion May (after_expiries e has_expired)
+  of_after e false = tt
+  of_after e true = of_behind e e.core
+
+  of_expiry_then : (due : Bool) (Rest : Bool → Endpoint → List Turned → Type 0)
+      → ((has_expired : Bool) (e : Endpoint) (turns : List Turned) → Rest has_expired e turns → AllByRecursion (λ turn. May turn.input) turns)
+      → (e : Endpoint) (has_expired : Bool) (timer : Timer) (turns : List Turned) → ExpiryThen due Rest e has_expired timer turns → AllByRecursion (λ turn. May turn.input) turns
+  of_expiry_then true Rest rest e has_expired timer [] taken = absurd taken
+  of_expiry_then true Rest rest e has_expired timer (t ∷ turns) taken = (of_input May e (expiry_input e timer) t taken.0 (of_expiry e timer), rest true t.outcome.after turns taken.1)
+  of_expiry_then false Rest rest e has_expired timer turns taken = rest has_expired e turns taken
+
+  of_expiries : (timers : List Timer) (has_expired : Bool) (e : Endpoint) (turns : List Turned) → ExpiryTurns timers has_expired e turns → AllByRecursion (λ turn. May turn.input) turns
+  of_expiries [] has_expired e turns taken = of_turns May e (after_expiries e has_expired) turns (of_after e has_expired) taken
+  of_expiries (timer ∷ timers) has_expired e turns taken =
+      of_expiry_then (has_come e.moment (deadline e timer)) (ExpiryTurns timers) (of_expiries timers) e has_expired timer turns taken
+
+  of_moment : (e : Endpoint) (moment : ℕ) (turns : List Turned) → MomentTurns e moment turns → AllByRecursion (λ turn. May turn.input) turns
+  of_moment e moment [] taken = absurd taken
+  of_moment e moment (t ∷ turns) taken = (
+    of_input May e (time_passes moment) t taken.0 (may.passes moment),
+    of_expiries (timers_in t.outcome.after.core) false t.outcome.after turns taken.1,
+  )
+
+  of_time : (later : Bool) (e : Endpoint) (moment : ℕ) (turns : List Turned) → TimeTurns later e moment turns → AllByRecursion (λ turn. May turn.input) turns
+  of_time true e moment turns taken = of_moment e moment turns taken
+  of_time false e moment turns none = none_of May turns none
+
+  of_handover : (readiness : ℕ) → AllByRecursion May (inputs_of_handover readiness)
+  of_handover zero = (may.hands_over, tt)
+  of_handover (suc reasons) = tt
+
+  pub of_call : (e : Endpoint) (call : CallContent) (turns : List Turned) → MaySend May call → UserTurns e call turns → AllByRecursion (λ turn. May turn.input) turns
+  of_call e connect_call turns sends taken = of_turns May e (act_input connect ∷ []) turns (may.connects, tt) taken
+  of_call e close_call turns sends taken = of_turns May e (act_input (abort_with CloseCalled) ∷ []) turns (may.aborts CloseCalled, tt) taken
+  of_call e shutdown_call turns sends taken = of_turns May e (act_input shut_down ∷ []) turns (may.shuts_down, tt) taken
+  of_call e (advance_call moment) turns sends taken = of_time (nat_le e.moment moment) e moment turns taken
+  of_call e (set_call setting) turns sends taken = of_turns May e (user_sets setting ∷ []) turns (may.sets setting, tt) taken
+  of_call e (send_call message options) turns sends taken = of_turns May e (user_sends (sending_of options message ∷ []) ∷ []) turns (sends, tt) taken
+  of_call e (send_many_call messages options) turns sends taken = of_turns May e (user_sends (map (sending_of options) messages) ∷ []) turns (sends, tt) taken
+  of_call e (reset_call ids) turns sends taken = of_turns May e (user_resets ids ∷ []) turns (may.resets ids, tt) taken
+  of_call e take_call turns sends taken = of_turns May e (user_takes ∷ []) turns (may.takes, tt) taken
+  of_call e hand_over_call turns sends taken = of_turns May e (inputs_of_handover (readiness_of e)) turns (of_handover (readiness_of e)) taken
+
+-- ---- no chunk
 
 abbrev pub NoChunk : Input → Type 0
 NoChunk (chunk_input tag content) = ⊥
 NoChunk input = Unit {0}
 
-abbrev NoneAmong : List Input → Type 0
-NoneAmong inputs = AllByRecursion NoChunk inputs
-
 abbrev pub NoChunks : List Turned → Type 0
 NoChunks turns = AllByRecursion (λ turn. NoChunk turn.input) turns
 
-none_of : (turns : List Turned) → turns ≡ [] → NoChunks turns
-none_of turns none = subst (NoChunks) (sym none) tt
+calls_without : MayCall NoChunk
+calls_without =
+    record {
+      connects = tt;
+      aborts = λ reason. tt;
+      shuts_down = tt;
+      repeats = tt;
+      expires = λ again. tt;
+      flushed = tt;
+      sets = λ setting. tt;
+      resets = λ ids. tt;
+      takes = tt;
+      hands_over = tt;
+      own_expires = λ timer. tt;
+      passes = λ moment. tt;
+    }
 
-of_input : (e : Endpoint) (input : Input) (turn : Turned) → IsTurn e input turn → NoChunk input → NoChunk turn.input
-of_input e input turn is h = subst (NoChunk) (sym is.is) h
+sends_without : (call : CallContent) → MaySend NoChunk call
+sends_without connect_call = tt
+sends_without close_call = tt
+sends_without shutdown_call = tt
+sends_without (advance_call moment) = tt
+sends_without (set_call setting) = tt
+sends_without (send_call message options) = tt
+sends_without (send_many_call messages options) = tt
+sends_without (reset_call ids) = tt
+sends_without take_call = tt
+sends_without hand_over_call = tt
 
-pub of_turns : (e : Endpoint) (inputs : List Input) (turns : List Turned) → NoneAmong inputs → Turns e inputs turns → NoChunks turns
-of_turns e [] [] h taken = tt
-of_turns e [] (t ∷ turns) h taken = absurd taken
-of_turns e (input ∷ inputs) [] h taken = absurd taken
-of_turns e (input ∷ inputs) (t ∷ turns) h taken = (of_input e input t taken.0 h.0, of_turns t.outcome.after inputs turns h.1 taken.1)
+-- The turns of a user's call handle no chunk.
+pub call_without : (e : Endpoint) (call : CallContent) (turns : List Turned) → UserTurns e call turns → NoChunks turns
+call_without e call turns taken = of_call NoChunk calls_without e call turns (sends_without call) taken
 
--- ---- time
+-- ---- calls and chunks alone
 
-of_t2 : (again : Bool) → NoChunk (t2_input again)
-of_t2 true = tt
-of_t2 false = tt
+calls_are : MayCall IsCall
+calls_are =
+    record {
+      connects = tt;
+      aborts = λ reason. tt;
+      shuts_down = tt;
+      repeats = tt;
+      expires = λ again. tt;
+      flushed = tt;
+      sets = λ setting. tt;
+      resets = λ ids. tt;
+      takes = tt;
+      hands_over = tt;
+      own_expires = λ timer. tt;
+      passes = λ moment. tt;
+    }
 
-of_expiry : (e : Endpoint) (timer : Timer) → NoChunk (expiry_input e timer)
-of_expiry e t1_timer = tt
-of_expiry e (own_timer timer) = tt
-of_expiry e t2_timer = of_t2 (has_restart e.timers.t2)
+sending_fits : (message : MessageContent) (options : SendOptions) → FitsMessage message → Fits (message_of (sending_of options message))
+sending_fits message options fits = record { stream = fits.stream; ppid = fits.ppid; payload = fits.payload }
 
-of_too_many : (many : Bool) (inputs : List Input) → NoneAmong inputs → NoneAmong (if many then act_input (abort_with TooManyErrors) ∷ [] else inputs)
-of_too_many true inputs h = (tt, tt)
-of_too_many false inputs h = h
+sendings_fit : (messages : List MessageContent) (options : SendOptions) → AllByRecursion FitsMessage messages → AllByRecursion (λ sending. Fits (message_of sending)) (map (sending_of options) messages)
+sendings_fit [] options fit = tt
+sendings_fit (message ∷ messages) options fit = (sending_fits message options fit.0, sendings_fit messages options fit.1)
 
-of_behind : (e : Endpoint) (core : Core) → NoneAmong (inputs_behind e core)
-of_behind e closed = tt
-of_behind e (cookie_wait my) = tt
-of_behind e (cookie_echoed my held cookie) = of_too_many (is_exhausted e.options.max_retransmissions e.error_count) [] tt
-of_behind e (open_in phase my held) = of_too_many (is_exhausted e.options.max_retransmissions e.error_count) (act_input flushes ∷ []) (tt, tt)
+sends_are : (call : CallContent) → FitsCall call → MaySend IsCall call
+sends_are connect_call fits = tt
+sends_are close_call fits = tt
+sends_are shutdown_call fits = tt
+sends_are (advance_call moment) fits = tt
+sends_are (set_call setting) fits = tt
+sends_are (send_call message options) fits = (sending_fits message options fits, tt)
+sends_are (send_many_call messages options) fits = sendings_fit messages options fits
+sends_are (reset_call ids) fits = tt
+sends_are take_call fits = tt
+sends_are hand_over_call fits = tt
 
-of_after : (e : Endpoint) (has_expired : Bool) → NoneAmong (after_expiries e has_expired)
-of_after e false = tt
-of_after e true = of_behind e e.core
+abbrev pub AreCalls : List Turned → Type 0
+AreCalls turns = AllByRecursion (λ turn. IsCall turn.input) turns
 
-of_expiry_then : (due : Bool) (Rest : Bool → Endpoint → List Turned → Type 0) → ((has_expired : Bool) (e : Endpoint) (turns : List Turned) → Rest has_expired e turns → NoChunks turns)
-    → (e : Endpoint) (has_expired : Bool) (timer : Timer) (turns : List Turned) → ExpiryThen due Rest e has_expired timer turns → NoChunks turns
-of_expiry_then true Rest rest e has_expired timer [] taken = absurd taken
-of_expiry_then true Rest rest e has_expired timer (t ∷ turns) taken = (of_input e (expiry_input e timer) t taken.0 (of_expiry e timer), rest true t.outcome.after turns taken.1)
-of_expiry_then false Rest rest e has_expired timer turns taken = rest has_expired e turns taken
+-- Those of a call are, if its messages fit,
+pub call_is : (e : Endpoint) (call : CallContent) (turns : List Turned) → FitsCall call → UserTurns e call turns → AreCalls turns
+call_is e call turns fits taken = of_call IsCall calls_are e call turns (sends_are call fits) taken
 
-of_expiries : (timers : List Timer) (has_expired : Bool) (e : Endpoint) (turns : List Turned) → ExpiryTurns timers has_expired e turns → NoChunks turns
-of_expiries [] has_expired e turns taken = of_turns e (after_expiries e has_expired) turns (of_after e has_expired) taken
-of_expiries (timer ∷ timers) has_expired e turns taken =
-    of_expiry_then (has_come e.moment (deadline e timer)) (ExpiryTurns timers) (of_expiries timers) e has_expired timer turns taken
+-- and so are those of bytes that are handed in.
+rest_is : (following : Following) (e : Endpoint) (tail : List Input) (turns : List Turned) (More : Type 0) → AllByRecursion IsCall tail → (More → AreCalls turns) → AfterChunk following More (Turns e tail turns) (turns ≡ [])
+    → AreCalls turns
+rest_is next_chunk e tail turns More are more rest = more rest
+rest_is packet_end e tail turns More are more rest = of_turns IsCall e tail turns are rest
+rest_is dropped_rest e tail turns More are more rest = none_of IsCall turns rest
 
-of_moment : (e : Endpoint) (moment : ℕ) (turns : List Turned) → MomentTurns e moment turns → NoChunks turns
-of_moment e moment [] taken = absurd taken
-of_moment e moment (t ∷ turns) taken = (of_input e (time_passes moment) t taken.0 tt, of_expiries (timers_in t.outcome.after.core) false t.outcome.after turns taken.1)
+chunks_are : (e : Endpoint) (tag : ℕ) (contents : List Content) (tail : List Input) (turns : List Turned) → AllByRecursion IsCall tail → ChunkTurns e tag contents tail turns → AreCalls turns
+chunks_are e tag [] tail turns are taken = of_turns IsCall e tail turns are taken
+chunks_are e tag (content ∷ contents) tail [] are taken = absurd taken
+chunks_are e tag (content ∷ contents) tail (t ∷ turns) are taken = (
+  of_input IsCall e (chunk_input tag content) t taken.0 tt,
+  rest_is t.outcome.following t.outcome.after tail turns (ChunkTurns t.outcome.after tag contents tail turns) are (λ more. chunks_are t.outcome.after tag contents tail turns are more) taken.1,
+)
 
-of_time : (later : Bool) (e : Endpoint) (moment : ℕ) (turns : List Turned) → TimeTurns later e moment turns → NoChunks turns
-of_time true e moment turns taken = of_moment e moment turns taken
-of_time false e moment turns none = none_of turns none
+admitted_are : (e : Endpoint) (packet : Packet) (admission : Admission) (turns : List Turned) → AdmittedTurns e packet admission turns → AreCalls turns
+admitted_are e packet all_chunks [] taken = absurd taken
+admitted_are e packet all_chunks (t ∷ turns) taken =
+    (of_input IsCall e (packet_begins packet.contents) t taken.0 tt, chunks_are t.outcome.after packet.tag packet.contents (packet_ends ∷ []) turns (tt, tt) taken.1)
+admitted_are e packet shutdown_acks_alone turns taken = chunks_are e packet.tag (shutdown_acks_in packet.contents) [] turns tt taken
+admitted_are e packet (refused text) turns taken = of_turns IsCall e (refusal text ∷ []) turns (tt, tt) taken
 
--- ---- calls
-
-of_handover : (readiness : ℕ) → NoneAmong (inputs_of_handover readiness)
-of_handover zero = (tt, tt)
-of_handover (suc reasons) = tt
-
-pub of_call : (e : Endpoint) (call : CallContent) (turns : List Turned) → UserTurns e call turns → NoChunks turns
-of_call e connect_call turns taken = of_turns e (act_input connect ∷ []) turns (tt, tt) taken
-of_call e close_call turns taken = of_turns e (act_input (abort_with CloseCalled) ∷ []) turns (tt, tt) taken
-of_call e shutdown_call turns taken = of_turns e (act_input shut_down ∷ []) turns (tt, tt) taken
-of_call e (advance_call moment) turns taken = of_time (nat_le e.moment moment) e moment turns taken
-of_call e (set_call setting) turns taken = of_turns e (user_sets setting ∷ []) turns (tt, tt) taken
-of_call e (send_call message options) turns taken = of_turns e (user_sends (sending_of options message ∷ []) ∷ []) turns (tt, tt) taken
-of_call e (send_many_call messages options) turns taken = of_turns e (user_sends (map (sending_of options) messages) ∷ []) turns (tt, tt) taken
-of_call e (reset_call ids) turns taken = of_turns e (user_resets ids ∷ []) turns (tt, tt) taken
-of_call e take_call turns taken = of_turns e (user_takes ∷ []) turns (tt, tt) taken
-of_call e hand_over_call turns taken = of_turns e (inputs_of_handover (readiness_of e)) turns (of_handover (readiness_of e)) taken
+pub input_is : (e : Endpoint) (bytes : List ℕ) (turns : List Turned) → HandleInput e bytes turns → AreCalls turns
+input_is e bytes _ (unreadable turns none taken) = of_turns IsCall e (arrival ∷ refusal unreadable_text ∷ []) turns (tt, (tt, tt)) taken
+input_is e bytes _ (readable packet counted turns found counting taken) =
+    (of_input IsCall e arrival counted counting tt, admitted_are counted.outcome.after (packet_in packet) _ turns taken)

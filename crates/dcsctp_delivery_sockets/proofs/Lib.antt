@@ -3,3 +3,8 @@ pub mod Packets
 pub mod PacketTurns
 pub mod Calls
 pub mod Acts
+pub mod UserMessages
+pub mod NewLinks
+pub mod Known
+pub mod Stands
+pub mod Delivery

@@ -1,3 +1,5 @@
 pub mod Echoes
 pub mod Packets
 pub mod Acts
+pub mod UserMessages
+pub mod Delivery

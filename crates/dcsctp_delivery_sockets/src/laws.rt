@@ -1,12 +1,13 @@
 //! The laws of this crate.
 
 ghost use Rattle.dcsctp_delivery_sockets.specs.Acts.{ReceiversCall, ReceiversHandle, SendersAct};
+ghost use Rattle.dcsctp_delivery_sockets.specs.Delivery.{SocketsDeliver};
 ghost use Rattle.dcsctp_delivery_sockets.specs.Echoes.{EchoesGoToMakers};
 ghost use Rattle.dcsctp_delivery_sockets.specs.Packets.{PacketsKeepEnds};
 
 use dcsctp_machine::{
-    acts_are_controlled, admitted_packets_may_be_worked, answer_keeps_agreement, offer_reads_back,
-    packets_are_controlled,
+    acts_are_controlled, admitted_packets_may_be_worked, answer_keeps_agreement,
+    chunks_are_controlled, offer_reads_back, packets_are_controlled,
 };
 use dcsctp_machine_agreement::effects_mean;
 use dcsctp_wire_laws::built_packet_reads_as_itself;
@@ -39,3 +40,20 @@ pub fn acts_keep_ends()
     ensures calls { ReceiversCall }
     ensures handles { ReceiversHandle }
 {}
+
+/// What a user reads is what its peer's user sent, and no message is read twice, in any association. So it is over
+/// every schedule that loses, repeats, delays and reorders packets, as long as no act comes from outside, each
+/// verification tag serves one association, and fewer than 2^31 bytes and messages are sent. So far without
+/// interleaving.
+pub fn sockets_deliver()
+    ensures { SocketsDeliver }
+{
+    effects_mean();
+    acts_are_controlled();
+    chunks_are_controlled();
+    packets_are_controlled();
+    admitted_packets_may_be_worked();
+    offer_reads_back();
+    built_packet_reads_as_itself();
+    answer_keeps_agreement();
+}

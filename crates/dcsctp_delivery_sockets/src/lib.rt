@@ -5,4 +5,4 @@
 
 mod laws;
 
-pub use laws::{acts_keep_ends, echoes_go_to_makers, packets_keep_ends};
+pub use laws::{acts_keep_ends, echoes_go_to_makers, packets_keep_ends, sockets_deliver};

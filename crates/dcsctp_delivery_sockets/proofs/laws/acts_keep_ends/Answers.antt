@@ -1,5 +1,5 @@
 use Rattle.dcsctp_delivery_sockets.proofs.Acts.{senders_act, receivers_act, receivers_handle}
-use Rattle.dcsctp_delivery_sockets.proofs.Calls.{of_call}
+use Rattle.dcsctp_delivery_sockets.proofs.Calls.{call_without}
 use Rattle.dcsctp_delivery_sockets.proofs.laws.acts_keep_ends.Goals as goal
 
 pub returns-clause-sends : goal.returns-clause-sends
@@ -8,7 +8,7 @@ returns-clause-sends c = λ options ends e queued past packets other their_past 
 
 pub returns-clause-calls : goal.returns-clause-calls
 returns-clause-calls c = λ options ends e queued past packets other their_past reads call turns between few user taken may new.
-    receivers_act options e queued past packets few turns other their_past reads (record { ends = ends; between = between }) (of_call other call turns user) taken may new
+    receivers_act options e queued past packets few turns other their_past reads (record { ends = ends; between = between }) (call_without other call turns user) taken may new
 
 pub returns-clause-handles : goal.returns-clause-handles
 returns-clause-handles c = λ options ends e queued past packets other their_past reads emission bytes turns between few has go not is new taken.

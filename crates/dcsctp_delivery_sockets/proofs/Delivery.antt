@@ -1,0 +1,199 @@
+-- Over an honest run in which each tag serves one association, what a user reads is what its peer's user sent.
+use Rattle.std.proofs.Common.{◌≡◌, ℕ, zero, suc, ◌<◌, ◌^◌, List, [], ◌∷◌, ◌++◌, refl, sym, ◌∙◌, ap, subst, inl, inr}
+use Rattle.std.specs.Prelude.{Option, None, Some}
+use Rattle.std.specs.List.{slice_get}
+use Rattle.std.proofs.lemmas.List.{append-nil}
+use Rattle.dcsctp_wire.specs.Content.{PacketContent}
+use Rattle.dcsctp_wire.specs.Format.{IsPacket}
+use Rattle.dcsctp_machine.specs.declared.options.Options.{Options}
+use Rattle.dcsctp_machine.specs.declared.schedule.Side.{Side}
+use Rattle.dcsctp_machine.specs.declared.schedule.Side.TheVariants as sides
+use Rattle.dcsctp_machine.specs.Schedule.{StepContent, call_step, delivery_step, ActContent, step_act, outside_act, IsHonestAct, AreHonest}
+use Rattle.dcsctp_machine.specs.Settings.{SameOptions, FitsOptions, wire_options, ports_of}
+use Rattle.dcsctp_machine.specs.CallTurns.{Turned, HandleInput, events_of}
+use Rattle.dcsctp_machine.specs.Endpoint.{Endpoint, fresh_endpoint}
+use Rattle.dcsctp_machine.specs.Event.{Event, sent, packets_in}
+use Rattle.dcsctp_machine.specs.Fitting.{OfSent, AllSent, FitsEndpoint, IsSendable}
+use Rattle.dcsctp_machine.specs.Laws.{AnswerKeepsAgreement}
+use Rattle.dcsctp_machine.specs.Packet.{packet_in, Emission, emission_bytes}
+use Rattle.dcsctp_machine.specs.Sockets.{Worked, Both, of_side, of_other, side_of, with_turns, turns_after, endpoint_after, packets_shown, DeliveryTurns, StepTurns, SocketRun, side_of_act, NextTurns, acts_of}
+use Rattle.dcsctp_machine.proofs.AlongLemmas.{run_along}
+use Rattle.dcsctp_machine_refinement.specs.Agreement.{AreUsable, AreFresh, noted_past}
+use Rattle.dcsctp_machine_refinement.proofs.Deliver.{IsSent, sent_at, reads_as_sent}
+use Rattle.dcsctp_machine_refinement.proofs.Moves.{Below}
+use Rattle.dcsctp_machine_refinement.proofs.Sent.{all_sent_map}
+use Rattle.dcsctp_machine_refinement.proofs.SocketsAgree.{Joined, joined}
+use Rattle.dcsctp_machine_refinement.proofs.SocketsAlone.{Moves, it_rests, it_moves, MoveLaws, of_moves}
+use Rattle.dcsctp_delivery_sending.specs.Places as places
+use Rattle.dcsctp_delivery_associations.specs.Reads.{messages_of}
+use Rattle.dcsctp_delivery_associations.proofs.Delivers.{ends_begin, ends_deliver}
+use Rattle.dcsctp_delivery_directions.specs.Directions.{Delivered}
+use Rattle.dcsctp_delivery_sockets.specs.Echoes.{GoesToMaker}
+use Rattle.dcsctp_delivery_sockets.specs.UserMessages.{sent_of, read_of, IsDelivered}
+use Rattle.dcsctp_delivery_sockets.specs.Delivery.{FitsStep, AreInMemory, MatchByTags, SendsLittle, HasNoInterleaved, AllowsDelivery, Delivers, SocketsDeliver}
+use Rattle.dcsctp_delivery_sockets.proofs.Calls.{AreCalls, call_without, call_is, input_is}
+use Rattle.dcsctp_delivery_sockets.proofs.Echoes.{echoes_go_to_makers}
+use Rattle.dcsctp_delivery_sockets.proofs.NewLinks.{KeepsOptions, AllOpenFitting, none_open, matched_swapped, packet_opens}
+use Rattle.dcsctp_delivery_sockets.proofs.Known.{own_turn, IsOwn, GoodPacket, SideKnown, BothKnown, both_front}
+use Rattle.dcsctp_delivery_sockets.proofs.Stands.{Stand, queued_of, packets_of, reads_of, queued_same, sender_more, receiver_calls, receiver_handles}
+use Rattle.dcsctp_delivery_sockets.proofs.UserMessages.{turns_read, is_delivered}
+
+-- ---- a packet that is delivered
+
+-- It was sent by the other side.
+record WasGood (packets : List Emission) (emission : Emission) : Type 0 where
+  good : GoodPacket emission
+  has : places.Has emission packets
+
+good_among : (all : List Emission) (events : List (Event Emission)) → ((emission : Emission) → places.Has emission (packets_in events) → places.Has emission all) → AllSent GoodPacket events
+    → AllSent (WasGood all) events
+good_among all [] within each = tt
+good_among all (sent emission ∷ events) within each =
+    (record { good = each.0; has = within emission (inl refl) }, good_among all events (λ other has. within other (inr has)) each.1)
+good_among all (event ∷ events) within each = (tt, good_among all events within each.1)
+
+-- ---- an act of one side
+
+-- both directions, once the side that acts has taken these turns
+record ActedSide (mine theirs : Options) (turns others more : List Turned) : Type 0 where
+  sends : Stand mine theirs (turns ++ more) others
+  receives : Stand theirs mine others (turns ++ more)
+
+module _ (law : Below) (mine theirs : Options) (turns others more : List Turned) (fits : FitsEndpoint (endpoint_after mine turns)) (own : SameOptions mine (endpoint_after mine turns).options) (their_fits : FitsOptions theirs)
+    (known : SideKnown mine (turns ++ more)) (their_known : SideKnown theirs others) (matched : MatchByTags (noted_past (turns ++ more)) (noted_past others)) (sends : Stand mine theirs turns others)
+    (receives : Stand theirs mine others turns) where
+  nothing_done : more ≡ [] → ActedSide mine theirs turns others more
+  nothing_done none =
+      record {
+        sends = subst (λ (ts : List Turned). Stand mine theirs ts others) (sym (ap (λ (m : List Turned). turns ++ m) none ∙ append-nil turns)) sends;
+        receives = subst (λ (ts : List Turned). Stand theirs mine others ts) (sym (ap (λ (m : List Turned). turns ++ m) none ∙ append-nil turns)) receives;
+      }
+
+  handled : (bytes : List ℕ) → IsSent (WasGood (packets_of others)) (emission_bytes (ports_of theirs)) bytes → HandleInput (endpoint_after mine turns) bytes more → ActedSide mine theirs turns others more
+  handled bytes out taken =
+      let e : Endpoint = endpoint_after mine turns in
+      let is : (packet : PacketContent) → IsPacket (wire_options e.options) packet bytes → packet_in packet ≡ out.emission.packet =
+      λ packet found. reads_as_sent law.built e.options theirs out.emission packet their_fits out.good.good.sendable (subst (λ (bs : List ℕ). IsPacket (wire_options e.options) packet bs) out.is found) in
+      let opens : AllOpenFitting more = packet_opens law.offers e bytes out.emission more fits out.good.good.sendable is taken in
+      record {
+        sends = sender_more mine theirs turns others more sends known matched (input_is e bytes more taken) opens;
+        receives = receiver_handles theirs mine others turns more receives known (matched_swapped (noted_past (turns ++ more)) (noted_past others) matched) own their_known.little bytes out.emission out.good.has
+            out.good.good is taken opens;
+      }
+
+  delivered : (index : ℕ) (found : Option (List ℕ)) → slice_get (packets_shown theirs others) index ≡ found → DeliveryTurns (endpoint_after mine turns) found more → ActedSide mine theirs turns others more
+  delivered index None is none = nothing_done none
+  delivered index (Some bytes) is taken =
+      handled bytes (sent_at (WasGood (packets_of others)) (emission_bytes (ports_of theirs)) (events_of others) index bytes
+      (good_among (packets_of others) (events_of others) (λ emission has. has) their_known.packets) is) taken
+
+  side_acts : (step : StepContent) → FitsStep step → StepTurns (endpoint_after mine turns) (packets_shown theirs others) step more → ActedSide mine theirs turns others more
+  side_acts (call_step which call) in_memory taken =
+      let calls : AreCalls more = call_is (endpoint_after mine turns) call more in_memory taken in
+      record {
+        sends = sender_more mine theirs turns others more sends known matched calls (none_open more (call_without (endpoint_after mine turns) call more taken));
+        receives = receiver_calls theirs mine others turns more receives known (matched_swapped (noted_past (turns ++ more)) (noted_past others) matched) own their_known.little call taken calls;
+      }
+  side_acts (delivery_step which zero) in_memory none = nothing_done none
+  side_acts (delivery_step which (suc index)) in_memory taken = delivered index (slice_get (packets_shown theirs others) index) refl taken
+
+-- ---- a run
+
+record BothStand (options : Both Options) (turns : Both (List Turned)) : Type 0 where
+  to_b : Stand options.a options.b turns.a turns.b
+  to_a : Stand options.b options.a turns.b turns.a
+
+stepped : Below → (options : Both Options) (turns : Both (List Turned)) (step : StepContent) (more : List Turned) (side : Side) → AreUsable options → Joined options turns → BothKnown options (with_turns side more turns)
+    → FitsStep step → BothStand options turns → StepTurns (endpoint_after (of_side side options) (of_side side turns)) (packets_shown (of_other side options) (of_other side turns)) step more
+    → BothStand options (with_turns side more turns)
+stepped law options turns step more sides.A are j known in_memory h taken =
+    let done = side_acts law options.a options.b turns.a turns.b more j.a.fits j.a.own_options (are sides.B).fits known.a known.b known.matched h.to_b h.to_a step in_memory taken in
+    record { to_b = done.sends; to_a = done.receives }
+stepped law options turns step more sides.B are j known in_memory h taken =
+    let done = side_acts law options.b options.a turns.b turns.a more j.b.fits j.b.own_options (are sides.A).fits known.b known.a
+    (matched_swapped (noted_past turns.a) (noted_past (turns.b ++ more)) known.matched) h.to_a h.to_b step in_memory taken in
+    record { to_b = done.receives; to_a = done.sends }
+
+acted : Below → (options : Both Options) (turns : Both (List Turned)) (act : ActContent) (more : List Turned) → AreUsable options → IsHonestAct act → AreInMemory (act ∷ []) → Joined options turns
+    → BothKnown options (with_turns (side_of_act act) more turns) → BothStand options turns → NextTurns options turns act more → BothStand options (with_turns (side_of_act act) more turns)
+acted law options turns (step_act step) more are honest in_memory j known h taken = stepped law options turns step more (side_of step) are j known in_memory.0 h taken
+acted law options turns (outside_act outside) more are honest in_memory j known h taken = absurd honest
+
+both_stand : Below → (options : Both Options) (run : List Worked) → AreUsable options → SocketRun options run → AreHonest (acts_of run) → AreInMemory (acts_of run) → BothKnown options (turns_after run)
+    → BothStand options (turns_after run)
+both_stand law options [] are runs honest in_memory known = record { to_b = ends_begin options.a options.b; to_a = ends_begin options.b options.a }
+both_stand law options (worked ∷ earlier) are runs honest in_memory known =
+    let before : BothKnown options (turns_after earlier) = both_front options (turns_after earlier) (side_of_act worked.act) worked.turns known in
+    acted law options (turns_after earlier) worked.act worked.turns are honest.0 (in_memory.0, tt) (joined law options earlier are runs.1 honest.1) known
+    (both_stand law options earlier are runs.1 honest.1 in_memory.1 before) runs.0
+
+-- ---- what is known of a run
+
+-- the laws below that this rests on
+pub record DeliveryLaws : Type 0 where
+  pub below : Below
+  pub answers : AnswerKeepsAgreement
+  pub moves : MoveLaws
+
+keeps_options : (e : Endpoint) (t : Turned) → Moves e t.outcome → KeepsOptions e t
+keeps_options e t (it_rests core options effects told) = options
+keeps_options e t (it_moves change turn is) = is.options
+
+good_one : (event : Event Emission) → OfSent IsSendable event → OfSent GoesToMaker event → OfSent HasNoInterleaved event → OfSent GoodPacket event
+good_one (sent emission) sendable goes plain = record { sendable = sendable; goes = goes; plain = plain }
+good_one event sendable goes plain = tt
+
+good_all : (events : List (Event Emission)) → AllSent IsSendable events → AllSent GoesToMaker events → AllSent HasNoInterleaved events → AllSent GoodPacket events
+good_all [] sendable goes plain = tt
+good_all (event ∷ events) sendable goes plain = (good_one event sendable.0 goes.0 plain.0, good_all events sendable.1 goes.1 plain.1)
+
+both_known : DeliveryLaws → (options : Both Options) (run : List Worked) → AreUsable options → SocketRun options run → AreHonest (acts_of run) → AreFresh (turns_after run) → AllowsDelivery options (turns_after run)
+    → BothKnown options (turns_after run)
+both_known law options run are runs honest fresh allows =
+    let j : Joined options (turns_after run) = joined law.below options run are runs honest in
+    record {
+      a = record {
+        own = run_along IsOwn own_turn options run runs sides.A;
+        keeps = of_moves law.moves KeepsOptions keeps_options options run are runs sides.A;
+        packets = good_all (events_of (turns_after run).a) (all_sent_map (λ emission went. went.sendable) (events_of (turns_after run).a) j.a.went)
+            (echoes_go_to_makers law.below law.answers options run are runs honest fresh sides.A) (allows.without_interleaving sides.A);
+        tags = allows.tags.a;
+        little = allows.little sides.A;
+      };
+      b = record {
+        own = run_along IsOwn own_turn options run runs sides.B;
+        keeps = of_moves law.moves KeepsOptions keeps_options options run are runs sides.B;
+        packets = good_all (events_of (turns_after run).b) (all_sent_map (λ emission went. went.sendable) (events_of (turns_after run).b) j.b.went)
+            (echoes_go_to_makers law.below law.answers options run are runs honest fresh sides.B) (allows.without_interleaving sides.B);
+        tags = allows.tags.b;
+        little = allows.little sides.B;
+      };
+      matched = allows.tags.matched;
+    }
+
+-- ---- what was read
+
+one_way : (mine theirs : Options) (turns others : List Turned) → SendsLittle mine turns → Stand mine theirs turns others → IsDelivered (sent_of (fresh_endpoint mine) turns) (read_of (fresh_endpoint theirs) others)
+one_way mine theirs turns others little h =
+    let same = queued_same mine turns in
+    let all : Delivered (queued_of mine turns) (messages_of (reads_of theirs others)) =
+    ends_deliver theirs h.ends (endpoint_after mine turns) (queued_of mine turns) (noted_past turns) (packets_of turns) (endpoint_after theirs others) (noted_past others) (reads_of theirs others) h.between
+    (subst (λ (n : ℕ). n < 2 ^ 31) (sym same.weighs) little) in
+    subst (IsDelivered (sent_of (fresh_endpoint mine) turns)) (turns_read (fresh_endpoint theirs) others [])
+    (is_delivered (queued_of mine turns) (sent_of (fresh_endpoint mine) turns) (messages_of (reads_of theirs others)) same all)
+
+deliver_now : DeliveryLaws → (options : Both Options) (run : List Worked) → AreUsable options → AreInMemory (acts_of run) → SocketRun options run → AreHonest (acts_of run) → AreFresh (turns_after run) → AllowsDelivery options (turns_after run) → (side : Side)
+    → Delivers options (turns_after run) side
+deliver_now law options run are in_memory runs honest fresh allows side =
+    both_deliver (both_stand law.below options run are runs honest in_memory (both_known law options run are runs honest fresh allows)) side
+  where
+    both_deliver : BothStand options (turns_after run) → (s : Side) → Delivers options (turns_after run) s
+    both_deliver h sides.A = one_way options.b options.a (turns_after run).b (turns_after run).a (allows.little sides.B) h.to_a
+    both_deliver h sides.B = one_way options.a options.b (turns_after run).a (turns_after run).b (allows.little sides.A) h.to_b
+
+pub sockets_deliver : DeliveryLaws → SocketsDeliver
+sockets_deliver law options [] are in_memory runs = tt
+sockets_deliver law options (worked ∷ earlier) are in_memory runs = (
+  (λ honest fresh allows. deliver_now law options (worked ∷ earlier) are in_memory runs honest fresh allows),
+  sockets_deliver law options earlier are in_memory.1 runs.1,
+)

@@ -1,0 +1,114 @@
+-- What is known of each side of a run, and so of each first part of it.
+use Rattle.std.proofs.Common.{◌≡◌, List, [], ◌∷◌, ◌++◌, refl, sym, ◌∙◌, ap, arith, subst, append_assoc}
+use Rattle.dcsctp_machine.specs.declared.options.Options.{Options}
+use Rattle.dcsctp_machine.specs.declared.schedule.Side.{Side}
+use Rattle.dcsctp_machine.specs.declared.schedule.Side.TheVariants as sides
+use Rattle.dcsctp_machine.specs.CallTurns.{Turned, IsTurn, AlongTurns, after_all, effects_of, events_of}
+use Rattle.dcsctp_machine.specs.Endpoint.{Endpoint, fresh_endpoint}
+use Rattle.dcsctp_machine.specs.Event.{Event}
+use Rattle.dcsctp_machine.specs.Fitting.{AllSent, IsSendable}
+use Rattle.dcsctp_machine.specs.Packet.{Emission}
+use Rattle.dcsctp_machine.specs.Past.{Each}
+use Rattle.dcsctp_machine.specs.Sockets.{Both, with_turns, endpoint_after}
+use Rattle.dcsctp_machine.specs.Turn.{Input, Turn}
+use Rattle.dcsctp_machine.specs.World.{after_effects}
+use Rattle.dcsctp_machine.specs.control.Effect.{Effect}
+use Rattle.dcsctp_machine.specs.transfer.Messages.{MessageContent}
+use Rattle.dcsctp_machine.proofs.TurnLemmas.{effects_of-append, events_of-append}
+use Rattle.dcsctp_machine_agreement.proofs.Growth.{after_effects-append}
+use Rattle.dcsctp_machine_refinement.specs.Agreement.{noted_past}
+use Rattle.dcsctp_delivery_sockets.specs.Acts.{AreTurns}
+use Rattle.dcsctp_delivery_sockets.specs.Echoes.{GoesToMaker}
+use Rattle.dcsctp_delivery_sockets.specs.UserMessages.{sent_in, sent_of}
+use Rattle.dcsctp_delivery_sockets.specs.Delivery.{IsOfNewTags, MatchByTags, weight_of, SendsLittle, HasNoInterleaved}
+use Rattle.dcsctp_delivery_sockets.proofs.NewLinks.{KeepsOptions, each_earlier, matched_earlier}
+use Rattle.dcsctp_delivery_sockets.proofs.UserMessages.{weight_append}
+
+-- ---- lists of turns and of events
+
+module _ (Good : Endpoint → Turned → Type 0) where
+  along_front : (e : Endpoint) (turns more : List Turned) → AlongTurns Good e (turns ++ more) → AlongTurns Good e turns
+  along_front e [] more along = tt
+  along_front e (t ∷ turns) more along = (along.0, along_front t.outcome.after turns more along.1)
+
+  along_rest : (e : Endpoint) (turns more : List Turned) → AlongTurns Good e (turns ++ more) → AlongTurns Good (after_all e turns) more
+  along_rest e [] more along = along
+  along_rest e (t ∷ turns) more along = along_rest t.outcome.after turns more along.1
+
+sent_front : (Good : Emission → Type 0) (events more : List (Event Emission)) → AllSent Good (events ++ more) → AllSent Good events
+sent_front Good [] more each = tt
+sent_front Good (event ∷ events) more each = (each.0, sent_front Good events more each.1)
+
+abbrev pub IsOwn : Endpoint → Turned → Type 0
+IsOwn e turn = Turn e turn.input turn.outcome
+
+pub own_turn : (e : Endpoint) (input : Input) (turn : Turned) → IsTurn e input turn → IsOwn e turn
+own_turn e input turn is = subst (λ (i : Input). Turn e i turn.outcome) (sym is.is) is.comes
+
+are_turns : (e : Endpoint) (turns : List Turned) → AlongTurns IsOwn e turns → AreTurns e turns
+are_turns e [] along = tt
+are_turns e (t ∷ turns) along = (along.0, are_turns t.outcome.after turns along.1)
+
+pub past_more : (turns more : List Turned) → noted_past (turns ++ more) ≡ after_effects (effects_of more) (noted_past turns)
+past_more turns more = ap (λ (effects : List Effect). after_effects effects []) (effects_of-append turns more) ∙ after_effects-append (effects_of turns) (effects_of more) []
+
+sent_more : (e : Endpoint) (turns more : List Turned) → sent_of e (turns ++ more) ≡ sent_of e turns ++ sent_of (after_all e turns) more
+sent_more e [] more = refl
+sent_more e (t ∷ turns) more =
+    ap (λ (l : List MessageContent). sent_in e t.input ++ l) (sent_more t.outcome.after turns more) ∙ sym (append_assoc (sent_in e t.input) (sent_of t.outcome.after turns) (sent_of (after_all t.outcome.after turns) more))
+
+-- ---- one side
+
+-- a packet that a side sent
+pub record GoodPacket (emission : Emission) : Type 0 where
+  pub sendable : IsSendable emission
+  pub goes : GoesToMaker emission
+  pub plain : HasNoInterleaved emission
+
+pub record SideKnown (options : Options) (turns : List Turned) : Type 0 where
+  pub own : AlongTurns IsOwn (fresh_endpoint options) turns
+  pub keeps : AlongTurns KeepsOptions (fresh_endpoint options) turns
+  pub packets : AllSent GoodPacket (events_of turns)
+  pub tags : Each IsOfNewTags (noted_past turns)
+  pub little : SendsLittle options turns
+
+pub side_front : (options : Options) (turns more : List Turned) → SideKnown options (turns ++ more) → SideKnown options turns
+side_front options turns more h =
+    record {
+      own = along_front IsOwn (fresh_endpoint options) turns more h.own;
+      keeps = along_front KeepsOptions (fresh_endpoint options) turns more h.keeps;
+      packets = sent_front GoodPacket (events_of turns) (events_of more) (subst (AllSent GoodPacket) (events_of-append turns more) h.packets);
+      tags = each_earlier IsOfNewTags (effects_of more) (noted_past turns) (subst (Each IsOfNewTags) (past_more turns more) h.tags);
+      little =
+          (let both = ap weight_of (sent_more (fresh_endpoint options) turns more) ∙ weight_append (sent_of (fresh_endpoint options) turns) (sent_of (endpoint_after options turns) more) in
+          let few = h.little in
+          omega (arith, both, few));
+    }
+
+-- what is known of the turns of an act
+pub rest_turns : (options : Options) (turns more : List Turned) → SideKnown options (turns ++ more) → AreTurns (endpoint_after options turns) more
+rest_turns options turns more h = are_turns (endpoint_after options turns) more (along_rest IsOwn (fresh_endpoint options) turns more h.own)
+
+pub rest_keeps : (options : Options) (turns more : List Turned) → SideKnown options (turns ++ more) → AlongTurns KeepsOptions (endpoint_after options turns) more
+rest_keeps options turns more h = along_rest KeepsOptions (fresh_endpoint options) turns more h.keeps
+
+-- ---- both sides
+
+pub record BothKnown (options : Both Options) (turns : Both (List Turned)) : Type 0 where
+  pub a : SideKnown options.a turns.a
+  pub b : SideKnown options.b turns.b
+  pub matched : MatchByTags (noted_past turns.a) (noted_past turns.b)
+
+pub both_front : (options : Both Options) (turns : Both (List Turned)) (side : Side) (more : List Turned) → BothKnown options (with_turns side more turns) → BothKnown options turns
+both_front options turns sides.A more h =
+    record {
+      a = side_front options.a turns.a more h.a;
+      b = h.b;
+      matched = matched_earlier (noted_past turns.a) (noted_past turns.b) (effects_of more) [] (subst (λ (p : List Effect). MatchByTags p (noted_past turns.b)) (past_more turns.a more) h.matched);
+    }
+both_front options turns sides.B more h =
+    record {
+      a = h.a;
+      b = side_front options.b turns.b more h.b;
+      matched = matched_earlier (noted_past turns.a) (noted_past turns.b) [] (effects_of more) (subst (λ (p : List Effect). MatchByTags (noted_past turns.a) p) (past_more turns.b more) h.matched);
+    }

@@ -1,0 +1,138 @@
+-- What is known of all associations in one direction outlasts each act of either side.
+use Rattle.std.proofs.Common.{◌≡◌, ℕ, ◌<◌, ◌≤◌, ◌^◌, List, [], ◌∷◌, ◌++◌, length, refl, sym, ◌∙◌, ap, arith, subst}
+use Rattle.dcsctp_wire.specs.Content.{PacketContent}
+use Rattle.dcsctp_wire.specs.Format.{IsPacket}
+use Rattle.dcsctp_machine.specs.declared.options.Options.{Options}
+use Rattle.dcsctp_machine.specs.Schedule.{CallContent}
+use Rattle.dcsctp_machine.specs.Settings.{SameOptions, wire_options}
+use Rattle.dcsctp_machine.specs.CallTurns.{Turned, HandleInput, after_all, effects_of, events_of}
+use Rattle.dcsctp_machine.specs.Endpoint.{Endpoint, fresh_endpoint}
+use Rattle.dcsctp_machine.specs.Event.{packets_in}
+use Rattle.dcsctp_machine.specs.Packet.{packet_in, Emission}
+use Rattle.dcsctp_machine.specs.Past.{Each}
+use Rattle.dcsctp_machine.specs.Sockets.{UserTurns, endpoint_after}
+use Rattle.dcsctp_machine.specs.World.{after_effects}
+use Rattle.dcsctp_machine.specs.control.Effect.{Effect}
+use Rattle.dcsctp_machine.specs.transfer.Messages.{MessageContent}
+use Rattle.dcsctp_machine.proofs.TurnLemmas.{after_all-append, events_of-append}
+use Rattle.dcsctp_machine_refinement.specs.Agreement.{noted_past}
+use Rattle.dcsctp_machine_refinement.proofs.Bursts.{packets_in-append}
+use Rattle.dcsctp_delivery_sending.specs.Log.{Message}
+use Rattle.dcsctp_delivery_sending.specs.Places as places
+use Rattle.dcsctp_delivery_turns.specs.Actions.{queued_after}
+use Rattle.dcsctp_delivery_associations.specs.Laws.{AreEnds}
+use Rattle.dcsctp_delivery_associations.specs.Reads.{Read, reads_after}
+use Rattle.dcsctp_delivery_sockets.specs.Acts.{queued_through, AreNewPeers}
+use Rattle.dcsctp_delivery_sockets.specs.Packets.{reads_through, AreNewTags}
+use Rattle.dcsctp_delivery_sockets.specs.UserMessages.{sent_of}
+use Rattle.dcsctp_delivery_sockets.specs.Delivery.{IsOfNewTags, MatchByTags, weight_of, SendsLittle}
+use Rattle.dcsctp_delivery_sockets.proofs.Acts.{senders_act, receivers_act, receivers_handle}
+use Rattle.dcsctp_delivery_sockets.proofs.Calls.{NoChunks, AreCalls, call_without}
+use Rattle.dcsctp_delivery_sockets.proofs.NewLinks.{AllOpenFitting, none_open, matched_swapped, new_peers, new_tags}
+use Rattle.dcsctp_delivery_sockets.proofs.Known.{past_more, GoodPacket, SideKnown, rest_turns, rest_keeps}
+use Rattle.dcsctp_delivery_sockets.proofs.UserMessages.{SaysSame, nothing_same, turns_same}
+
+-- ---- what two sockets have done
+
+abbrev pub queued_of : Options → List Turned → List Message
+queued_of options turns = queued_through (fresh_endpoint options) turns []
+
+abbrev pub packets_of : List Turned → List Emission
+packets_of turns = packets_in (events_of turns)
+
+abbrev pub reads_of : Options → List Turned → List Read
+reads_of options turns = reads_through (fresh_endpoint options) turns []
+
+-- the direction from the one to the other
+abbrev pub Stand : Options → Options → List Turned → List Turned → Type 0
+Stand mine theirs turns others =
+    AreEnds theirs (endpoint_after mine turns) (queued_of mine turns) (noted_past turns) (packets_of turns) (endpoint_after theirs others) (noted_past others) (reads_of theirs others)
+
+queued_more : (e : Endpoint) (turns more : List Turned) (queued : List Message) → queued_through e (turns ++ more) queued ≡ queued_through (after_all e turns) more (queued_through e turns queued)
+queued_more e [] more queued = refl
+queued_more e (t ∷ turns) more queued = queued_more t.outcome.after turns more (queued_after e t.input queued)
+
+reads_more : (e : Endpoint) (turns more : List Turned) (reads : List Read) → reads_through e (turns ++ more) reads ≡ reads_through (after_all e turns) more (reads_through e turns reads)
+reads_more e [] more reads = refl
+reads_more e (t ∷ turns) more reads = reads_more t.outcome.after turns more (reads_after e t.input reads)
+
+packets_more : (turns more : List Turned) → packets_of (turns ++ more) ≡ packets_of turns ++ packets_of more
+packets_more turns more = ap packets_in (events_of-append turns more) ∙ packets_in-append (events_of turns) (events_of more)
+
+-- ---- little is sent
+
+fewer : (messages : List MessageContent) → length messages ≤ weight_of messages
+fewer [] = omega arith
+fewer (message ∷ messages) = (let rest = fewer messages in omega (arith, rest))
+
+pub queued_same : (options : Options) (turns : List Turned) → SaysSame (queued_of options turns) (sent_of (fresh_endpoint options) turns)
+queued_same options turns = turns_same (fresh_endpoint options) turns [] [] nothing_same
+
+few_queued : (options : Options) (turns : List Turned) → SendsLittle options turns → length (queued_of options turns) < 2 ^ 64
+few_queued options turns little =
+    let same = queued_same options turns in
+    let few = fewer (sent_of (fresh_endpoint options) turns) in
+    omega (arith, same.size, few, little)
+
+-- ---- the sender acts
+
+module _ (theirs : Options) (d : Endpoint) (their_past : List Effect) (reads : List Read) where
+  same_sender : (e e' : Endpoint) (queued queued' : List Message) (past past' : List Effect) (packets packets' : List Emission) → e ≡ e' → queued ≡ queued' → past ≡ past' → packets ≡ packets'
+      → AreEnds theirs e queued past packets d their_past reads → AreEnds theirs e' queued' past' packets' d their_past reads
+  same_sender e e' queued queued' past past' packets packets' same_e same_queued same_past same_packets h =
+      subst (λ (x : Endpoint). AreEnds theirs x queued' past' packets' d their_past reads) same_e
+      (subst (λ (x : List Message). AreEnds theirs e x past' packets' d their_past reads) same_queued
+      (subst (λ (x : List Effect). AreEnds theirs e queued x packets' d their_past reads) same_past
+      (subst (λ (x : List Emission). AreEnds theirs e queued past x d their_past reads) same_packets h)))
+
+pub sender_more : (mine theirs : Options) (turns others more : List Turned) → Stand mine theirs turns others → SideKnown mine (turns ++ more) → MatchByTags (noted_past (turns ++ more)) (noted_past others)
+    → AreCalls more → AllOpenFitting more → Stand mine theirs (turns ++ more) others
+sender_more mine theirs turns others more h known matched calls opens =
+    let e : Endpoint = endpoint_after mine turns in
+    let past : List Effect = noted_past turns in
+    let new : AreNewPeers past (noted_past others) e more =
+    new_peers (noted_past others) more past e calls opens (subst (Each IsOfNewTags) (past_more turns more) known.tags)
+    (subst (λ (p : List Effect). MatchByTags p (noted_past others)) (past_more turns more) matched) in
+    let few : length (queued_through e more (queued_of mine turns)) < 2 ^ 64 =
+    subst (λ (q : List Message). length q < 2 ^ 64) (queued_more (fresh_endpoint mine) turns more []) (few_queued mine (turns ++ more) known.little) in
+    same_sender theirs (endpoint_after theirs others) (noted_past others) (reads_of theirs others) (after_all e more) (endpoint_after mine (turns ++ more)) (queued_through e more (queued_of mine turns)) (queued_of mine (turns ++ more))
+    (after_effects (effects_of more) past) (noted_past (turns ++ more)) (packets_of turns ++ packets_of more) (packets_of (turns ++ more)) (sym (after_all-append (fresh_endpoint mine) turns more))
+    (sym (queued_more (fresh_endpoint mine) turns more [])) (sym (past_more turns more)) (sym (packets_more turns more))
+    (senders_act theirs (endpoint_after theirs others) (noted_past others) (reads_of theirs others) more e (queued_of mine turns) past (packets_of turns) h (rest_turns mine turns more known) new few)
+
+-- ---- the receiver acts
+
+module _ (theirs : Options) (e : Endpoint) (queued : List Message) (past : List Effect) (packets : List Emission) where
+  same_receiver : (d d' : Endpoint) (their_past their_past' : List Effect) (reads reads' : List Read) → d ≡ d' → their_past ≡ their_past' → reads ≡ reads'
+      → AreEnds theirs e queued past packets d their_past reads → AreEnds theirs e queued past packets d' their_past' reads'
+  same_receiver d d' their_past their_past' reads reads' same_d same_past same_reads h =
+      subst (λ (x : Endpoint). AreEnds theirs e queued past packets x their_past' reads') same_d
+      (subst (λ (x : List Effect). AreEnds theirs e queued past packets d x reads') same_past
+      (subst (λ (x : List Read). AreEnds theirs e queued past packets d their_past x) same_reads h))
+
+module _ (mine theirs : Options) (turns others more : List Turned) (h : Stand mine theirs turns others) (known : SideKnown theirs (others ++ more)) (matched : MatchByTags (noted_past turns) (noted_past (others ++ more)))
+    (own : SameOptions theirs (endpoint_after theirs others).options) (little : SendsLittle mine turns) where
+  their_tags : AllOpenFitting more → AreNewTags theirs (noted_past others) (noted_past turns) (endpoint_after theirs others) more
+  their_tags opens =
+      new_tags theirs (noted_past turns) more (noted_past others) (endpoint_after theirs others) own (rest_keeps theirs others more known) opens (subst (Each IsOfNewTags) (past_more others more) known.tags)
+      (subst (λ (p : List Effect). MatchByTags p (noted_past turns)) (past_more others more) (matched_swapped (noted_past turns) (noted_past (others ++ more)) matched))
+
+  now_stands : AreEnds theirs (endpoint_after mine turns) (queued_of mine turns) (noted_past turns) (packets_of turns) (after_all (endpoint_after theirs others) more) (after_effects (effects_of more) (noted_past others))
+      (reads_through (endpoint_after theirs others) more (reads_of theirs others)) → Stand mine theirs turns (others ++ more)
+  now_stands after =
+      same_receiver theirs (endpoint_after mine turns) (queued_of mine turns) (noted_past turns) (packets_of turns) (after_all (endpoint_after theirs others) more) (endpoint_after theirs (others ++ more))
+      (after_effects (effects_of more) (noted_past others)) (noted_past (others ++ more)) (reads_through (endpoint_after theirs others) more (reads_of theirs others)) (reads_of theirs (others ++ more))
+      (sym (after_all-append (fresh_endpoint theirs) others more)) (sym (past_more others more)) (sym (reads_more (fresh_endpoint theirs) others more [])) after
+
+  pub receiver_calls : (call : CallContent) → UserTurns (endpoint_after theirs others) call more → AreCalls more → Stand mine theirs turns (others ++ more)
+  receiver_calls call taken calls =
+      let none : NoChunks more = call_without (endpoint_after theirs others) call more taken in
+      now_stands (receivers_act theirs (endpoint_after mine turns) (queued_of mine turns) (noted_past turns) (packets_of turns) (few_queued mine turns little) more (endpoint_after theirs others) (noted_past others)
+      (reads_of theirs others) h none (rest_turns theirs others more known) calls (their_tags (none_open more none)))
+
+  pub receiver_handles : (bytes : List ℕ) (emission : Emission) → places.Has emission (packets_of turns) → GoodPacket emission
+      → ((packet : PacketContent) → IsPacket (wire_options (endpoint_after theirs others).options) packet bytes → packet_in packet ≡ emission.packet) → HandleInput (endpoint_after theirs others) bytes more → AllOpenFitting more
+      → Stand mine theirs turns (others ++ more)
+  receiver_handles bytes emission has good is taken opens =
+      now_stands (receivers_handle theirs (endpoint_after mine turns) (queued_of mine turns) (noted_past turns) (packets_of turns) (few_queued mine turns little) (endpoint_after theirs others) (noted_past others)
+      (reads_of theirs others) emission bytes more h has good.goes good.plain is (their_tags opens) taken)

@@ -1,0 +1,98 @@
+-- What a user reads is what its peer's user sent, over every list of honest acts of two sockets. So far without interleaving.
+use Rattle.std.specs.Prelude.{◌≡◌, ◌≢◌, ◌⊎◌, ◌<◌, ◌+◌, ◌^◌, ℕ, suc, List, [], ◌∷◌, length}
+use Rattle.std.specs.List.{AllByRecursion}
+use Rattle.dcsctp_machine.specs.declared.options.Options.{Options}
+use Rattle.dcsctp_machine.specs.declared.schedule.Side.{Side}
+use Rattle.dcsctp_machine.specs.Schedule.{CallContent, send_call, send_many_call, StepContent, call_step, ActContent, step_act, AreHonest}
+use Rattle.dcsctp_machine.specs.CallTurns.{Turned, events_of}
+use Rattle.dcsctp_machine.specs.Endpoint.{fresh_endpoint}
+use Rattle.dcsctp_machine.specs.Fitting.{AllSent}
+use Rattle.dcsctp_machine.specs.Packet.{Emission}
+use Rattle.dcsctp_machine.specs.Past.{Has, Each}
+use Rattle.dcsctp_machine.specs.Sockets.{Worked, Both, of_side, of_other, turns_after, SocketRun, acts_of}
+use Rattle.dcsctp_machine.specs.control.Effect.{Link, Effect, holds}
+use Rattle.dcsctp_machine.specs.transfer.Messages.{MessageContent}
+use Rattle.dcsctp_machine_refinement.specs.Agreement.{AreUsable, AreFresh, noted_past}
+use Rattle.dcsctp_delivery_sockets.specs.Packets.{IsNotInterleaved}
+use Rattle.dcsctp_delivery_sockets.specs.UserMessages.{sent_of, read_of, IsDelivered}
+
+-- ---- messages in memory
+
+-- The message fits the fields of a chunk, as one in memory does.
+pub record FitsMessage (message : MessageContent) : Type 0 where
+  pub stream : message.stream < 2 ^ 16
+  pub ppid : message.ppid < 2 ^ 32
+  pub payload : AllByRecursion (λ byte. byte < 2 ^ 8) message.payload
+
+abbrev pub FitsCall : CallContent → Type 0
+FitsCall (send_call message options) = FitsMessage message
+FitsCall (send_many_call messages options) = AllByRecursion FitsMessage messages
+FitsCall call = Unit {0}
+
+abbrev pub FitsStep : StepContent → Type 0
+FitsStep (call_step side call) = FitsCall call
+FitsStep step = Unit {0}
+
+abbrev pub FitsAct : ActContent → Type 0
+FitsAct (step_act step) = FitsStep step
+FitsAct act = Unit {0}
+
+abbrev pub AreInMemory : List ActContent → Type 0
+AreInMemory acts = AllByRecursion FitsAct acts
+
+-- ---- each verification tag serves one association
+
+-- An association that begins at a side has another own tag, and another peer's tag, than each earlier one of this side.
+abbrev pub IsOfNewTags : Effect → List Effect → Type 0
+IsOfNewTags (holds link) earlier = (old : Link) → Has (holds old) earlier → (old.my.tag ≢ link.my.tag) × (old.peer.tag ≢ link.peer.tag)
+IsOfNewTags effect earlier = Unit {0}
+
+-- If an association of the one side and one of the other have a tag in common, they match.
+abbrev pub MatchByTags : List Effect → List Effect → Type 0
+MatchByTags mine theirs =
+    (link other : Link) → Has (holds link) mine → Has (holds other) theirs → (link.my.tag ≡ other.peer.tag) ⊎ (link.peer.tag ≡ other.my.tag)
+    → (link.my ≡ other.peer) × (link.peer ≡ other.my)
+
+pub record TagsServeOnce (turns : Both (List Turned)) : Type 0 where
+  pub a : Each IsOfNewTags (noted_past turns.a)
+  pub b : Each IsOfNewTags (noted_past turns.b)
+  pub matched : MatchByTags (noted_past turns.a) (noted_past turns.b)
+
+-- ---- how much is sent
+
+-- the bytes and messages, together: an association assigns at most so many TSNs
+abbrev pub weight_of : List MessageContent → ℕ
+weight_of [] = 0
+weight_of (message ∷ messages) = suc (length message.payload) + weight_of messages
+
+abbrev pub SendsLittle : Options → List Turned → Type 0
+SendsLittle options turns = weight_of (sent_of (fresh_endpoint options) turns) < 2 ^ 31
+
+-- ---- without interleaving
+
+abbrev pub HasNoInterleaved : Emission → Type 0
+HasNoInterleaved emission = AllByRecursion IsNotInterleaved emission.packet.contents
+
+-- ---- the theorem
+
+-- All that delivery asks of a run, beside what agreement asks.
+pub record AllowsDelivery (options : Both Options) (turns : Both (List Turned)) : Type 0 where
+  pub tags : TagsServeOnce turns
+  pub little : (side : Side) → SendsLittle (of_side side options) (of_side side turns)
+  pub without_interleaving : (side : Side) → AllSent HasNoInterleaved (events_of (of_side side turns))
+
+-- What this side's user read is what the other's user sent, and no message was read twice, in any association.
+abbrev pub Delivers : Both Options → Both (List Turned) → Side → Type 0
+Delivers options turns side =
+    IsDelivered (sent_of (fresh_endpoint (of_other side options)) (of_other side turns)) (read_of (fresh_endpoint (of_side side options)) (of_side side turns))
+
+-- So it is at the end of each first part of the run that is honest, in which no tag was drawn twice and each served one association.
+abbrev pub DeliverThroughout : Both Options → List Worked → Type 0
+DeliverThroughout options [] = Unit {0}
+DeliverThroughout options (worked ∷ earlier) =
+    (AreHonest (acts_of (worked ∷ earlier)) → AreFresh (turns_after (worked ∷ earlier)) → AllowsDelivery options (turns_after (worked ∷ earlier))
+    → (side : Side) → Delivers options (turns_after (worked ∷ earlier)) side)
+    × DeliverThroughout options earlier
+
+abbrev pub SocketsDeliver : Type 0
+SocketsDeliver = (options : Both Options) (run : List Worked) → AreUsable options → AreInMemory (acts_of run) → SocketRun options run → DeliverThroughout options run

@@ -1,0 +1,64 @@
+-- What the user of a socket sends and reads, turn by turn, and when what one user read is what the other sent.
+use Rattle.std.specs.Prelude.{◌≡◌, ℕ, Option, None, Some, List, [], ◌∷◌, ◌++◌, slice_get}
+use Rattle.dcsctp_machine.specs.CallTurns.{Turned}
+use Rattle.dcsctp_machine.specs.Endpoint.{Endpoint}
+use Rattle.dcsctp_machine.specs.Turn.{Input, user_sends, user_takes}
+use Rattle.dcsctp_machine.specs.transfer.Messages.{MessageContent}
+use Rattle.dcsctp_machine.specs.transfer.Transfer.{Transfer}
+use Rattle.dcsctp_machine.specs.turns.MessageOutcomes.{MessageRefusal, Sending, sending_refusal, queue_one}
+use Rattle.dcsctp_delivery_receiving.specs.Ready.{AreDistinct}
+
+-- ---- sent
+
+-- the messages of a call that aren't refused, in order
+abbrev pub accepted_where : Option MessageRefusal → MessageContent → List MessageContent → List MessageContent
+accepted_where None message others = message ∷ others
+accepted_where (Some refusal) message others = others
+
+abbrev pub accepted : Endpoint → List Sending → List MessageContent
+accepted e [] = []
+accepted e (sending ∷ sendings) = accepted_where (sending_refusal e sending) sending.message (accepted (queue_one e sending).after sendings)
+
+abbrev pub sent_in : Endpoint → Input → List MessageContent
+sent_in e (user_sends sendings) = accepted e sendings
+sent_in e input = []
+
+-- all messages that the user of this socket sent in these turns, in order: those that `send` and `send_many` accepted
+abbrev pub sent_of : Endpoint → List Turned → List MessageContent
+sent_of e [] = []
+sent_of e (turn ∷ turns) = sent_in e turn.input ++ sent_of turn.outcome.after turns
+
+-- ---- read
+
+-- what a call reads: the first message that is ready, if one is
+abbrev pub first_of : List MessageContent → List MessageContent
+first_of [] = []
+first_of (message ∷ messages) = message ∷ []
+
+abbrev pub ready_in : Option Transfer → List MessageContent
+ready_in None = []
+ready_in (Some transfer) = transfer.reassembly.incoming.ready
+
+abbrev pub read_in : Endpoint → Input → List MessageContent
+read_in e user_takes = first_of (ready_in e.below.transfer)
+read_in e input = []
+
+-- all messages that the user of this socket read in these turns, in order
+abbrev pub read_of : Endpoint → List Turned → List MessageContent
+read_of e [] = []
+read_of e (turn ∷ turns) = read_in e turn.input ++ read_of turn.outcome.after turns
+
+-- ---- both
+
+-- Each of these was sent, at its place in the order of sending: stream, protocol identifier and bytes.
+abbrev pub WereSent : List MessageContent → List ℕ → List MessageContent → Type 0
+WereSent sent [] [] = Unit {0}
+WereSent sent [] (message ∷ messages) = ⊥
+WereSent sent (place ∷ places) [] = ⊥
+WereSent sent (place ∷ places) (message ∷ messages) = (slice_get sent place ≡ Some message) × WereSent sent places messages
+
+-- Each message that was read was sent, and none was read twice.
+pub record IsDelivered (sent read : List MessageContent) : Type 0 where
+  pub places : List ℕ
+  pub were_sent : WereSent sent places read
+  pub once : AreDistinct places
