@@ -138,7 +138,7 @@ module _ (options : Options) (ends : Ends) (e : Endpoint) (queued : List Message
         (record {
           fit = queues.1;
           queues = queues.0;
-          flight = subst (steps.NoneInFlight first) (sym waits.transfer) tt;
+          flight = subst (steps.NoneInFlight first (ends.sends tag).below.queue.is_interleaved) (sym waits.transfer) tt;
           acknowledged = waits.acknowledged;
           sent = waits.sent;
           tracker = refl;

@@ -17,7 +17,7 @@ use Rattle.dcsctp_delivery_sending.specs.Places.{set_at}
 use Rattle.dcsctp_delivery_sending.specs.Log.{Message}
 use Rattle.dcsctp_delivery_sending.proofs.Places.{decide, set_same, set_other}
 use Rattle.dcsctp_delivery_directions.specs.Directions.{Run}
-use Rattle.dcsctp_delivery_turns.specs.Actions.{IsOpening, came_by, peer_tag, read_after, Begun, IsCall}
+use Rattle.dcsctp_delivery_turns.specs.Actions.{IsOpening, came_by, peer_tag, read_after, Begun, IsCall, ResetsNone}
 use Rattle.dcsctp_delivery_turns.specs.Sides.{WasSent, receiving}
 use Rattle.dcsctp_delivery_turns.specs.Runs.{ReceiverTurns, receiver_goes_on, receiver_ends, receiver_begins, IdleTurns, idle_stays, idle_begins}
 use Rattle.dcsctp_delivery_turns.proofs.Runs.{receivers_go_on, receivers_begin}
@@ -114,10 +114,10 @@ module _ (options : Options) (ends : Ends) (e : Endpoint) (queued : List Message
     by_turn new (receiver_ends none gone unread) = unread_goes unread (rests gone)
     by_turn new (receiver_begins opens) = unread_goes opens.unread (opens_goes options ends e queued past packets d their_past reads h few same input o opens (new opens.begun opens.opening opens.linked))
 
-    turn_goes : ((begun : Begun d o) → IsOpening (came_by input) → link_in o.after.core ≡ Some (link_of begun.my begun.held) → NewTag their_past past (link_of begun.my begun.held)) → WasSent (ends.sends c.link.my.tag).sent (came_by input) → IsCall input → Turn d input o → Turned
-    turn_goes new sent may turn =
+    turn_goes : ((begun : Begun d o) → IsOpening (came_by input) → link_in o.after.core ≡ Some (link_of begun.my begun.held) → NewTag their_past past (link_of begun.my begun.held)) → WasSent (ends.sends c.link.my.tag).sent (came_by input) → IsCall input → ResetsNone d o → Turn d input o → Turned
+    turn_goes new sent may none turn =
         by_turn new
-        (receivers_go_on options (ends.firsts c.link.my.tag) options.max_receiver_window_buffer_size (joined (ends.sends c.link.my.tag) (ends.gets c.link.my.tag)) transfer d input o now there sent may turn)
+        (receivers_go_on options (ends.firsts c.link.my.tag) options.max_receiver_window_buffer_size (joined (ends.sends c.link.my.tag) (ends.gets c.link.my.tag)) transfer d input o now there sent may none turn)
 
   idle_goes : ((begun : Begun d o) → IsOpening (came_by input) → link_in o.after.core ≡ Some (link_of begun.my begun.held) → NewTag their_past past (link_of begun.my begun.held)) → IdleTurns d input o → Turned
   idle_goes new (idle_stays none unread) = unread_goes unread (rests none)
@@ -127,9 +127,9 @@ module _ (options : Options) (ends : Ends) (e : Endpoint) (queued : List Message
   abbrev pub Sent : Type 0
   Sent = (transfer : Transfer) (link : Link) → d.below.transfer ≡ Some transfer → link_in d.core ≡ Some link → WasSent (ends.sends link.my.tag).sent (came_by input)
 
-  by_transfer : ((begun : Begun d o) → IsOpening (came_by input) → link_in o.after.core ≡ Some (link_of begun.my begun.held) → NewTag their_past past (link_of begun.my begun.held)) → Sent → IsCall input → Turn d input o → (found : Option Transfer) → d.below.transfer ≡ found → Turned
-  by_transfer new sent may turn None none = idle_goes new (receivers_begin d input o none may turn)
-  by_transfer new sent may turn (Some transfer) there = (let c = h.receiver.current transfer there in turn_goes transfer there c new (sent transfer c.link there c.linked) may turn)
+  by_transfer : ((begun : Begun d o) → IsOpening (came_by input) → link_in o.after.core ≡ Some (link_of begun.my begun.held) → NewTag their_past past (link_of begun.my begun.held)) → Sent → IsCall input → ResetsNone d o → Turn d input o → (found : Option Transfer) → d.below.transfer ≡ found → Turned
+  by_transfer new sent may none turn None nowhere = idle_goes new (receivers_begin d input o nowhere may none turn)
+  by_transfer new sent may none turn (Some transfer) there = (let c = h.receiver.current transfer there in turn_goes transfer there c new (sent transfer c.link there c.linked) may none turn)
 
-  pub receiver_turns : ((begun : Begun d o) → IsOpening (came_by input) → link_in o.after.core ≡ Some (link_of begun.my begun.held) → NewTag their_past past (link_of begun.my begun.held)) → Sent → IsCall input → Turn d input o → Turned
-  receiver_turns new sent may turn = by_transfer new sent may turn d.below.transfer refl
+  pub receiver_turns : ((begun : Begun d o) → IsOpening (came_by input) → link_in o.after.core ≡ Some (link_of begun.my begun.held) → NewTag their_past past (link_of begun.my begun.held)) → Sent → IsCall input → ResetsNone d o → Turn d input o → Turned
+  receiver_turns new sent may none turn = by_transfer new sent may none turn d.below.transfer refl

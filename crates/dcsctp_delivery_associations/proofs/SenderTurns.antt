@@ -10,7 +10,7 @@ use Rattle.dcsctp_machine.specs.Turn.{Input, Turn}
 use Rattle.dcsctp_machine.specs.World.{after_effects}
 use Rattle.dcsctp_machine.specs.control.Effect.{link_in, Effect, link_of}
 use Rattle.dcsctp_delivery_sending.specs.Log.{Message}
-use Rattle.dcsctp_delivery_turns.specs.Actions.{IsOpening, came_by, peer_tag, queued_after, Begun, IsCall}
+use Rattle.dcsctp_delivery_turns.specs.Actions.{IsOpening, came_by, peer_tag, queued_after, Begun, IsCall, ResetsNone}
 use Rattle.dcsctp_delivery_turns.specs.Runs.{SenderTurns, run_goes_on, run_ends, run_begins}
 use Rattle.dcsctp_delivery_turns.proofs.Runs.{senders_go_on}
 use Rattle.dcsctp_delivery_associations.specs.Ends.{joined, Ends, NewPeer, Between}
@@ -42,11 +42,11 @@ module _ (options : Options) (ends : Ends) (e : Endpoint) (queued : List Message
       subst (λ (l : List Message). AreEnds options o.after l (after_effects o.effects past) (packets ++ packets_in o.events) d their_past reads) (sym stays)
       (begins options ends e queued past packets d their_past reads h input o begun (new begun opening linked) linked addressed shown fit later)
 
-  pub sender_turns : length (queued_after e input queued) < 2 ^ 64 → IsCall input → Turn e input o → AreEnds options o.after (queued_after e input queued) (after_effects o.effects past) (packets ++ packets_in o.events) d their_past reads
-  sender_turns few may turn =
+  pub sender_turns : length (queued_after e input queued) < 2 ^ 64 → IsCall input → ResetsNone e o → Turn e input o → AreEnds options o.after (queued_after e input queued) (after_effects o.effects past) (packets ++ packets_in o.events) d their_past reads
+  sender_turns few may none turn =
       by_turn
       (senders_go_on options (ends.firsts (peer_tag e.core)) options.max_receiver_window_buffer_size (joined (ends.sends (peer_tag e.core)) (ends.gets (peer_tag e.core))) e input o (h.runs (peer_tag e.core)) (h.small (peer_tag e.core))
-      h.sender.below_is long may turn)
+      h.sender.below_is long may none turn)
     where
       long : length (queued_after e input (ends.sends (peer_tag e.core)).queued) < 2 ^ 64
       long =

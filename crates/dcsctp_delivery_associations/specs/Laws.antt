@@ -1,4 +1,4 @@
--- What is known of all associations of two sockets, in the direction from one to the other, turn by turn. So far without interleaving.
+-- What is known of all associations of two sockets, in the direction from one to the other, turn by turn, with interleaving or without.
 use Rattle.std.specs.Prelude.{◌<◌, ◌^◌, Some, List, [], ◌++◌, length, ◌≡◌}
 use Rattle.dcsctp_machine.specs.declared.options.Options.{Options}
 use Rattle.dcsctp_machine.specs.Settings.{SameOptions}
@@ -13,7 +13,7 @@ use Rattle.dcsctp_machine.specs.transfer.Transfer.{Transfer}
 use Rattle.dcsctp_delivery_sending.specs.Log.{Message}
 use Rattle.dcsctp_delivery_sending.specs.Weights.{total}
 use Rattle.dcsctp_delivery_directions.specs.Directions.{Delivered}
-use Rattle.dcsctp_delivery_turns.specs.Actions.{IsOpening, came_by, queued_after, Begun, IsCall}
+use Rattle.dcsctp_delivery_turns.specs.Actions.{IsOpening, came_by, queued_after, Begun, IsCall, ResetsNone}
 use Rattle.dcsctp_delivery_turns.specs.Sides.{WasSent}
 use Rattle.dcsctp_delivery_associations.specs.Ends.{Ends, NewPeer, NewTag, Between}
 use Rattle.dcsctp_delivery_associations.specs.Reads.{Read, reads_after, messages_of}
@@ -31,7 +31,7 @@ EndsBegin = (mine options : Options) → AreEnds options (fresh_endpoint mine) [
 abbrev pub SendersTurn : Type 0
 SendersTurn =
     (options : Options) (ends : Ends) (e : Endpoint) (queued : List Message) (past : List Effect) (packets : List Emission) (other : Endpoint) (their_past : List Effect) (reads : List Read) (input : Input) (o : Outcome)
-    → Between options ends e queued past packets other their_past reads → ((begun : Begun e o) → IsOpening (came_by input) → link_in o.after.core ≡ Some (link_of begun.my begun.held) → NewPeer past their_past (link_of begun.my begun.held)) → length (queued_after e input queued) < 2 ^ 64 → IsCall input
+    → Between options ends e queued past packets other their_past reads → ((begun : Begun e o) → IsOpening (came_by input) → link_in o.after.core ≡ Some (link_of begun.my begun.held) → NewPeer past their_past (link_of begun.my begun.held)) → length (queued_after e input queued) < 2 ^ 64 → IsCall input → ResetsNone e o
     → Turn e input o → AreEnds options o.after (queued_after e input queued) (after_effects o.effects past) (packets ++ packets_in o.events) other their_past reads
 
 -- So does one of the receiver, if what is handled in its association was sent in it.
@@ -39,7 +39,7 @@ abbrev pub ReceiversTurn : Type 0
 ReceiversTurn =
     (options : Options) (ends : Ends) (e : Endpoint) (queued : List Message) (past : List Effect) (packets : List Emission) (other : Endpoint) (their_past : List Effect) (reads : List Read) (input : Input) (o : Outcome)
     → Between options ends e queued past packets other their_past reads → length queued < 2 ^ 64 → SameOptions options other.options → ((begun : Begun other o) → IsOpening (came_by input) → link_in o.after.core ≡ Some (link_of begun.my begun.held) → NewTag their_past past (link_of begun.my begun.held))
-    → ((transfer : Transfer) (link : Link) → other.below.transfer ≡ Some transfer → link_in other.core ≡ Some link → WasSent (ends.sends link.my.tag).sent (came_by input)) → IsCall input → Turn other input o
+    → ((transfer : Transfer) (link : Link) → other.below.transfer ≡ Some transfer → link_in other.core ≡ Some link → WasSent (ends.sends link.my.tag).sent (came_by input)) → IsCall input → ResetsNone other o → Turn other input o
     → AreEnds options e queued past packets o.after (after_effects o.effects their_past) (reads_after other input reads)
 
 -- Each message that was read, in any association, was queued, and none twice, if fewer than 2^31 bytes and messages were queued.

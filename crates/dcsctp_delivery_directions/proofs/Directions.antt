@@ -1,5 +1,5 @@
 -- Runs of a direction.
-use Rattle.std.proofs.Common.{◌≡◌, ℕ, zero, suc, ◌<◌, ◌≤◌, ◌+◌, ◌^◌, List, [], ◌∷◌, ◌++◌, length, refl, sym, ◌∙◌, ap, arith, subst}
+use Rattle.std.proofs.Common.{◌≡◌, ℕ, zero, suc, Bool, ◌<◌, ◌≤◌, ◌+◌, ◌^◌, List, [], ◌∷◌, ◌++◌, length, refl, sym, ◌∙◌, ap, arith, subst}
 use Rattle.std.specs.Prelude.{Option, None, Some, slice_get}
 use Rattle.std.specs.List.{AllByRecursion}
 use Rattle.std.proofs.lemmas.List.{append-nil}
@@ -15,9 +15,10 @@ use Rattle.dcsctp_delivery_sending.specs.Log.{Fits, Message, Slot}
 use Rattle.dcsctp_delivery_sending.specs.Flushes.{PacketsSay, InFlight}
 use Rattle.dcsctp_delivery_sending.specs.Stages.{SaysAt}
 use Rattle.dcsctp_delivery_sending.specs.Queueing.{QueueHolds}
+use Rattle.dcsctp_delivery_sending.specs.Numbers.{IsOfKind}
 use Rattle.dcsctp_delivery_receiving.specs.Ready.{WereQueued}
 use Rattle.dcsctp_delivery_receiving.specs.Received.{Received}
-use Rattle.dcsctp_delivery_directions.specs.Directions.{Direction, in_flight, assigned, Step, queues, sets, prepares, commits, rolls_back, resends, resends_nothing, speaks, turns_aside, tracks, defers, flushes, acknowledges, loses, receives, forwards, resets, takes, NoneInFlight, Begins, Run, begins, goes_on, starts, IsAwaited, Delivered}
+use Rattle.dcsctp_delivery_directions.specs.Directions.{Direction, in_flight, assigned, Step, queues, sets, prepares, commits, rolls_back, resends, resends_nothing, speaks, turns_aside, tracks, defers, flushes, acknowledges, loses, receives, receives_interleaved, forwards, forwards_interleaved, resets, takes, NoneInFlight, Begins, Run, begins, goes_on, starts, IsAwaited, Delivered}
 use Rattle.dcsctp_delivery_sending.proofs.KeptQueues.{kept_hold}
 use Rattle.dcsctp_delivery_sending.specs.Pieces.{IsGoing, HoldsQueued}
 use Rattle.dcsctp_delivery_sending.specs.Weights.{weight, total, sent_of}
@@ -36,7 +37,7 @@ more_queued : (old direction : Direction) → Step old direction → length old.
 more_queued old _ (queues now sending fits some) = omega arith
 more_queued old _ (sets setting) = omega arith
 more_queued old _ (prepares ids) = omega arith
-more_queued old _ commits = omega arith
+more_queued old _ (commits go_on) = omega arith
 more_queued old _ rolls_back = omega arith
 more_queued old _ (resends now room transfer left tsns chunks emission known sends are contents) = omega arith
 more_queued old _ (resends_nothing now room transfer left tsns known sends) = omega arith
@@ -49,12 +50,14 @@ more_queued old _ (acknowledges now sack transfer new known valid does) = omega 
 more_queued old _ (loses now transfer known) = omega arith
 more_queued old _ (receives emission chunk theirs new was holds some same same' does) = omega arith
 more_queued old _ (forwards emission tsn streams theirs new was holds same same' does) = omega arith
+more_queued old _ (receives_interleaved emission chunk theirs new was holds some same same' does) = omega arith
+more_queued old _ (forwards_interleaved emission tsn streams theirs new was holds same same' does) = omega arith
 more_queued old _ (resets streams new leaves) = omega arith
 more_queued old _ (takes message messages is) = omega arith
 
-begun_flight : (first acknowledged : ℕ) → acknowledged ≡ 0 → first < 2 ^ 32 → (transfer : Option Transfer) → NoneInFlight first transfer → InFlight [] first acknowledged transfer
-begun_flight first acknowledged zero_gone small None none = omega (arith, zero_gone)
-begun_flight first acknowledged zero_gone small (Some transfer) none =
+begun_flight : (first acknowledged : ℕ) (is_interleaved : Bool) → acknowledged ≡ 0 → first < 2 ^ 32 → (transfer : Option Transfer) → NoneInFlight first is_interleaved transfer → InFlight [] first acknowledged transfer
+begun_flight first acknowledged is_interleaved zero_gone small None none = omega (arith, zero_gone)
+begun_flight first acknowledged is_interleaved zero_gone small (Some transfer) none =
     record {
       tsn = (let tsn = none.0 in omega (arith, tsn, zero_gone, small));
       count = (let few : length transfer.retransmission.outstanding.items ≡ 0 = ap (λ (l : List Item). length l) none.1 in omega (arith, few, zero_gone));
@@ -65,12 +68,16 @@ begun_flight first acknowledged zero_gone small (Some transfer) none =
     nothing_at zero item at = absurd (cc)
     nothing_at (suc k) item at = absurd (cc)
 
+begun_kind : (first : ℕ) (is_interleaved : Bool) (transfer : Option Transfer) → NoneInFlight first is_interleaved transfer → IsOfKind is_interleaved transfer
+begun_kind first is_interleaved None none = tt
+begun_kind first is_interleaved (Some transfer) none = none.2
+
 no_slots : (log : List Slot) → length log ≡ 0 → log ≡ []
 no_slots [] none = refl
 no_slots (slot ∷ log) none = absurd (omega (arith, none))
 
 -- the side that sends begins
-started_stands : (first : ℕ) (old : Direction) (queued : List Message) (below : Below) → first < 2 ^ 32 → Stands first old → IsAwaited old → AllByRecursion Fits queued → QueueHolds queued [] below.queue → NoneInFlight first below.transfer
+started_stands : (first : ℕ) (old : Direction) (queued : List Message) (below : Below) → first < 2 ^ 32 → Stands first old → IsAwaited old → AllByRecursion Fits queued → QueueHolds queued [] below.queue → NoneInFlight first below.queue.is_interleaved below.transfer
     → Stands first (record old { queued = queued; below = below })
 started_stands first old queued below small s awaited fit waits none =
     record {
@@ -80,10 +87,12 @@ started_stands first old queued below small s awaited fit waits none =
       below = record {
         queue_holds = waits.queue_holds;
         cut = record { pieces = λ n f at. absurd (cc); rows = λ n f some at started. absurd (cc); ascends = λ m n f g less at at'. absurd (cc) };
-        flight = begun_flight first old.acknowledged awaited.acknowledged small below.transfer none;
+        flight = begun_flight first old.acknowledged below.queue.is_interleaved awaited.acknowledged small below.transfer none;
+        numbers = waits.numbers;
+        kind = begun_kind first below.queue.is_interleaved below.transfer none;
       };
       packets = subst (λ (l : List Emission). PacketsSay [] first l) (sym awaited.sent) tt;
-      count = counted_flight [] first old.acknowledged below.transfer (begun_flight first old.acknowledged awaited.acknowledged small below.transfer none);
+      count = counted_flight [] first old.acknowledged below.transfer (begun_flight first old.acknowledged below.queue.is_interleaved awaited.acknowledged small below.transfer none);
       arrived = λ little. anew (s.arrived (let count = empty in omega (arith, count)));
     }
   where
@@ -112,10 +121,12 @@ begun_stands options first size direction small b =
       below = record {
         queue_holds = b.queues.queue_holds;
         cut = record { pieces = λ n f at. absurd (cc); rows = λ n f some at started. absurd (cc); ascends = λ m n f g less at at'. absurd (cc) };
-        flight = begun_flight first direction.acknowledged b.acknowledged small direction.below.transfer b.flight;
+        flight = begun_flight first direction.acknowledged direction.below.queue.is_interleaved b.acknowledged small direction.below.transfer b.flight;
+        numbers = b.queues.numbers;
+        kind = begun_kind first direction.below.queue.is_interleaved direction.below.transfer b.flight;
       };
       packets = subst (λ (l : List Emission). PacketsSay [] first l) (sym b.sent) tt;
-      count = counted_flight [] first direction.acknowledged direction.below.transfer (begun_flight first direction.acknowledged b.acknowledged small direction.below.transfer b.flight);
+      count = counted_flight [] first direction.acknowledged direction.below.transfer (begun_flight first direction.acknowledged direction.below.queue.is_interleaved b.acknowledged small direction.below.transfer b.flight);
       arrived = λ little.
           record {
             places = [];
@@ -137,7 +148,7 @@ run_stands options first size _ small few (starts old queued below run awaited f
 pub direction_queues : (options : Options) (first size : ℕ) (direction : Direction) → Run options first size direction → first < 2 ^ 32 → length direction.queued < 2 ^ 64 → QueueHolds direction.queued [] direction.below.queue × AllByRecursion Fits direction.queued
 direction_queues options first size direction run small few =
     let s = run_stands options first size direction small few run in
-    (kept_hold direction.queued s.log direction.below.queue (record { queue_holds = s.below.queue_holds; next = s.next }), s.fit)
+    (kept_hold direction.queued s.log direction.below.queue (record { queue_holds = s.below.queue_holds; next = s.next; numbers = s.below.numbers }), s.fit)
 
 pub directions_deliver : (options : Options) (first size : ℕ) (direction : Direction) → Run options first size direction → first < 2 ^ 32 → assigned direction < 2 ^ 31 → length direction.queued < 2 ^ 64 → Delivered direction.queued direction.read
 directions_deliver options first size direction run small little few =

@@ -64,7 +64,7 @@ module _ (queued : List Message) (log : List Slot) (cut : Cut queued log) (n : �
         | inr c ↦ offset c (newest_at log (Some c.piece) c.at)
       ]
     where
-      offset : (c : ComesTo log g.place v.sent g.message) → ((k : ℕ) × (k + 1 ≡ length log) × (at_place k log ≡ Some (Some c.piece))) → ⊥
+      offset : (c : ComesTo log g.place v g.message) → ((k : ℕ) × (k + 1 ≡ length log) × (at_place k log ≡ Some (Some c.piece))) → ⊥
       offset c (k, next, there) =
           let below = at_below n (Some f) log at in
           let queued_there = g.at in

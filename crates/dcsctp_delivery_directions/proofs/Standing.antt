@@ -67,7 +67,7 @@ timed_outstanding (Some round_trip) transfer = refl
 pub cut_queued : (queued : List Message) (m : Message) (log : List Slot) → Cut queued log → Cut (m ∷ queued) log
 cut_queued queued m log cut =
     record {
-      pieces = λ n f at. (let p = cut.pieces n f at in record { at = at_stays f.place m f.message queued p.at; fresh = p.fresh; some = p.some; within = p.within });
+      pieces = λ n f at. (let p = cut.pieces n f at in record { at = at_stays f.place m f.message queued p.at; fresh = p.fresh; some = p.some; within = p.within; first = p.first });
       rows = cut.rows;
       ascends = cut.ascends;
     }

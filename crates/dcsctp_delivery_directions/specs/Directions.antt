@@ -1,7 +1,7 @@
 -- One direction of an association, by the relations of the machine: what one side queues and sends, and what the other side receives and
--- its user reads (RFC 9260, section 6). Without interleaving.
-use Rattle.std.specs.Prelude.{◌≡◌, ◌≢◌, ◌<◌, ◌≤◌, ◌+◌, ◌^◌, ℕ, true, Option, None, Some, List, [], ◌∷◌, ◌++◌, length}
-use Rattle.dcsctp_wire.specs.Content.{DataContent, SackContent, data_chunk, forward_tsn_chunk}
+-- its user reads (RFC 9260, section 6), with interleaving or without (RFC 8260).
+use Rattle.std.specs.Prelude.{◌≡◌, ◌≢◌, ◌<◌, ◌≤◌, ◌+◌, ◌^◌, ℕ, Bool, true, Option, None, Some, List, [], ◌∷◌, ◌++◌, length}
+use Rattle.dcsctp_wire.specs.Content.{DataContent, IDataContent, SackContent, data_chunk, i_data_chunk, forward_tsn_chunk, i_forward_tsn_chunk}
 use Rattle.dcsctp_machine.specs.declared.options.Options.{Options}
 use Rattle.dcsctp_machine.specs.Endpoint.{Endpoint}
 use Rattle.dcsctp_machine.specs.Event.{packets_in}
@@ -13,7 +13,7 @@ use Rattle.dcsctp_machine.specs.transfer.OwnResets.{prepared_all, queue_committe
 use Rattle.dcsctp_machine.specs.transfer.Retransmission.{RetransmissionState}
 use Rattle.dcsctp_machine.specs.turns.SettingOutcomes.{Setting, set_in_queue}
 use Rattle.dcsctp_machine.specs.transfer.Acknowledging.{is_sack_valid}
-use Rattle.dcsctp_machine.specs.transfer.Arrivals.{data_arrival, skipped_in}
+use Rattle.dcsctp_machine.specs.transfer.Arrivals.{data_arrival, i_data_arrival, skipped_in, messages_skipped_in}
 use Rattle.dcsctp_machine.specs.transfer.Messages.{MessageContent}
 use Rattle.dcsctp_machine.specs.transfer.Outstanding.{acknowledged_by}
 use Rattle.dcsctp_machine.specs.transfer.Reassembly.{ReassemblyState, new_reassembly, with_ready, deferring, Leaves}
@@ -25,7 +25,7 @@ use Rattle.dcsctp_machine.specs.turns.TransferMoves.{ReceivesData, MovesForward,
 use Rattle.dcsctp_delivery_sending.specs.Places.{Has}
 use Rattle.dcsctp_delivery_sending.specs.Log.{Fits, Message}
 use Rattle.dcsctp_delivery_sending.specs.Flushes.{NoData}
-use Rattle.dcsctp_delivery_sending.specs.Queueing.{message_of, QueueHolds}
+use Rattle.dcsctp_delivery_sending.specs.Queueing.{message_of, NumbersGoOn, QueueHolds}
 use Rattle.dcsctp_delivery_receiving.specs.Ready.{AreDistinct, WereQueued}
 use Rattle.dcsctp_delivery_sending.specs.Weights.{total}
 use Rattle.std.specs.List.{AllByRecursion}
@@ -59,10 +59,10 @@ pub data Step (old : Direction) : Direction → Type 0 where
   -- The user queues a message.
   queues : (now : ℕ) (sending : Sending) → Fits (message_of sending) → 0 < length sending.message.payload
       → Step old (record old { queued = message_of sending ∷ old.queued; below = record old.below { queue = sending_queued now sending old.below.queue } })
-  -- The user sets something, or streams are prepared to be reset; or a reset was performed, or not.
+  -- The user sets something, or streams are prepared to be reset; or a reset was performed, so far without interleaving alone, or was not.
   sets : (setting : Setting) → Step old (record old { below = record old.below { queue = set_in_queue setting old.below.queue } })
   prepares : (ids : List ℕ) → Step old (record old { below = record old.below { queue = prepared_all ids old.below.queue } })
-  commits : Step old (record old { below = record old.below { queue = queue_committed old.below.queue } })
+  commits : NumbersGoOn old.below.queue → Step old (record old { below = record old.below { queue = queue_committed old.below.queue } })
   rolls_back : Step old (record old { below = record old.below { queue = queue_rolled_back old.below.queue } })
   -- A flush, whose first packet holds no data.
   flushes : (e : Endpoint) (draft : Emission) (answers : List Answer) → e.below ≡ old.below → NoData draft.packet.contents → FlushAnswers e draft answers
@@ -91,6 +91,13 @@ pub data Step (old : Direction) : Direction → Type 0 where
   forwards : (emission : Emission) (tsn : ℕ) (streams : List ℕ) (theirs new : Transfer) → Has emission old.sent → Has (plain (unworked (forward_tsn_chunk tsn streams))) emission.packet.contents
       → theirs.tracker ≡ old.tracker → theirs.reassembly ≡ old.reassembly → MovesForward tsn (skipped_in streams) theirs new
       → Step old (record old { tracker = new.tracker; reassembly = new.reassembly })
+  -- So is an I-DATA chunk, and an I-FORWARD-TSN.
+  receives_interleaved : (emission : Emission) (chunk : IDataContent) (theirs new : Transfer) → Has emission old.sent → Has (plain (unworked (i_data_chunk chunk))) emission.packet.contents → chunk.payload ≢ []
+      → theirs.tracker ≡ old.tracker → theirs.reassembly ≡ old.reassembly → ReceivesData (i_data_arrival chunk) theirs new
+      → Step old (record old { tracker = new.tracker; reassembly = new.reassembly })
+  forwards_interleaved : (emission : Emission) (tsn : ℕ) (streams : List ℕ) (theirs new : Transfer) → Has emission old.sent → Has (plain (unworked (i_forward_tsn_chunk tsn streams))) emission.packet.contents
+      → theirs.tracker ≡ old.tracker → theirs.reassembly ≡ old.reassembly → MovesForward tsn (messages_skipped_in streams) theirs new
+      → Step old (record old { tracker = new.tracker; reassembly = new.reassembly })
   -- The receiver acknowledges, now or later.
   tracks : (new : TrackerState) → new.cumulative ≡ old.tracker.cumulative → new.ranges ≡ old.tracker.ranges → Step old (record old { tracker = new })
   -- Streams are to be reset once all up to a TSN was received, whichever they are, and whatever it is.
@@ -101,16 +108,17 @@ pub data Step (old : Direction) : Direction → Type 0 where
   takes : (message : MessageContent) (messages : List MessageContent) → old.reassembly.incoming.ready ≡ message ∷ messages
       → Step old (record old { reassembly = with_ready messages old.reassembly; read = old.read ++ message ∷ [] })
 
--- No TSN was assigned yet, or there is no peer.
-abbrev pub NoneInFlight : ℕ → Option Transfer → Type 0
-NoneInFlight first None = Unit {0}
-NoneInFlight first (Some transfer) = (transfer.retransmission.outstanding.first_tsn ≡ first) × (transfer.retransmission.outstanding.items ≡ [])
+-- No TSN was assigned yet, or there is no peer. What is in flight will be sent as the queue numbers messages.
+abbrev pub NoneInFlight : ℕ → Bool → Option Transfer → Type 0
+NoneInFlight first is_interleaved None = Unit {0}
+NoneInFlight first is_interleaved (Some transfer) =
+    (transfer.retransmission.outstanding.first_tsn ≡ first) × (transfer.retransmission.outstanding.items ≡ []) × (transfer.retransmission.outstanding.is_interleaved ≡ is_interleaved)
 
 -- An association begins; what was queued before may wait.
 pub record Begins (options : Options) (first size : ℕ) (direction : Direction) : Type 0 where
   pub fit : AllByRecursion Fits direction.queued
   pub queues : QueueHolds direction.queued [] direction.below.queue
-  pub flight : NoneInFlight first direction.below.transfer
+  pub flight : NoneInFlight first direction.below.queue.is_interleaved direction.below.transfer
   pub acknowledged : direction.acknowledged ≡ 0
   pub sent : direction.sent ≡ []
   pub tracker : direction.tracker ≡ new_tracker options first
@@ -129,7 +137,7 @@ pub data Run (options : Options) (first size : ℕ) : Direction → Type 0 where
   begins : (direction : Direction) → Begins options first size direction → Run options first size direction
   goes_on : (old direction : Direction) → Run options first size old → Step old direction → Run options first size direction
   -- The sender begins after the receiver.
-  starts : (old : Direction) (queued : List Message) (below : Below) → Run options first size old → IsAwaited old → AllByRecursion Fits queued → QueueHolds queued [] below.queue → NoneInFlight first below.transfer
+  starts : (old : Direction) (queued : List Message) (below : Below) → Run options first size old → IsAwaited old → AllByRecursion Fits queued → QueueHolds queued [] below.queue → NoneInFlight first below.queue.is_interleaved below.transfer
       → Run options first size (record old { queued = queued; below = below })
 
 -- Each message that was read was queued, and none twice.

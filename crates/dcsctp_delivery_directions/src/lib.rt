@@ -1,5 +1,5 @@
 //! One direction of an association: one side queues and sends, the other receives, and its user reads. Over every
-//! schedule each message that is read was queued, and none is read twice. So far without interleaving.
+//! schedule each message that is read was queued, and none is read twice.
 #![tactic(auto)]
 
 mod laws;

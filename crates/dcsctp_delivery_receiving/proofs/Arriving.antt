@@ -1,19 +1,20 @@
--- A DATA chunk, as it is received.
+-- A chunk of data, as it is received.
 use Rattle.std.proofs.Common.{◌≡◌, ◌≢◌, ℕ, zero, suc, Bool, true, false, ◌<◌, ◌+◌, ◌%◌, ◌^◌, List, [], ◌∷◌, map, take, drop, refl, sym, ◌∙◌, ap, arith, subst, inl, inr}
-use Rattle.std.specs.Prelude.{None, Some}
+use Rattle.std.specs.Prelude.{None, Some, if◌then◌else◌}
+use Rattle.std.proofs.lemmas.Bool.{eqb-true}
 use Rattle.std.specs.List.{AllByRecursion}
-use Rattle.dcsctp_wire.specs.Content.{DataContent}
-use Rattle.dcsctp_machine.specs.transfer.Arrivals.{numbering_of, data_arrival}
-use Rattle.dcsctp_machine.specs.transfer.Chunks.{byte_field, data_said}
+use Rattle.dcsctp_wire.specs.Content.{DataContent, IDataContent}
+use Rattle.dcsctp_machine.specs.transfer.Arrivals.{numbering_of, data_arrival, interleaved_numbering, fsn_of, ppid_of, i_data_arrival}
+use Rattle.dcsctp_machine.specs.transfer.Chunks.{byte_field, data_said, ppid_or_fsn, i_data_said}
 use Rattle.dcsctp_delivery_sending.specs.Places.{at_place}
-use Rattle.dcsctp_delivery_sending.specs.Log.{Message, Slot, bytes_of, Cut, Fits}
+use Rattle.dcsctp_delivery_sending.specs.Log.{Message, Piece, Slot, is_beginning, bytes_of, Cut, Fits}
 use Rattle.dcsctp_delivery_sending.specs.Stages.{SaysSlot}
-use Rattle.dcsctp_delivery_sending.specs.Flushes.{IsData}
+use Rattle.dcsctp_delivery_sending.specs.Flushes.{IsData, IsInterleaved}
 use Rattle.dcsctp_delivery_receiving.specs.Ready.{IsNumbered}
 use Rattle.dcsctp_delivery_receiving.specs.Received.{Carries}
 use Rattle.dcsctp_delivery_sending.proofs.Places.{at_cases}
 
-fits_at : (queued : List Message) (place : ℕ) (message : Message) → AllByRecursion Fits queued → at_place place queued ≡ Some message → Fits message
+pub fits_at : (queued : List Message) (place : ℕ) (message : Message) → AllByRecursion Fits queued → at_place place queued ≡ Some message → Fits message
 fits_at [] place message fit at = absurd (cc)
 fits_at (m ∷ queued) place message fit at =
     elim (at_cases place m message queued at) [
@@ -43,9 +44,23 @@ same_bytes (b ∷ bytes) are =
     let here : b % 2 ^ 8 ≡ b = (let small = are.0 in omega (arith, small)) in
     ap (λ (k : ℕ). k ∷ map byte_field bytes) here ∙ ap (λ (l : List ℕ). b ∷ l) (same_bytes bytes are.1)
 
-numbered_so : (unordered : Bool) (ssn : ℕ) → IsNumbered unordered (numbering_of unordered ssn)
-numbered_so true ssn = tt
-numbered_so false ssn = tt
+numbered_plain : (piece : Piece) (unordered : Bool) (ssn : ℕ) → piece.is_interleaved ≡ false → piece.message.is_unordered ≡ unordered → IsNumbered piece (numbering_of unordered ssn)
+numbered_plain piece true ssn kind is = (kind, is)
+numbered_plain piece false ssn kind is = (kind, is)
+
+numbered_interleaved : (piece : Piece) (unordered : Bool) (mid fsn : ℕ) → piece.is_interleaved ≡ true → piece.message.is_unordered ≡ unordered → mid ≡ piece.mid % 2 ^ 32 → fsn ≡ piece.fsn % 2 ^ 32
+    → IsNumbered piece (interleaved_numbering unordered mid fsn)
+numbered_interleaved piece true mid fsn kind is same same' = (kind, is, same, same')
+numbered_interleaved piece false mid fsn kind is same same' = (kind, is, same, same')
+
+-- the number among the fragments, and the protocol, where the one field stands for both
+fsn_read : (b : Bool) (ppid fsn : ℕ) (piece : Piece) → b ≡ is_beginning piece → fsn ≡ piece.fsn → (piece.start ≡ 0 → piece.fsn ≡ 0) → fsn_of b ((if b then ppid else fsn) % 2 ^ 32) ≡ piece.fsn % 2 ^ 32
+fsn_read true ppid fsn piece begins is first = (let none : piece.fsn ≡ 0 = first (eqb-true piece.start 0 (sym begins)) in omega (arith, none))
+fsn_read false ppid fsn piece begins is first = ap (λ (k : ℕ). k % 2 ^ 32) is
+
+ppid_read : (b : Bool) (ppid fsn : ℕ) (other : ℕ) → b ≡ true → ppid ≡ other → other < 2 ^ 32 → ppid_of b ((if b then ppid else fsn) % 2 ^ 32) ≡ other
+ppid_read true ppid fsn other e is small = omega (arith, is, small)
+ppid_read false ppid fsn other e is small = absurd (cc)
 
 pub carries_piece : (queued : List Message) (log : List Slot) (first : ℕ) (chunk : DataContent) → Cut queued log → AllByRecursion Fits queued → (is : IsData log first chunk) → chunk.payload ≢ []
     → Carries log first is.number (data_arrival chunk).tsn (data_arrival chunk).chunk
@@ -63,15 +78,43 @@ carries_piece queued log first chunk cut fit is some =
     go (Some piece) at says =
         let of = cut.pieces is.number piece at in
         let fits = fits_at queued piece.place piece.message fit of.at in
-        let bytes : map byte_field (bytes_of piece) ≡ bytes_of piece = same_bytes (bytes_of piece) (bytes_take piece.size (drop piece.start piece.message.payload) (bytes_drop piece.start piece.message.payload fits.payload)) in
         record {
           piece = piece;
           at = at;
           is = omega arith;
           stream = ap (λ (k : ℕ). k % 2 ^ 16) says.stream ∙ (let small = fits.stream in omega (arith, small));
-          numbered = subst (λ (b : Bool). IsNumbered b (numbering_of is.part.is_unordered (is.part.ssn % 2 ^ 16))) says.unordered (numbered_so is.part.is_unordered (is.part.ssn % 2 ^ 16));
-          ppid = ap (λ (k : ℕ). k % 2 ^ 32) says.ppid ∙ (let small = fits.ppid in omega (arith, small));
-          payload = ap (map byte_field) says.payload ∙ bytes;
+          numbered = numbered_plain piece is.part.is_unordered (is.part.ssn % 2 ^ 16) (is.kind piece at) (sym says.unordered);
+          ppid = λ begins. ap (λ (k : ℕ). k % 2 ^ 32) says.ppid ∙ (let small = fits.ppid in omega (arith, small));
+          payload = ap (map byte_field) says.payload ∙ same_bytes (bytes_of piece) (bytes_take piece.size (drop piece.start piece.message.payload) (bytes_drop piece.start piece.message.payload fits.payload));
+          beginning = says.beginning;
+          end = says.end;
+        }
+
+pub carries_interleaved : (queued : List Message) (log : List Slot) (first : ℕ) (chunk : IDataContent) → Cut queued log → AllByRecursion Fits queued → (is : IsInterleaved log first chunk) → chunk.payload ≢ []
+    → Carries log first is.number (i_data_arrival chunk).tsn (i_data_arrival chunk).chunk
+unfolding Bytes
+carries_interleaved queued log first chunk cut fit is some =
+    subst (λ (c : IDataContent). Carries log first is.number (i_data_arrival c).tsn (i_data_arrival c).chunk) (sym is.is) (go is.says.slot is.says.at is.says.says)
+  where
+    said : IDataContent
+    said = i_data_said ((first + is.number) % 2 ^ 32) is.part
+
+    go : (slot : Slot) → at_place is.number log ≡ Some slot → SaysSlot is.part slot → Carries log first is.number (i_data_arrival said).tsn (i_data_arrival said).chunk
+    go None at says =
+        let none : map byte_field is.part.payload ≡ [] = ap (map byte_field) says in
+        absurd (some (ap (λ (c : IDataContent). c.payload) is.is ∙ none))
+    go (Some piece) at says =
+        let of = cut.pieces is.number piece at in
+        let fits = fits_at queued piece.place piece.message fit of.at in
+        record {
+          piece = piece;
+          at = at;
+          is = omega arith;
+          stream = ap (λ (k : ℕ). k % 2 ^ 16) says.stream ∙ (let small = fits.stream in omega (arith, small));
+          numbered = numbered_interleaved piece is.part.is_unordered (is.part.mid % 2 ^ 32) (fsn_of is.part.is_beginning (ppid_or_fsn is.part % 2 ^ 32)) (is.kind piece at) (sym says.unordered) says.mid
+              (fsn_read is.part.is_beginning is.part.ppid is.part.fsn piece says.beginning says.fsn of.first);
+          ppid = λ begins. ppid_read is.part.is_beginning is.part.ppid is.part.fsn piece.message.ppid (says.beginning ∙ begins) says.ppid fits.ppid;
+          payload = ap (map byte_field) says.payload ∙ same_bytes (bytes_of piece) (bytes_take piece.size (drop piece.start piece.message.payload) (bytes_drop piece.start piece.message.payload fits.payload));
           beginning = says.beginning;
           end = says.end;
         }

@@ -1,5 +1,5 @@
 -- The peer queues more and assigns more TSNs.
-use Rattle.std.proofs.Common.{ℕ, ◌≤◌, List, [], ◌∷◌, ◌++◌, length, arith}
+use Rattle.std.proofs.Common.{ℕ, Bool, true, false, ◌≤◌, List, [], ◌∷◌, ◌++◌, length, arith}
 use Rattle.std.specs.Prelude.{Some}
 use Rattle.std.proofs.lemmas.List.{length-append}
 use Rattle.dcsctp_machine.specs.transfer.Messages.{MessageContent}
@@ -10,7 +10,9 @@ use Rattle.dcsctp_machine.specs.transfer.Reassembly.{WaitingModel, arrived, skip
 use Rattle.dcsctp_machine.specs.transfer.Tracker.{TrackerState}
 use Rattle.dcsctp_delivery_sending.specs.Log.{Message, Piece, Slot}
 use Rattle.dcsctp_delivery_receiving.specs.Rows.{IsRow, AreRows, Spent, IsQueued}
-use Rattle.dcsctp_delivery_receiving.specs.Ready.{IsOn, IsOfStream, WereQueued, WaitQueued, Holds}
+use Rattle.dcsctp_delivery_receiving.specs.Ready.{IsOn, IsApart, IsOfStream, Reads, Names, NameAll, WereQueued, WaitQueued, Holds}
+use Rattle.dcsctp_machine.specs.declared.arrivals.SkippedTo.{SkippedTo}
+use Rattle.dcsctp_machine.specs.declared.arrivals.SkippedTo.TheVariants.{Ssn, Mid}
 use Rattle.dcsctp_delivery_receiving.specs.Received.{Carries, IsTsn, Reassembles, untouched, placed, Defers, Received}
 use Rattle.dcsctp_delivery_sending.proofs.Packets.{at_more}
 use Rattle.dcsctp_delivery_receiving.proofs.Tracked.{more_given_out}
@@ -41,6 +43,24 @@ module _ (queued more : List Message) (log later : List Slot) where
         end = row.end;
       }
 
+  reads_more : (id : ℕ) (is_unordered : Bool) (number : ℕ) → Reads log id is_unordered number → Reads (later ++ log) id is_unordered number
+  reads_more id is_unordered number reads start w =
+      reads start
+      (record {
+        kinds = λ n f at. w.kinds n f (at_more later log n (Some f) at);
+        small = w.small;
+        from = λ n f at on kind. w.from n f (at_more later log n (Some f) at) on kind;
+        below = λ n f at on kind. w.below n f (at_more later log n (Some f) at) on kind;
+      })
+
+  pub name_more : (entry : SkippedTo) → Names log entry → Names (later ++ log) entry
+  name_more (Ssn id ssn) (number, piece, at, kind) = (number, piece, at_more later log number (Some piece) at, kind)
+  name_more (Mid id is_unordered mid) (number, piece, at, stream, kind, is) = (number, piece, at_more later log number (Some piece) at, stream, kind, is)
+
+  names_more : (entries : List SkippedTo) → NameAll log entries → NameAll (later ++ log) entries
+  names_more [] names = tt
+  names_more (entry ∷ entries) names = (name_more entry names.0, names_more entries names.1)
+
   rows_more : (got : List ℕ) (base : ℕ) (Named : Piece → ℕ → Type 0) (runs : List RunModel) → AreRows log got base Named runs → AreRows (later ++ log) got base Named runs
   rows_more got base Named [] are = tt
   rows_more got base Named (r ∷ runs) are = (row_more got base Named r are.0, rows_more got base Named runs are.1)
@@ -65,7 +85,9 @@ module _ (queued more : List Message) (log later : List Slot) where
   queued_more : (got : List ℕ) (Named : Piece → ℕ → Type 0) (place : ℕ) (whole : WholeModel) → IsQueued queued log got Named place whole → IsQueued (more ++ queued) (later ++ log) got Named place whole
   queued_more got Named place whole is =
       record {
+        offset = is.offset;
         head = is.head;
+        at = at_more later log is.offset (Some is.head) is.at;
         is = is.is;
         queued_at = at_more more queued place is.head.message is.queued_at;
         number = is.number;
@@ -96,8 +118,13 @@ module _ (queued more : List Message) (log later : List Slot) where
         streams_hold = λ id. (
             let s = holds.streams_hold id in
             record {
-              is = s.is;
-              rows = rows_more got base (IsOn id) (stream_on id incoming.streams).ordered s.rows;
+              rows = record {
+                is = s.rows.is;
+                ordered = rows_more got base (IsOn id) (stream_on id incoming.streams).ordered s.rows.ordered;
+                unordered = rows_more got base (IsApart id) (stream_on id incoming.streams).unordered s.rows.unordered;
+                next = reads_more id false (stream_on id incoming.streams).next s.rows.next;
+                last = reads_more id true (stream_on id incoming.streams).last_unordered s.rows.last;
+              };
               wait = wait_more got id (holds.waits id) (stream_on id incoming.streams).waiting s.wait;
             }
             );
@@ -137,8 +164,8 @@ module _ (queued more : List Message) (log later : List Slot) where
   defers_more first (n ∷ numbers) [] defers = absurd defers
   defers_more first [] (arrived tsn chunk ∷ actions) defers = absurd defers
   defers_more first (n ∷ numbers) (arrived tsn chunk ∷ actions) defers = (carries_more first n tsn chunk defers.0, defers_more first numbers actions defers.1)
-  defers_more first [] (skipping tsn entries ∷ actions) defers = (is_tsn_more first tsn defers.0, defers_more first [] actions defers.1)
-  defers_more first (n ∷ numbers) (skipping tsn entries ∷ actions) defers = (is_tsn_more first tsn defers.0, defers_more first (n ∷ numbers) actions defers.1)
+  defers_more first [] (skipping tsn entries ∷ actions) defers = (is_tsn_more first tsn defers.0, names_more entries defers.1, defers_more first [] actions defers.2)
+  defers_more first (n ∷ numbers) (skipping tsn entries ∷ actions) defers = (is_tsn_more first tsn defers.0, names_more entries defers.1, defers_more first (n ∷ numbers) actions defers.2)
 
   pub received_more : (first : ℕ) (read : List ℕ) (tracker : TrackerState) (reassembly : ReassemblyState) → Received queued log first read tracker reassembly
       → Received (more ++ queued) (later ++ log) first read tracker reassembly

@@ -1,8 +1,12 @@
+pub mod Near
+pub mod Chaining
 pub mod Joining
 pub mod Rows
 pub mod SpentRows
 pub mod Distinct
+pub mod Reading
 pub mod Waiting
+pub mod Parts
 pub mod Ready
 pub mod Skipping
 pub mod Tracked
@@ -11,3 +15,4 @@ pub mod Received
 pub mod Taking
 pub mod Growing
 pub mod Arriving
+pub mod Entries

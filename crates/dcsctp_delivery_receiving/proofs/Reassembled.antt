@@ -10,7 +10,8 @@ use Rattle.dcsctp_machine.specs.transfer.Reassembly.{WaitingModel, arrived, skip
 use Rattle.dcsctp_machine.specs.transfer.Tracker.{TrackerState}
 use Rattle.dcsctp_delivery_sending.specs.Places.{Has}
 use Rattle.dcsctp_delivery_sending.specs.Log.{Message, Slot, Cut}
-use Rattle.dcsctp_delivery_receiving.specs.Ready.{AreDistinct, BearsPiece, Holds}
+use Rattle.dcsctp_delivery_receiving.specs.Ready.{AreDistinct, BearsPiece, NameAll, Holds}
+use Rattle.dcsctp_delivery_sending.specs.Numbers.{Told}
 use Rattle.dcsctp_delivery_receiving.specs.Received.{Carries, IsTsn, Placed, Reassembles, untouched, placed, Defers, Received, Few}
 use Rattle.dcsctp_delivery_sending.proofs.Places.{at_below}
 use Rattle.dcsctp_delivery_receiving.proofs.Ready.{holds_on}
@@ -55,7 +56,7 @@ bears_of log first base offset tsn number chunk c is =
 few_behind : (log : List Slot) (first offset tsn : ℕ) (chunk : ChunkModel) → Few log first → Carries log first offset tsn chunk → offset < 2 ^ 31
 few_behind log first offset tsn chunk f c = omega (arith, f.few, at_below offset (Some c.piece) log c.at)
 
-module _ (queued : List Message) (log : List Slot) (first : ℕ) (cut : Cut queued log) (f : Few log first) (read : List ℕ) where
+module _ (queued : List Message) (log : List Slot) (first : ℕ) (cut : Cut queued log) (told : Told log) (f : Few log first) (read : List ℕ) where
   pub data_handled : (got : List ℕ) (offset tsn : ℕ) (chunk : ChunkModel) (old new : IncomingModel) → Carries log first offset tsn chunk → (Has offset got → ⊥) → Reassembles queued log first got read old → TakesData tsn chunk old new
       → Reassembles queued log first (offset ∷ got) read new
   unfolding bears_of
@@ -63,28 +64,28 @@ module _ (queued : List Message) (log : List Slot) (first : ℕ) (cut : Cut queu
       let few = few_behind log first offset tsn chunk f c in
       let number = number_read first base old.last_tsn_number offset tsn is few c.is in
       placed base (record { same = is.same; near = is.near; worked = offset; few = few; is = takes.last ∙ number })
-      (holds_on queued log cut got base tsn read chunk old new (bears_of log first base offset tsn (number_near old.last_tsn_number tsn) chunk c number) fresh holds takes)
+      (holds_on queued log cut told got base tsn read chunk old new (bears_of log first base offset tsn (number_near old.last_tsn_number tsn) chunk c number) fresh holds takes)
   data_handled got offset tsn chunk old new c fresh (untouched none last empty) takes =
       let few = few_behind log first offset tsn chunk f c in
       let base : ℕ = number_near (2 ^ 32) ((first + offset) % 2 ^ 32) - offset in
       let up = first_number first offset f.small few in
       let number : number_near old.last_tsn_number tsn ≡ base + offset = ap (λ (l : ℕ). number_near l tsn) last ∙ ap (number_near (2 ^ 32)) c.is ∙ omega (arith, up) in
       placed base (record { same = first_base first offset f.small few; near = first_near first offset f.small few; worked = offset; few = few; is = takes.last ∙ number })
-      (holds_on queued log cut got base tsn read chunk old new (bears_of log first base offset tsn (number_near old.last_tsn_number tsn) chunk c number) fresh
+      (holds_on queued log cut told got base tsn read chunk old new (bears_of log first base offset tsn (number_near old.last_tsn_number tsn) chunk c number) fresh
       (subst (λ (l : List ℕ). Holds queued log l base read old) (sym none) (empty base)) takes)
 
-  pub forward_handled : (got : List ℕ) (tsn : ℕ) (entries : List SkippedTo) (old new : IncomingModel) → IsTsn log first tsn → Reassembles queued log first got read old → MovesOn tsn entries old new → Reassembles queued log first got read new
-  forward_handled got tsn entries old new t (placed base is holds) moves =
+  pub forward_handled : (got : List ℕ) (tsn : ℕ) (entries : List SkippedTo) (old new : IncomingModel) → IsTsn log first tsn → NameAll log entries → Reassembles queued log first got read old → MovesOn tsn entries old new → Reassembles queued log first got read new
+  forward_handled got tsn entries old new t names (placed base is holds) moves =
       let few : t.offset < 2 ^ 31 = omega (arith, f.few, t.below) in
       let number = number_read first base old.last_tsn_number t.offset tsn is few t.is in
-      placed base (record { same = is.same; near = is.near; worked = t.offset; few = few; is = moves.last ∙ number }) (skips_on queued log got base read tsn entries old new holds moves)
-  forward_handled got tsn entries old new t (untouched none last empty) moves =
+      placed base (record { same = is.same; near = is.near; worked = t.offset; few = few; is = moves.last ∙ number }) (skips_on queued log got base read tsn entries old new names holds moves)
+  forward_handled got tsn entries old new t names (untouched none last empty) moves =
       let few : t.offset < 2 ^ 31 = omega (arith, f.few, t.below) in
       let base : ℕ = number_near (2 ^ 32) ((first + t.offset) % 2 ^ 32) - t.offset in
       let up = first_number first t.offset f.small few in
       let number : number_near old.last_tsn_number tsn ≡ base + t.offset = ap (λ (l : ℕ). number_near l tsn) last ∙ ap (number_near (2 ^ 32)) t.is ∙ omega (arith, up) in
       placed base (record { same = first_base first t.offset f.small few; near = first_near first t.offset f.small few; worked = t.offset; few = few; is = moves.last ∙ number })
-      (skips_on queued log got base read tsn entries old new (subst (λ (l : List ℕ). Holds queued log l base read old) (sym none) (empty base)) moves)
+      (skips_on queued log got base read tsn entries old new names (subst (λ (l : List ℕ). Holds queued log l base read old) (sym none) (empty base)) moves)
 
   kept_last : (streams : List ℕ) (old new : IncomingModel) → ResetsStreams streams old new → new.last_tsn_number ≡ old.last_tsn_number
   kept_last [] old new resets = resets.kept.last
@@ -122,9 +123,9 @@ module _ (queued : List Message) (log : List Slot) (first : ℕ) (cut : Cut queu
         ];
       }
   all_handled got [] (skipping tsn entries ∷ actions) old new holds defers distinct apart (between, moves, rest) =
-      all_handled got [] actions between new (forward_handled got tsn entries old between defers.0 holds moves) defers.1 distinct apart rest
+      all_handled got [] actions between new (forward_handled got tsn entries old between defers.0 defers.1 holds moves) defers.2 distinct apart rest
   all_handled got (n ∷ later) (skipping tsn entries ∷ actions) old new holds defers distinct apart (between, moves, rest) =
-      all_handled got (n ∷ later) actions between new (forward_handled got tsn entries old between defers.0 holds moves) defers.1 distinct apart rest
+      all_handled got (n ∷ later) actions between new (forward_handled got tsn entries old between defers.0 defers.1 holds moves) defers.2 distinct apart rest
 
   pub left_keeps : (streams : List ℕ) (tracker : TrackerState) (old new : ReassemblyState) → Received queued log first read tracker old → Leaves streams old new → Received queued log first read tracker new
   left_keeps streams tracker old new r leaves =
@@ -150,17 +151,17 @@ defers_data log first offset tsn chunk [] [] c defers = (c, tt)
 defers_data log first offset tsn chunk (n ∷ later) [] c defers = absurd defers
 defers_data log first offset tsn chunk [] (arrived t ch ∷ actions) c defers = absurd defers
 defers_data log first offset tsn chunk (n ∷ later) (arrived t ch ∷ actions) c defers = (defers.0, defers_data log first offset tsn chunk later actions c defers.1)
-defers_data log first offset tsn chunk [] (skipping t entries ∷ actions) c defers = (defers.0, defers_data log first offset tsn chunk [] actions c defers.1)
-defers_data log first offset tsn chunk (n ∷ later) (skipping t entries ∷ actions) c defers = (defers.0, defers_data log first offset tsn chunk (n ∷ later) actions c defers.1)
+defers_data log first offset tsn chunk [] (skipping t entries ∷ actions) c defers = (defers.0, defers.1, defers_data log first offset tsn chunk [] actions c defers.2)
+defers_data log first offset tsn chunk (n ∷ later) (skipping t entries ∷ actions) c defers = (defers.0, defers.1, defers_data log first offset tsn chunk (n ∷ later) actions c defers.2)
 
-defers_forward : (log : List Slot) (first tsn : ℕ) (entries : List SkippedTo) (later : List ℕ) (actions : List WaitingModel) → IsTsn log first tsn → Defers log first later actions
+defers_forward : (log : List Slot) (first tsn : ℕ) (entries : List SkippedTo) (later : List ℕ) (actions : List WaitingModel) → IsTsn log first tsn → NameAll log entries → Defers log first later actions
     → Defers log first later (actions ++ skipping tsn entries ∷ [])
-defers_forward log first tsn entries [] [] t defers = (t, tt)
-defers_forward log first tsn entries (n ∷ later) [] t defers = absurd defers
-defers_forward log first tsn entries [] (arrived t' ch ∷ actions) t defers = absurd defers
-defers_forward log first tsn entries (n ∷ later) (arrived t' ch ∷ actions) t defers = (defers.0, defers_forward log first tsn entries later actions t defers.1)
-defers_forward log first tsn entries [] (skipping t' es ∷ actions) t defers = (defers.0, defers_forward log first tsn entries [] actions t defers.1)
-defers_forward log first tsn entries (n ∷ later) (skipping t' es ∷ actions) t defers = (defers.0, defers_forward log first tsn entries (n ∷ later) actions t defers.1)
+defers_forward log first tsn entries [] [] t names defers = (t, names, tt)
+defers_forward log first tsn entries (n ∷ later) [] t names defers = absurd defers
+defers_forward log first tsn entries [] (arrived t' ch ∷ actions) t names defers = absurd defers
+defers_forward log first tsn entries (n ∷ later) (arrived t' ch ∷ actions) t names defers = (defers.0, defers_forward log first tsn entries later actions t names defers.1)
+defers_forward log first tsn entries [] (skipping t' es ∷ actions) t names defers = (defers.0, defers.1, defers_forward log first tsn entries [] actions t names defers.2)
+defers_forward log first tsn entries (n ∷ later) (skipping t' es ∷ actions) t names defers = (defers.0, defers.1, defers_forward log first tsn entries (n ∷ later) actions t names defers.2)
 
 -- what is deferred waits after the others
 pub waiting_data : (log : List Slot) (first offset tsn : ℕ) (chunk : ChunkModel) (later : List ℕ) (deferral : Option DeferralModel) → is_deferred tsn chunk.stream deferral ≡ true → Carries log first offset tsn chunk
@@ -168,7 +169,7 @@ pub waiting_data : (log : List Slot) (first offset tsn : ℕ) (chunk : ChunkMode
 waiting_data log first offset tsn chunk later None is c defers = absurd (cc)
 waiting_data log first offset tsn chunk later (Some d) is c defers = defers_data log first offset tsn chunk later d.waiting c defers
 
-pub waiting_forward : (log : List Slot) (first tsn : ℕ) (entries : List SkippedTo) (later : List ℕ) (deferral : Option DeferralModel) → is_forward_deferred tsn deferral ≡ true → IsTsn log first tsn
+pub waiting_forward : (log : List Slot) (first tsn : ℕ) (entries : List SkippedTo) (later : List ℕ) (deferral : Option DeferralModel) → is_forward_deferred tsn deferral ≡ true → IsTsn log first tsn → NameAll log entries
     → Defers log first later (actions_of deferral) → Defers log first later (actions_of (with_waiting (skipping tsn entries) deferral))
-waiting_forward log first tsn entries later None is t defers = absurd (cc)
-waiting_forward log first tsn entries later (Some d) is t defers = defers_forward log first tsn entries later d.waiting t defers
+waiting_forward log first tsn entries later None is t names defers = absurd (cc)
+waiting_forward log first tsn entries later (Some d) is t names defers = defers_forward log first tsn entries later d.waiting t names defers

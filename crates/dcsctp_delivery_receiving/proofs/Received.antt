@@ -11,7 +11,8 @@ use Rattle.dcsctp_machine.specs.transfer.Transfer.{Transfer}
 use Rattle.dcsctp_machine.specs.turns.TransferMoves.{AddsWhere, ReceivesWhere, SkipsWhere, GoesForward, MovesWhere, ReceivesData, MovesForward, TakesData as TakesArrival}
 use Rattle.dcsctp_delivery_sending.specs.Places.{Has}
 use Rattle.dcsctp_delivery_sending.specs.Log.{Message, Slot, Cut}
-use Rattle.dcsctp_delivery_receiving.specs.Ready.{AreDistinct}
+use Rattle.dcsctp_delivery_receiving.specs.Ready.{AreDistinct, NameAll}
+use Rattle.dcsctp_delivery_sending.specs.Numbers.{Told}
 use Rattle.dcsctp_delivery_receiving.specs.Tracked.{Tracks}
 use Rattle.dcsctp_delivery_receiving.specs.Received.{Carries, IsTsn, Defers, Received, Few}
 use Rattle.dcsctp_delivery_sending.proofs.Places.{at_below}
@@ -19,7 +20,7 @@ use Rattle.dcsctp_delivery_receiving.proofs.Distinct.{has_either, distinct_with}
 use Rattle.dcsctp_delivery_receiving.proofs.Tracked.{new_is_new, passing_keeps}
 use Rattle.dcsctp_delivery_receiving.proofs.Reassembled.{waiting_forward, forward_handled, waiting_data, data_handled}
 
-module _ (queued : List Message) (log : List Slot) (first : ℕ) (cut : Cut queued log) (f : Few log first) (read : List ℕ) where
+module _ (queued : List Message) (log : List Slot) (first : ℕ) (cut : Cut queued log) (told : Told log) (f : Few log first) (read : List ℕ) where
   -- a chunk whose TSN is new
   added : (offset tsn : ℕ) (chunk : ChunkModel) (tracker now : TrackerState) (old new : ReassemblyState) → Carries log first offset tsn chunk → (r : Received queued log first read tracker old)
       → Tracks first (length log) (offset ∷ r.taken) now → (Has offset r.taken → ⊥) → AddsData tsn chunk old new → Received queued log first read now new
@@ -75,7 +76,7 @@ module _ (queued : List Message) (log : List Slot) (first : ℕ) (cut : Cut queu
             later_taken = λ k h. inr (r.later_taken k h);
             apart = λ k h g. elim g [ inl e ↦ fresh (r.later_taken offset (subst (λ (j : ℕ). Has j r.later) e h)) | inr t ↦ r.apart k h t ];
             distinct = r.distinct;
-            holds = data_handled queued log first cut f read r.got offset tsn chunk old.incoming new.incoming c unhandled r.holds takes.incoming;
+            holds = data_handled queued log first cut told f read r.got offset tsn chunk old.incoming new.incoming c unhandled r.holds takes.incoming;
             defers = subst (λ (d : Option DeferralModel). Defers log first r.later (actions_of d)) (sym takes.deferral) r.defers;
           }
 
@@ -125,9 +126,9 @@ module _ (queued : List Message) (log : List Slot) (first : ℕ) (cut : Cut queu
 
   -- ---- a FORWARD-TSN
 
-  skipped_keeps : (tsn : ℕ) (entries : List SkippedTo) (tracker now : TrackerState) (old new : ReassemblyState) → IsTsn log first tsn → (r : Received queued log first read tracker old) → Tracks first (length log) r.taken now
+  skipped_keeps : (tsn : ℕ) (entries : List SkippedTo) (tracker now : TrackerState) (old new : ReassemblyState) → IsTsn log first tsn → NameAll log entries → (r : Received queued log first read tracker old) → Tracks first (length log) r.taken now
       → SkipsData tsn entries old new → Received queued log first read now new
-  skipped_keeps tsn entries tracker now old new t r tracks skips = go (is_forward_deferred tsn old.deferral) refl
+  skipped_keeps tsn entries tracker now old new t names r tracks skips = go (is_forward_deferred tsn old.deferral) refl
     where
       go : (b : Bool) → is_forward_deferred tsn old.deferral ≡ b → Received queued log first read now new
       go true is =
@@ -142,7 +143,7 @@ module _ (queued : List Message) (log : List Slot) (first : ℕ) (cut : Cut queu
             apart = r.apart;
             distinct = r.distinct;
             holds = r.holds;
-            defers = waiting_forward log first tsn entries r.later old.deferral is t r.defers;
+            defers = waiting_forward log first tsn entries r.later old.deferral is t names r.defers;
           })
       go false is =
           let moved = skips.moved is in
@@ -155,7 +156,7 @@ module _ (queued : List Message) (log : List Slot) (first : ℕ) (cut : Cut queu
             later_taken = r.later_taken;
             apart = r.apart;
             distinct = r.distinct;
-            holds = forward_handled queued log first cut f read r.got tsn entries old.incoming new.incoming t r.holds moved.incoming;
+            holds = forward_handled queued log first cut told f read r.got tsn entries old.incoming new.incoming t names r.holds moved.incoming;
             defers = subst (λ (d : Option DeferralModel). Defers log first r.later (actions_of d)) (sym moved.deferral) r.defers;
           }
 
@@ -177,9 +178,9 @@ module _ (queued : List Message) (log : List Slot) (first : ℕ) (cut : Cut queu
         defers = r.defers;
       }
 
-  gone_forward : (tsn : ℕ) (entries : List SkippedTo) (old new : Transfer) → IsTsn log first tsn → Received queued log first read old.tracker old.reassembly → GoesForward tsn entries old new
+  gone_forward : (tsn : ℕ) (entries : List SkippedTo) (old new : Transfer) → IsTsn log first tsn → NameAll log entries → Received queued log first read old.tracker old.reassembly → GoesForward tsn entries old new
       → Received queued log first read new.tracker new.reassembly
-  gone_forward tsn entries old new t r goes =
+  gone_forward tsn entries old new t names r goes =
       subst (λ (k : TrackerState). Received queued log first read k new.reassembly) (sym (ap (λ (k : Transfer). k.tracker) goes.rest)) (go (is_forward old.tracker.cumulative tsn) refl goes.reassembly)
     where
       passed : is_forward old.tracker.cumulative tsn ≡ true → Tracks first (length log) r.taken (after_forward tsn old.tracker)
@@ -191,18 +192,18 @@ module _ (queued : List Message) (log : List Slot) (first : ℕ) (cut : Cut queu
       not_passed b is clear = subst (λ (c : Bool). (if c then moved_forward tsn old.tracker else delay_over old.tracker) ≡ delay_over old.tracker) (sym (is ∙ clear)) refl
 
       go : (b : Bool) → is_forward old.tracker.cumulative tsn ≡ b → SkipsWhere b tsn entries old.reassembly new.reassembly → Received queued log first read (after_forward tsn old.tracker) new.reassembly
-      go true is skips = skipped_keeps tsn entries old.tracker (after_forward tsn old.tracker) old.reassembly new.reassembly t r (passed is) skips
+      go true is skips = skipped_keeps tsn entries old.tracker (after_forward tsn old.tracker) old.reassembly new.reassembly t names r (passed is) skips
       go false is same =
           subst (λ (s : ReassemblyState). Received queued log first read (after_forward tsn old.tracker) s) (sym same)
           (with_tracks old.tracker (after_forward tsn old.tracker) old.reassembly r
           (subst (λ (k : TrackerState). Tracks first (length log) r.taken k) (sym (not_passed false is refl)) (delayed_tracks r.taken old.tracker r.tracks)))
 
-  pub forwarding_keeps : (tsn : ℕ) (entries : List SkippedTo) (old new : Transfer) → IsTsn log first tsn → Received queued log first read old.tracker old.reassembly → MovesForward tsn entries old new
+  pub forwarding_keeps : (tsn : ℕ) (entries : List SkippedTo) (old new : Transfer) → IsTsn log first tsn → NameAll log entries → Received queued log first read old.tracker old.reassembly → MovesForward tsn entries old new
       → Received queued log first read new.tracker new.reassembly
-  forwarding_keeps tsn entries old new t r moves = go (is_valid_tsn old.tracker.cumulative tsn) moves
+  forwarding_keeps tsn entries old new t names r moves = go (is_valid_tsn old.tracker.cumulative tsn) moves
     where
       go : (b : Bool) → MovesWhere b tsn entries old new → Received queued log first read new.tracker new.reassembly
-      go true goes = gone_forward tsn entries old new t r goes
+      go true goes = gone_forward tsn entries old new t names r goes
       go false same = same_transfer old new same r
 
 -- a FORWARD-TSN that passes nothing

@@ -8,9 +8,12 @@ use Rattle.dcsctp_machine.specs.transfer.Runs.{RunModel, PartModel, WholeModel, 
 use Rattle.dcsctp_delivery_sending.specs.Places.{Has, at_place}
 use Rattle.dcsctp_delivery_sending.specs.Log.{Message, Piece, Slot, Cut}
 use Rattle.dcsctp_delivery_receiving.specs.Rows.{IsPart, IsRow, AreRows, IsQueued, MakesQueued}
+use Rattle.dcsctp_delivery_sending.specs.Numbers.{Told}
+use Rattle.dcsctp_delivery_receiving.proofs.Chaining.{offsets_follow}
 use Rattle.dcsctp_delivery_receiving.proofs.Joining.{same_merged, stretched, started, both, joined_two, denied}
 
-module _ (queued : List Message) (log : List Slot) (cut : Cut queued log) (got : List ℕ) (base : ℕ) (Named : Piece → ℕ → Type 0) where
+module _ (queued : List Message) (log : List Slot) (cut : Cut queued log) (told : Told log) (got : List ℕ) (base : ℕ) (Named : Piece → ℕ → Type 0)
+    (tells : (m n : ℕ) (f g : Piece) (number : ℕ) → at_place m log ≡ Some (Some f) → at_place n log ≡ Some (Some g) → f.is_interleaved ≡ true → g.is_interleaved ≡ true → Named f number → Named g number → f.place ≡ g.place) where
   -- a part alone
   single_row : (part : PartModel) (is : IsPart log base Named part) → Has is.offset got → IsRow log got base Named (single_run part)
   single_row part is has =
@@ -36,11 +39,12 @@ module _ (queued : List Message) (log : List Slot) (cut : Cut queued log) (got :
       }
 
   -- two runs in one
-  chained_row : (front back : RunModel) → IsRow log got base Named front → IsRow log got base Named back → back.first ≡ front.first + length front.payloads → back.has_beginning ≡ false
+  chained_row : (front back : RunModel) → IsRow log got base Named front → IsRow log got base Named back → back.first ≡ front.first + length front.payloads → front.number ≡ back.number → back.has_beginning ≡ false
       → IsRow log got base Named (chained front back)
-  chained_row front back f b follows goes_on =
-      let before = cut.rows b.offset b.head (omega (arith, follows, f.first, b.first, f.ends, f.some)) b.at_head (started b.head (sym b.beginning ∙ goes_on)) in
-      let place_is : before.earlier ≡ f.last_offset = omega (arith, before.is, f.ends, f.first, b.first) in
+  chained_row front back f b follows same_number goes_on =
+      let next = offsets_follow queued log cut told got base Named tells front back f b follows same_number in
+      let before = cut.rows b.offset b.head (omega (arith, next, f.ends, f.some)) b.at_head (started b.head (sym b.beginning ∙ goes_on)) in
+      let place_is : before.earlier ≡ f.last_offset = omega (arith, before.is, f.ends, next) in
       let found : at_place f.last_offset log ≡ Some (Some before.before) = subst (λ (k : ℕ). at_place k log ≡ Some (Some before.before)) place_is before.at in
       let same' : Some (Some before.before) ≡ Some (Some f.last) = sym found ∙ f.at_last in
       let same : before.before ≡ f.last = cc in
@@ -54,11 +58,11 @@ module _ (queued : List Message) (log : List Slot) (cut : Cut queued log) (got :
         at_head = f.at_head;
         at_last = b.at_last;
         first = f.first;
-        ends = omega (arith, b.ends, b.first, f.first, length-append front.payloads back.payloads);
+        ends = omega (arith, b.ends, next, length-append front.payloads back.payloads);
         some = omega (arith, f.some, length-append front.payloads back.payloads);
         covered = λ k from to. elim (leb_tells k f.last_offset) [
           | inl e ↦ f.covered k from e.1
-          | inr e ↦ (let past : f.last_offset < k = e.1 in b.covered k (omega (arith, f.ends, f.first, b.first, follows)) to)
+          | inr e ↦ (let past : f.last_offset < k = e.1 in b.covered k (omega (arith, f.ends, next)) to)
         ];
         place = b.place ∙ sym before.place ∙ ap (λ (g : Piece). g.place) same ∙ f.place;
         message = b.message ∙ message;
@@ -101,11 +105,11 @@ module _ (queued : List Message) (log : List Slot) (cut : Cut queued log) (got :
 
   Joins : PartModel → Option RunModel → Type 0
   Joins part None = Unit {0}
-  Joins part (Some run) = IsRow log got base Named run × (run.first + length run.payloads ≡ part.place) × (part.is_beginning ≡ false)
+  Joins part (Some run) = IsRow log got base Named run × (run.first + length run.payloads ≡ part.place) × (part.is_beginning ≡ false) × (run.number ≡ part.number)
 
   IsJoined : PartModel → Option RunModel → Type 0
   IsJoined part None = Unit {0}
-  IsJoined part (Some run) = IsRow log got base Named run × (run.first ≡ part.place + 1) × (run.has_beginning ≡ false)
+  IsJoined part (Some run) = IsRow log got base Named run × (run.first ≡ part.place + 1) × (run.has_beginning ≡ false) × (run.number ≡ part.number)
 
   joins_before : (at : ℕ) (runs : List RunModel) (part : PartModel) → AreRows log got base Named runs → IsPlace at part.place runs → Joins part (run_before at runs part)
   unfolding Joins
@@ -117,7 +121,7 @@ module _ (queued : List Message) (log : List Slot) (cut : Cut queued log) (got :
           let (rest', open_end) = both (((part.place - run.first) == length run.payloads) && (run.number == part.number)) (not run.has_end) rest in
           let (size, same) = both ((part.place - run.first) == length run.payloads) (run.number == part.number) rest' in
           let is : part.place - run.first ≡ length run.payloads = eqb-true _ _ size in
-          (row, omega arith, denied part.is_beginning inside)
+          (row, omega arith, denied part.is_beginning inside, eqb-true run.number part.number same)
       joined run false e row up = tt
 
       go : (found : Option RunModel) → entry_before at runs ≡ found → StartsUpTo part.place found → Joins part (following found part)
@@ -134,7 +138,7 @@ module _ (queued : List Message) (log : List Slot) (cut : Cut queued log) (got :
           let (rest', open_end) = both (((run.first - part.place) == 1) && (run.number == part.number)) (not part.is_end) rest in
           let (near, same) = both ((run.first - part.place) == 1) (run.number == part.number) rest' in
           let is : run.first - part.place ≡ 1 = eqb-true _ _ near in
-          (row, omega arith, denied run.has_beginning inside)
+          (row, omega arith, denied run.has_beginning inside, eqb-true run.number part.number same)
       joined run false e row offset = tt
 
       go : (found : Option RunModel) → slice_get runs at ≡ found → StartsBehind part.place found → IsJoined part (preceding part found)
@@ -159,15 +163,17 @@ module _ (queued : List Message) (log : List Slot) (cut : Cut queued log) (got :
       → MergedRow is.piece.place (merged front part back)
   unfolding Joins IsJoined MergedRow single_row chained_row
   merged_row None part None is has f b = (single_row part is has, refl)
-  merged_row (Some front) part None is has f b = (
-    chained_row front (single_run part) f.0 (single_row part is has) (sym f.1) f.2,
-    sym (follows_on front f.0 is.offset is.piece is.at (omega (arith, f.1, f.0.ends, f.0.first, is.place)) (started is.piece (sym is.beginning ∙ f.2))),
-  )
-  merged_row None part (Some back) is has f b = (chained_row (single_run part) back (single_row part is has) b.0 b.1 b.2, refl)
-  merged_row (Some front) part (Some back) is has f b = (
-    chained_row front (chained (single_run part) back) f.0 (chained_row (single_run part) back (single_row part is has) b.0 b.1 b.2) (sym f.1) f.2,
-    sym (follows_on front f.0 is.offset is.piece is.at (omega (arith, f.1, f.0.ends, f.0.first, is.place)) (started is.piece (sym is.beginning ∙ f.2))),
-  )
+  merged_row (Some front) part None is has f b =
+      let single = single_row part is has in (
+        chained_row front (single_run part) f.0 single (sym f.1) f.3 f.2,
+        sym (follows_on front f.0 is.offset is.piece is.at (let next = offsets_follow queued log cut told got base Named tells front (single_run part) f.0 single (sym f.1) f.3 in omega (arith, next, f.0.ends)) (started is.piece (sym is.beginning ∙ f.2))),
+      )
+  merged_row None part (Some back) is has f b = (chained_row (single_run part) back (single_row part is has) b.0 b.1 (sym b.3) b.2, refl)
+  merged_row (Some front) part (Some back) is has f b =
+      let single = single_row part is has in (
+        chained_row front (chained (single_run part) back) f.0 (chained_row (single_run part) back single b.0 b.1 (sym b.3) b.2) (sym f.1) f.3 f.2,
+        sym (follows_on front f.0 is.offset is.piece is.at (let next = offsets_follow queued log cut told got base Named tells front (single_run part) f.0 single (sym f.1) f.3 in omega (arith, next, f.0.ends)) (started is.piece (sym is.beginning ∙ f.2))),
+      )
 
   whole_row : (run : RunModel) (whole : WholeModel) (place : ℕ) → MergedRow place run → is_whole run ≡ true → whole ≡ whole_run run → IsQueued queued log got Named place whole
   unfolding MergedRow
@@ -178,11 +184,13 @@ module _ (queued : List Message) (log : List Slot) (cut : Cut queued log) (got :
       let size : length row.last.message.payload ≡ length row.head.message.payload = ap (λ (m : Message). length m.payload) row.message in
       let all : row.last.start + row.last.size - row.head.start ≡ length row.head.message.payload = omega arith in
       record {
+        offset = row.offset;
         head = row.head;
+        at = row.at_head;
         is = of;
         queued_at = subst (λ (k : ℕ). at_place k queued ≡ Some row.head.message) of (cut.pieces row.offset row.head row.at_head).at;
         number = subst (λ (w : WholeModel). Named row.head w.number) (sym e) row.number;
-        ppid = ap (λ (w : WholeModel). w.ppid) e ∙ row.ppid;
+        ppid = ap (λ (w : WholeModel). w.ppid) e ∙ row.ppid (sym row.beginning ∙ begins);
         payload = ap (λ (w : WholeModel). w.payload) e ∙ row.payload
             ∙ ap (λ (k : ℕ). take k (drop row.head.start row.head.message.payload)) all
             ∙ ap (λ (k : ℕ). take (length row.head.message.payload) (drop k row.head.message.payload)) zero_at ∙ take_all (length row.head.message.payload) row.head.message.payload (omega arith);

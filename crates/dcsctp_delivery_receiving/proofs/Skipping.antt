@@ -1,4 +1,4 @@
--- What a FORWARD-TSN skips, and streams that are reset.
+-- What a FORWARD-TSN or I-FORWARD-TSN skips, and streams that are reset.
 use Rattle.std.proofs.Common.{◌≡◌, ◌≢◌, ◌==◌, ℕ, Bool, true, false, List, [], ◌∷◌, ◌++◌, map, refl, sym, ◌∙◌, ap, subst, inl, inr}
 use Rattle.std.specs.Prelude.{nat_le, not, if◌then◌else◌}
 use Rattle.std.specs.List.{filter}
@@ -14,10 +14,15 @@ use Rattle.dcsctp_machine.specs.transfer.Incoming.{IncomingModel, stream_on, ski
 use Rattle.dcsctp_delivery_sending.specs.Places.{Has, set_at}
 use Rattle.dcsctp_delivery_sending.specs.Log.{Message, Piece, Slot}
 use Rattle.dcsctp_delivery_receiving.specs.Rows.{AreRows}
-use Rattle.dcsctp_delivery_receiving.specs.Ready.{IsOn, IsOfStream, AreDistinct, WereQueued, StreamHolds, HoldsAll, Holds}
+use Rattle.dcsctp_delivery_receiving.specs.Ready.{IsOn, IsApart, IsOfStream, fresh, Reads, Names, NameAll, StreamRows, AreDistinct, WereQueued, StreamHolds, HoldsAll, Holds}
 use Rattle.dcsctp_delivery_sending.proofs.Places.{decide, set_same, set_other}
 use Rattle.dcsctp_delivery_receiving.proofs.Distinct.{has_left, has_either, appended, distinct_left, distinct_apart, distinct_front}
+use Rattle.dcsctp_delivery_receiving.proofs.Reading.{reads_moved, reads_past, reads_due}
 use Rattle.dcsctp_delivery_receiving.proofs.Waiting.{both_queued, other_streams, wait_on_stream, wait_spent, Split, split_due, Leaves, leaves_none}
+
+-- a stream on which nothing was received
+pub new_rows : (log : List Slot) (got : List ℕ) (base id : ℕ) → StreamRows log got base id (new_stream id)
+new_rows log got base id = record { is = refl; ordered = tt; unordered = tt; next = λ start w. fresh refl; last = λ start w. fresh refl }
 
 module _ (queued : List Message) (log : List Slot) (got : List ℕ) (base : ℕ) (read : List ℕ) where
   rows_filter : (Named : Piece → ℕ → Type 0) (test : RunModel → Bool) (runs : List RunModel) → AreRows log got base Named runs → AreRows log got base Named (filter test runs)
@@ -52,15 +57,15 @@ module _ (queued : List Message) (log : List Slot) (got : List ℕ) (base : ℕ)
 
   -- one stream is left so
   holds_left : (id : ℕ) (streams later : ℕ → StreamModel) (unordered : List RunModel) (ready after : List MessageContent) (holds : HoldsAll queued log got base read streams unordered ready)
-      → (later id).id ≡ id → AreRows log got base (IsOn id) (later id).ordered → ((other : ℕ) → other ≢ id → later other ≡ streams other)
+      → StreamRows log got base id (later id) → ((other : ℕ) → other ≢ id → later other ≡ streams other)
       → Leaves queued log got (read ++ holds.places) holds.places id (later id).waiting after → HoldsAll queued log got base read later unordered after
-  holds_left id streams later unordered ready after holds same rows others leaves =
+  holds_left id streams later unordered ready after holds rows others leaves =
       record {
         waits = set_at id leaves.waits holds.waits;
         streams_hold = λ other. elim (decide other id) [
           | inl e ↦
               subst (λ (k : ℕ). StreamHolds queued log got base k (set_at id leaves.waits holds.waits k) (later k)) (sym e)
-              (subst (λ (l : List ℕ). StreamHolds queued log got base id l (later id)) (sym (set_same id leaves.waits holds.waits)) (record { is = same; rows = rows; wait = leaves.wait }))
+              (subst (λ (l : List ℕ). StreamHolds queued log got base id l (later id)) (sym (set_same id leaves.waits holds.waits)) (record { rows = rows; wait = leaves.wait }))
           | inr ne ↦
               subst (λ (l : List ℕ). StreamHolds queued log got base other l (later other)) (sym (set_other id other leaves.waits holds.waits ne))
               (subst (λ (s : StreamModel). StreamHolds queued log got base other (holds.waits other) s) (sym (others other ne)) (holds.streams_hold other))
@@ -91,7 +96,7 @@ module _ (queued : List Message) (log : List Slot) (got : List ℕ) (base : ℕ)
         more = split.front;
         waits = split.back;
         were = both_queued queued places split.front before (map (delivered_as stream.id) (due next stream.waiting)) were
-            (subst (λ (k : ℕ). WereQueued queued split.front (map (delivered_as k) (due next stream.waiting))) (sym holds.is) split.due_queued);
+            (subst (λ (k : ℕ). WereQueued queued split.front (map (delivered_as k) (due next stream.waiting))) (sym holds.rows.is) split.due_queued);
         wait = split.left_queued;
         once = subst (λ (l : List ℕ). AreDistinct l) (sym (appended all split.front split.back)) (subst (λ (l : List ℕ). AreDistinct (all ++ l)) split.parts once);
         on = λ q h. wait_on_stream queued log got id q waits stream.waiting holds.wait (subst (λ (l : List ℕ). Has q l) (sym split.parts) (has_left q split.front split.back h));
@@ -109,15 +114,32 @@ module _ (queued : List Message) (log : List Slot) (got : List ℕ) (base : ℕ)
   skipped_leaves all places waits id (Mid on true mid) stream before holds were once =
       leaves_none queued log got all places waits id stream.waiting before (before ++ []) were holds.wait once (append-nil before)
 
-  skipped_rows : (id : ℕ) (waits : List ℕ) (entry : SkippedTo) (stream : StreamModel) → StreamHolds queued log got base id waits stream → AreRows log got base (IsOn id) (skipped entry stream).ordered
-  skipped_rows id waits (Ssn on ssn) stream holds = rows_filter (IsOn id) (λ run. not (nat_le run.number (short_number_near stream.next ssn))) stream.ordered holds.rows
-  skipped_rows id waits (Mid on false mid) stream holds = rows_filter (IsOn id) (λ run. not (nat_le run.number (number_near stream.next mid))) stream.ordered holds.rows
-  skipped_rows id waits (Mid on true mid) stream holds = holds.rows
-
-  skipped_id : (entry : SkippedTo) (stream : StreamModel) → (skipped entry stream).id ≡ stream.id
-  skipped_id (Ssn on ssn) stream = refl
-  skipped_id (Mid on false mid) stream = refl
-  skipped_id (Mid on true mid) stream = refl
+  skipped_rows : (entry : SkippedTo) (waits : List ℕ) (stream : StreamModel) → Names log entry → StreamHolds queued log got base (skipped_stream entry) waits stream → StreamRows log got base (skipped_stream entry) (skipped entry stream)
+  skipped_rows (Ssn id ssn) waits stream (number, piece, at, kind) holds =
+      record {
+        is = holds.rows.is;
+        ordered = rows_filter (IsOn id.0) (λ run. not (nat_le run.number (short_number_near stream.next ssn))) stream.ordered holds.rows.ordered;
+        unordered = holds.rows.unordered;
+        next = λ start w. absurd (let clash : true ≡ false = sym (w.kinds number piece at) ∙ kind in cc);
+        last = holds.rows.last;
+      }
+  skipped_rows (Mid id false mid) waits stream (number, piece, at, on, unordered, is) holds =
+      record {
+        is = holds.rows.is;
+        ordered = rows_filter (IsOn id.0) (λ run. not (nat_le run.number (number_near stream.next mid))) stream.ordered holds.rows.ordered;
+        unordered = holds.rows.unordered;
+        next = reads_due queued log got id.0 (next_past (number_near stream.next mid) stream.next) waits stream.waiting holds.wait
+            (subst (λ (k : ℕ). Reads log id.0 false (next_past (number_near stream.next k) stream.next)) (sym is) (reads_past log id.0 false number piece at (sym on) (sym unordered) stream.next holds.rows.next));
+        last = holds.rows.last;
+      }
+  skipped_rows (Mid id true mid) waits stream (number, piece, at, on, unordered, is) holds =
+      record {
+        is = holds.rows.is;
+        ordered = holds.rows.ordered;
+        unordered = rows_filter (IsApart id.0) (λ run. not (nat_le run.number (number_near stream.last_unordered mid))) stream.unordered holds.rows.unordered;
+        next = holds.rows.next;
+        last = subst (λ (k : ℕ). Reads log id.0 true (number_near stream.last_unordered k)) (sym is) (reads_moved log id.0 true number piece at (sym on) (sym unordered) stream.last_unordered holds.rows.last);
+      }
 
   on_itself : (entry : SkippedTo) (stream : StreamModel) → skipped_on entry (skipped_stream entry) stream ≡ skipped entry stream
   on_itself entry stream = go (skipped_stream entry == skipped_stream entry) (elim (eqb_tells (skipped_stream entry) (skipped_stream entry)) [ inl e ↦ e.0 | inr e ↦ absurd (e.1 refl) ])
@@ -134,25 +156,24 @@ module _ (queued : List Message) (log : List Slot) (got : List ℕ) (base : ℕ)
       go false e = refl
 
   one_skipped : (entry : SkippedTo) (streams : ℕ → StreamModel) (unordered : List RunModel) (ready : List MessageContent) → HoldsAll queued log got base read streams unordered ready
-      → HoldsAll queued log got base read (λ id. skipped_on entry id (streams id)) unordered (ready ++ skip_deliveries entry (streams (skipped_stream entry)))
-  one_skipped entry streams unordered ready holds =
+      → Names log entry → HoldsAll queued log got base read (λ id. skipped_on entry id (streams id)) unordered (ready ++ skip_deliveries entry (streams (skipped_stream entry)))
+  one_skipped entry streams unordered ready holds names =
       let id : ℕ = skipped_stream entry in
       let here : StreamHolds queued log got base id (holds.waits id) (streams id) = holds.streams_hold id in
       let is = on_itself entry (streams id) in
       holds_left id streams (λ other. skipped_on entry other (streams other)) unordered ready (ready ++ skip_deliveries entry (streams id)) holds
-      (ap (λ (s : StreamModel). s.id) is ∙ skipped_id entry (streams id) ∙ here.is)
-      (subst (λ (s : StreamModel). AreRows log got base (IsOn id) s.ordered) (sym is) (skipped_rows id (holds.waits id) entry (streams id) here))
+      (subst (λ (s : StreamModel). StreamRows log got base id s) (sym is) (skipped_rows entry (holds.waits id) (streams id) names here))
       (λ other ne. on_others entry other (streams other) ne)
       (subst (λ (s : StreamModel). Leaves queued log got (read ++ holds.places) holds.places id s.waiting (ready ++ skip_deliveries entry (streams id))) (sym is)
       (skipped_leaves (read ++ holds.places) holds.places (holds.waits id) id entry (streams id) ready here holds.were_queued (holds.once id)))
 
   all_skipped : (entries : List SkippedTo) (streams : ℕ → StreamModel) (unordered : List RunModel) (ready : List MessageContent) → HoldsAll queued log got base read streams unordered ready
-      → HoldsAll queued log got base read (λ id. skipped_by entries id (streams id)) unordered (ready ++ deliveries_by entries streams)
-  all_skipped [] streams unordered ready holds = subst (λ (l : List MessageContent). HoldsAll queued log got base read streams unordered l) (sym (append-nil ready)) holds
-  all_skipped (entry ∷ entries) streams unordered ready holds =
+      → NameAll log entries → HoldsAll queued log got base read (λ id. skipped_by entries id (streams id)) unordered (ready ++ deliveries_by entries streams)
+  all_skipped [] streams unordered ready holds names = subst (λ (l : List MessageContent). HoldsAll queued log got base read streams unordered l) (sym (append-nil ready)) holds
+  all_skipped (entry ∷ entries) streams unordered ready holds names =
       subst (λ (l : List MessageContent). HoldsAll queued log got base read (λ id. skipped_by (entry ∷ entries) id (streams id)) unordered l)
       (messages_appended ready (skip_deliveries entry (streams (skipped_stream entry))) (deliveries_by entries (λ id. skipped_on entry id (streams id))))
-      (all_skipped entries (λ id. skipped_on entry id (streams id)) unordered (ready ++ skip_deliveries entry (streams (skipped_stream entry))) (one_skipped entry streams unordered ready holds))
+      (all_skipped entries (λ id. skipped_on entry id (streams id)) unordered (ready ++ skip_deliveries entry (streams (skipped_stream entry))) (one_skipped entry streams unordered ready holds names.0) names.1)
     where
       messages_appended : (xs ys zs : List MessageContent) → (xs ++ ys) ++ zs ≡ xs ++ (ys ++ zs)
       messages_appended [] ys zs = refl
@@ -164,9 +185,9 @@ module _ (queued : List Message) (log : List Slot) (got : List ℕ) (base : ℕ)
   apart_rows streams unordered others ready holds rows =
       record { waits = holds.waits; streams_hold = holds.streams_hold; rows = rows; places = holds.places; were_queued = holds.were_queued; spent = holds.spent; once = holds.once }
 
-  pub skips_on : (tsn : ℕ) (entries : List SkippedTo) (old new : IncomingModel) → Holds queued log got base read old → MovesOn tsn entries old new → Holds queued log got base read new
-  skips_on tsn entries old new holds moves =
-      let skipped_all = all_skipped entries (λ id. stream_on id old.streams) old.unordered old.ready holds in
+  pub skips_on : (tsn : ℕ) (entries : List SkippedTo) (old new : IncomingModel) → NameAll log entries → Holds queued log got base read old → MovesOn tsn entries old new → Holds queued log got base read new
+  skips_on tsn entries old new names holds moves =
+      let skipped_all = all_skipped entries (λ id. stream_on id old.streams) old.unordered old.ready holds names in
       let rows : AreRows log got base IsOfStream new.unordered = subst (λ (l : List RunModel). AreRows log got base IsOfStream l) (sym moves.unordered) (rows_behind IsOfStream (number_near old.last_tsn_number tsn) old.unordered holds.rows) in
       subst (λ (l : List MessageContent). HoldsAll queued log got base read (λ id. stream_on id new.streams) new.unordered l) (sym moves.ready)
       (apart_rows (λ id. stream_on id new.streams) old.unordered new.unordered (old.ready ++ deliveries_by entries (λ id. stream_on id old.streams))
@@ -189,7 +210,7 @@ module _ (queued : List Message) (log : List Slot) (got : List ℕ) (base : ℕ)
       }
     where
       left_stream : (id : ℕ) (b : Bool) → StreamHolds queued log got base id (if b then [] else holds.waits id) (if b then new_stream id else streams id)
-      left_stream id true = record { is = refl; rows = tt; wait = tt }
+      left_stream id true = record { rows = new_rows log got base id; wait = tt }
       left_stream id false = holds.streams_hold id
 
       left_once : (id : ℕ) (b : Bool) → AreDistinct ((read ++ holds.places) ++ (if b then [] else holds.waits id))

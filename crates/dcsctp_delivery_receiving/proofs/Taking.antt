@@ -17,6 +17,7 @@ use Rattle.dcsctp_delivery_sending.specs.Log.{Message, Slot}
 use Rattle.dcsctp_delivery_receiving.specs.Ready.{AreDistinct, WereQueued, WasQueued, Holds}
 use Rattle.dcsctp_delivery_receiving.specs.Tracked.{tracked, Tracks}
 use Rattle.dcsctp_delivery_receiving.specs.Received.{Reassembles, untouched, placed, Defers, Received, Few, Reads}
+use Rattle.dcsctp_delivery_receiving.proofs.Skipping.{new_rows}
 use Rattle.dcsctp_delivery_receiving.proofs.Distinct.{has_left, has_right, appended, distinct_left}
 
 nothing_passed : (first count cumulative tsn : ℕ) → first < 2 ^ 32 → count < 2 ^ 31 → cumulative + 1 ≤ tracked first count → tracked first 0 ≤ cumulative + 1 → tsn ≡ (first + 0 + (2 ^ 32 - 1)) % 2 ^ 32 → is_forward cumulative tsn ≡ false
@@ -153,7 +154,7 @@ nothing_received options queued log first size small =
       holds = untouched refl refl
           (λ base. record {
             waits = λ id. [];
-            streams_hold = λ id. record { is = refl; rows = tt; wait = tt };
+            streams_hold = λ id. record { rows = new_rows log [] base id; wait = tt };
             rows = tt;
             places = [];
             were_queued = tt;

@@ -9,7 +9,7 @@ use Rattle.dcsctp_machine.specs.transfer.IncomingStreams.{StreamModel, delivered
 use Rattle.dcsctp_delivery_sending.specs.Places.{Has, at_place}
 use Rattle.dcsctp_delivery_sending.specs.Log.{Message, Piece, Slot}
 use Rattle.dcsctp_delivery_receiving.specs.Rows.{Spent, IsQueued, MakesQueued}
-use Rattle.dcsctp_delivery_receiving.specs.Ready.{IsOn, AreDistinct, WasQueued, WereQueued, WaitQueued, StreamHolds}
+use Rattle.dcsctp_delivery_receiving.specs.Ready.{IsOn, IsApart, AreDistinct, WasQueued, WereQueued, WaitQueued, StreamRows, StreamHolds}
 use Rattle.dcsctp_delivery_receiving.proofs.SpentRows.{rows_got, spent_got}
 use Rattle.dcsctp_delivery_receiving.proofs.Distinct.{appended, has_left, distinct_with}
 
@@ -33,12 +33,36 @@ module _ (queued : List Message) where
       let same : m ≡ n = cc in
       ne (sym on ∙ ap (λ (x : Message). x.stream) same ∙ on')
 
+-- a message of the stream, whatever its number
+abbrev pub OfStream : ℕ → Piece → ℕ → Type 0
+OfStream id piece number = piece.message.stream ≡ id
+
 module _ (queued : List Message) (log : List Slot) (got : List ℕ) where
+  -- the same under less of a name
+  pub renamed : (Named Other : Piece → ℕ → Type 0) → ((f : Piece) (number : ℕ) → Named f number → Other f number) → (place : ℕ) (outcome : Assembled) → MakesQueued queued log got Named place outcome → MakesQueued queued log got Other place outcome
+  renamed Named Other less place part_dropped makes = tt
+  renamed Named Other less place part_kept makes = tt
+  renamed Named Other less place (message_whole whole) makes =
+      record {
+        offset = makes.offset;
+        head = makes.head;
+        at = makes.at;
+        is = makes.is;
+        queued_at = makes.queued_at;
+        number = less makes.head whole.number makes.number;
+        ppid = makes.ppid;
+        payload = makes.payload;
+        spent = makes.spent;
+      }
+
+  only_on : (id place : ℕ) (whole : WholeModel) → IsQueued queued log got (IsOn id) place whole → IsQueued queued log got (OfStream id) place whole
+  only_on id place whole is = renamed (IsOn id) (OfStream id) (λ f number named. named.0) place (message_whole whole) is
+
   -- a whole message as it is delivered
-  delivered : (id place : ℕ) (whole : WholeModel) → IsQueued queued log got (IsOn id) place whole → WasQueued queued place (delivered_as id whole)
+  delivered : (id place : ℕ) (whole : WholeModel) → IsQueued queued log got (OfStream id) place whole → WasQueued queued place (delivered_as id whole)
   delivered id place whole is = record { message = is.head.message; at = is.queued_at; stream = sym is.number; ppid = is.ppid; payload = is.payload }
 
-  on_stream : (id place : ℕ) (whole : WholeModel) → IsQueued queued log got (IsOn id) place whole → OnStream queued id place
+  on_stream : (id place : ℕ) (whole : WholeModel) → IsQueued queued log got (OfStream id) place whole → OnStream queued id place
   unfolding OnStream
   on_stream id place whole is = (is.head.message, is.queued_at, is.number)
 
@@ -48,7 +72,7 @@ module _ (queued : List Message) (log : List Slot) (got : List ℕ) where
   wait_on_stream id p (q ∷ places) [] wait h = absurd wait
   wait_on_stream id p (q ∷ places) (w ∷ wholes) wait h =
       elim h [
-        | inl e ↦ subst (λ (k : ℕ). OnStream queued id k) (sym e) (on_stream id q w wait.0)
+        | inl e ↦ subst (λ (k : ℕ). OnStream queued id k) (sym e) (on_stream id q w (only_on id q w wait.0))
         | inr t ↦ wait_on_stream id p places wholes wait.1 t
       ]
 
@@ -83,7 +107,7 @@ module _ (queued : List Message) (log : List Slot) (got : List ℕ) where
             front = p ∷ rest.front;
             back = rest.back;
             parts = ap (λ (l : List ℕ). p ∷ l) rest.parts;
-            due_queued = (delivered id p w wait.0, rest.due_queued);
+            due_queued = (delivered id p w (only_on id p w wait.0), rest.due_queued);
             left_queued = rest.left_queued;
           }
       go false rest = record { front = []; back = p ∷ places; parts = refl; due_queued = tt; left_queued = wait }
@@ -128,7 +152,7 @@ module _ (queued : List Message) (log : List Slot) (got : List ℕ) where
       }
 
   leaves_one : (all places waits : List ℕ) (on id p : ℕ) (whole : WholeModel) (waiting : List WholeModel) (before after : List MessageContent) → id ≡ on → WereQueued queued places before → WaitQueued queued log got id waits waiting
-      → IsQueued queued log got (IsOn id) p whole → AreDistinct (all ++ waits) → (Has p (all ++ waits) → ⊥) → after ≡ before ++ delivered_as on whole ∷ [] → Leaves all places id waiting after
+      → IsQueued queued log got (OfStream id) p whole → AreDistinct (all ++ waits) → (Has p (all ++ waits) → ⊥) → after ≡ before ++ delivered_as on whole ∷ [] → Leaves all places id waiting after
   leaves_one all places waits on id p whole waiting before after same were wait is once fresh e =
       record {
         more = p ∷ [];
@@ -155,12 +179,12 @@ module _ (queued : List Message) (log : List Slot) (got : List ℕ) where
             waits = split.back;
             were = subst (λ (l : List MessageContent). WereQueued queued (places ++ (p ∷ split.front)) l) (sym e)
                 (both_queued queued places (p ∷ split.front) before (ready_with old whole) were
-                (subst (λ (k : ℕ). WereQueued queued (p ∷ split.front) (delivered_as k whole ∷ map (delivered_as k) (due (next_after old.next whole) old.waiting))) same (delivered id p whole is, split.due_queued)));
+                (subst (λ (k : ℕ). WereQueued queued (p ∷ split.front) (delivered_as k whole ∷ map (delivered_as k) (due (next_after old.next whole) old.waiting))) same (delivered id p whole (only_on id p whole is), split.due_queued)));
             wait = subst (λ (l : List WholeModel). WaitQueued queued log got id split.back l) (sym left) split.left_queued;
             once = subst (λ (l : List ℕ). AreDistinct l) (sym (appended all (p ∷ split.front) split.back))
                 (subst (λ (l : List ℕ). AreDistinct (all ++ (p ∷ l))) split.parts (distinct_with p all waits once fresh));
             on = λ q h. elim h [
-              | inl e' ↦ subst (λ (k : ℕ). OnStream queued id k) (sym e') (on_stream id p whole is)
+              | inl e' ↦ subst (λ (k : ℕ). OnStream queued id k) (sym e') (on_stream id p whole (only_on id p whole is))
               | inr t ↦ wait_on_stream id q waits old.waiting wait (subst (λ (l : List ℕ). Has q l) (sym split.parts) (has_left q split.front split.back t))
             ];
             spent = λ q h. elim h [
@@ -190,7 +214,7 @@ module _ (queued : List Message) (log : List Slot) (got : List ℕ) where
 
   -- one under a number that another has
   pub leaves_repeated : (all places waits : List ℕ) (on id p : ℕ) (part : PartModel) (waiting : List WholeModel) (before after : List MessageContent) (outcome : Assembled) (taken : Taken) → id ≡ on
-      → WereQueued queued places before → WaitQueued queued log got id waits waiting → MakesQueued queued log got (IsOn id) p outcome → AreDistinct (all ++ waits) → (Has p (all ++ waits) → ⊥)
+      → WereQueued queued places before → WaitQueued queued log got id waits waiting → MakesQueued queued log got (OfStream id) p outcome → AreDistinct (all ++ waits) → (Has p (all ++ waits) → ⊥)
       → UnorderedOutcome part (delivered_as on) before outcome taken after → Leaves all places id waiting after
   leaves_repeated all places waits on id p part waiting before after part_dropped taken same were wait makes once fresh does = leaves_none all places waits id waiting before after were wait once does.0
   leaves_repeated all places waits on id p part waiting before after part_kept taken same were wait makes once fresh does = leaves_none all places waits id waiting before after were wait once does.0
@@ -201,7 +225,7 @@ module _ (queued : List Message) (log : List Slot) (got : List ℕ) where
 
 queued_got : (queued : List Message) (log : List Slot) (got : List ℕ) (n : ℕ) (Named : Piece → ℕ → Type 0) (place : ℕ) (whole : WholeModel) → IsQueued queued log got Named place whole → IsQueued queued log (n ∷ got) Named place whole
 queued_got queued log got n Named place whole is =
-    record { head = is.head; is = is.is; queued_at = is.queued_at; number = is.number; ppid = is.ppid; payload = is.payload; spent = spent_got log got n place is.spent }
+    record { offset = is.offset; head = is.head; at = is.at; is = is.is; queued_at = is.queued_at; number = is.number; ppid = is.ppid; payload = is.payload; spent = spent_got log got n place is.spent }
 
 pub wait_got : (queued : List Message) (log : List Slot) (got : List ℕ) (n id : ℕ) (places : List ℕ) (wholes : List WholeModel) → WaitQueued queued log got id places wholes → WaitQueued queued log (n ∷ got) id places wholes
 wait_got queued log got n id [] [] wait = tt
@@ -209,6 +233,16 @@ wait_got queued log got n id [] (w ∷ wholes) wait = absurd wait
 wait_got queued log got n id (p ∷ places) [] wait = absurd wait
 wait_got queued log got n id (p ∷ places) (w ∷ wholes) wait = (queued_got queued log got n (IsOn id) p w wait.0, wait_got queued log got n id places wholes wait.1)
 
+pub stream_rows_got : (log : List Slot) (got : List ℕ) (n base id : ℕ) (stream : StreamModel) → StreamRows log got base id stream → StreamRows log (n ∷ got) base id stream
+stream_rows_got log got n base id stream rows =
+    record {
+      is = rows.is;
+      ordered = rows_got log got n base (IsOn id) stream.ordered rows.ordered;
+      unordered = rows_got log got n base (IsApart id) stream.unordered rows.unordered;
+      next = rows.next;
+      last = rows.last;
+    }
+
 pub stream_got : (queued : List Message) (log : List Slot) (got : List ℕ) (n base id : ℕ) (places : List ℕ) (stream : StreamModel) → StreamHolds queued log got base id places stream → StreamHolds queued log (n ∷ got) base id places stream
 stream_got queued log got n base id places stream holds =
-    record { is = holds.is; rows = rows_got log got n base (IsOn id) stream.ordered holds.rows; wait = wait_got queued log got n id places stream.waiting holds.wait }
+    record { rows = stream_rows_got log got n base id stream holds.rows; wait = wait_got queued log got n id places stream.waiting holds.wait }

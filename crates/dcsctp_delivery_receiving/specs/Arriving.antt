@@ -1,14 +1,31 @@
--- What a DATA chunk that the peer sent says as it is received (RFC 9260, section 3.3.1). Without interleaving.
-use Rattle.std.specs.Prelude.{◌≢◌, ℕ, List, []}
+-- What a chunk of data says as it is received, and a chunk that passes TSNs, which the peer sent (RFC 9260, section 3.3.1, RFC 3758,
+-- section 3.2, and RFC 8260, sections 2.1 and 2.3.1).
+use Rattle.std.specs.Prelude.{◌≢◌, ℕ, List, [], true, false}
 use Rattle.std.specs.List.{AllByRecursion}
-use Rattle.dcsctp_wire.specs.Content.{DataContent}
-use Rattle.dcsctp_machine.specs.transfer.Arrivals.{data_arrival}
+use Rattle.dcsctp_wire.specs.Content.{DataContent, IDataContent}
+use Rattle.dcsctp_machine.specs.transfer.Arrivals.{data_arrival, i_data_arrival, skipped_in, messages_skipped_in}
 use Rattle.dcsctp_delivery_sending.specs.Log.{Message, Slot, Cut, Fits}
-use Rattle.dcsctp_delivery_sending.specs.Flushes.{IsData}
+use Rattle.dcsctp_delivery_sending.specs.Flushes.{IsData, IsInterleaved, IsForward}
+use Rattle.dcsctp_delivery_receiving.specs.Ready.{NameAll}
 use Rattle.dcsctp_delivery_receiving.specs.Received.{Carries}
 
--- A chunk of the log with a payload carries its piece.
+-- A DATA chunk of the log with a payload carries its piece.
 abbrev pub ChunksCarryPieces : Type 0
 ChunksCarryPieces =
     (queued : List Message) (log : List Slot) (first : ℕ) (chunk : DataContent) → Cut queued log → AllByRecursion Fits queued → (is : IsData log first chunk) → chunk.payload ≢ []
     → Carries log first is.number (data_arrival chunk).tsn (data_arrival chunk).chunk
+
+-- So does an I-DATA chunk.
+abbrev pub InterleavedCarryPieces : Type 0
+InterleavedCarryPieces =
+    (queued : List Message) (log : List Slot) (first : ℕ) (chunk : IDataContent) → Cut queued log → AllByRecursion Fits queued → (is : IsInterleaved log first chunk) → chunk.payload ≢ []
+    → Carries log first is.number (i_data_arrival chunk).tsn (i_data_arrival chunk).chunk
+
+-- A FORWARD-TSN names what its log has,
+abbrev pub ForwardsName : Type 0
+ForwardsName = (log : List Slot) (first tsn : ℕ) (streams : List ℕ) → IsForward false log first tsn streams → NameAll log (skipped_in streams)
+
+-- and so does an I-FORWARD-TSN.
+abbrev pub InterleavedForwardsName : Type 0
+InterleavedForwardsName =
+    (queued : List Message) (log : List Slot) (first tsn : ℕ) (streams : List ℕ) → Cut queued log → AllByRecursion Fits queued → IsForward true log first tsn streams → NameAll log (messages_skipped_in streams)

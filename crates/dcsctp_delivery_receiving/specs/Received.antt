@@ -1,6 +1,6 @@
 -- What an association has received of its peer's messages, with the data tracker, and with what waits for the end of a deferred reset
 -- (RFC 6525, section 5.2.2).
-use Rattle.std.specs.Prelude.{◌≡◌, ◌<◌, ◌+◌, ◌%◌, ◌^◌, ℕ, Some, List, [], ◌∷◌, ◌++◌, length}
+use Rattle.std.specs.Prelude.{◌≡◌, ◌<◌, ◌+◌, ◌%◌, ◌^◌, ℕ, true, Some, List, [], ◌∷◌, ◌++◌, length}
 use Rattle.dcsctp_machine.specs.declared.arrivals.SkippedTo.{SkippedTo}
 use Rattle.dcsctp_machine.specs.declared.options.Options.{Options}
 use Rattle.dcsctp_machine.specs.transfer.Arrivals.{Arrival}
@@ -13,7 +13,8 @@ use Rattle.dcsctp_machine.specs.transfer.Transfer.{Transfer}
 use Rattle.dcsctp_machine.specs.turns.TransferMoves.{ReceivesData, MovesForward}
 use Rattle.dcsctp_delivery_sending.specs.Places.{Has, at_place}
 use Rattle.dcsctp_delivery_sending.specs.Log.{Message, Piece, Slot, is_beginning, is_end, bytes_of, Cut}
-use Rattle.dcsctp_delivery_receiving.specs.Ready.{AreDistinct, IsNumbered, Holds}
+use Rattle.dcsctp_delivery_receiving.specs.Ready.{AreDistinct, IsNumbered, NameAll, Holds}
+use Rattle.dcsctp_delivery_sending.specs.Numbers.{Told}
 use Rattle.dcsctp_delivery_receiving.specs.Tracked.{Tracks}
 
 -- The chunk carries the piece of the TSN of this offset from the first.
@@ -22,8 +23,8 @@ pub record Carries (log : List Slot) (first offset tsn : ℕ) (chunk : ChunkMode
   pub at : at_place offset log ≡ Some (Some piece)
   pub is : tsn ≡ (first + offset) % 2 ^ 32
   pub stream : chunk.stream ≡ piece.message.stream
-  pub numbered : IsNumbered piece.message.is_unordered chunk.numbering
-  pub ppid : chunk.ppid ≡ piece.message.ppid
+  pub numbered : IsNumbered piece chunk.numbering
+  pub ppid : is_beginning piece ≡ true → chunk.ppid ≡ piece.message.ppid
   pub payload : chunk.payload ≡ bytes_of piece
   pub beginning : chunk.is_beginning ≡ is_beginning piece
   pub end : chunk.is_end ≡ is_end piece
@@ -53,8 +54,8 @@ Defers log first [] [] = Unit {0}
 Defers log first (offset ∷ others) [] = ⊥
 Defers log first [] (arrived tsn chunk ∷ actions) = ⊥
 Defers log first (offset ∷ others) (arrived tsn chunk ∷ actions) = Carries log first offset tsn chunk × Defers log first others actions
-Defers log first [] (skipping tsn entries ∷ actions) = IsTsn log first tsn × Defers log first [] actions
-Defers log first (offset ∷ others) (skipping tsn entries ∷ actions) = IsTsn log first tsn × Defers log first (offset ∷ others) actions
+Defers log first [] (skipping tsn entries ∷ actions) = IsTsn log first tsn × NameAll log entries × Defers log first [] actions
+Defers log first (offset ∷ others) (skipping tsn entries ∷ actions) = IsTsn log first tsn × NameAll log entries × Defers log first (offset ∷ others) actions
 
 -- All that an association has received whose peer has this log. `taken` has the offsets that the tracker knows, `got` those that the
 -- reassembly queue has handled, and `later` those that wait for the end of a deferred reset.
@@ -78,20 +79,20 @@ pub record Few (log : List Slot) (first : ℕ) : Type 0 where
 -- A chunk that carries the piece of its TSN leaves only what was queued, each message once, whether its TSN is new or not.
 abbrev pub ReceivingKeeps : Type 0
 ReceivingKeeps =
-    (queued : List Message) (log : List Slot) (first : ℕ) (read : List ℕ) (offset : ℕ) (arrival : Arrival) (old new : Transfer) → Cut queued log → Few log first
+    (queued : List Message) (log : List Slot) (first : ℕ) (read : List ℕ) (offset : ℕ) (arrival : Arrival) (old new : Transfer) → Cut queued log → Told log → Few log first
     → Carries log first offset arrival.tsn arrival.chunk → Received queued log first read old.tracker old.reassembly → ReceivesData arrival old new
     → Received queued log first read new.tracker new.reassembly
 
 -- So does a FORWARD-TSN.
 abbrev pub ForwardingKeeps : Type 0
 ForwardingKeeps =
-    (queued : List Message) (log : List Slot) (first : ℕ) (read : List ℕ) (tsn : ℕ) (entries : List SkippedTo) (old new : Transfer) → Cut queued log → Few log first → IsTsn log first tsn
+    (queued : List Message) (log : List Slot) (first : ℕ) (read : List ℕ) (tsn : ℕ) (entries : List SkippedTo) (old new : Transfer) → Cut queued log → Told log → Few log first → IsTsn log first tsn → NameAll log entries
     → Received queued log first read old.tracker old.reassembly → MovesForward tsn entries old new → Received queued log first read new.tracker new.reassembly
 
 -- So does a reset of streams, with all that waited for it, or some.
 abbrev pub LeavingKeeps : Type 0
 LeavingKeeps =
-    (queued : List Message) (log : List Slot) (first : ℕ) (read : List ℕ) (streams : List ℕ) (tracker : TrackerState) (old new : ReassemblyState) → Cut queued log → Few log first
+    (queued : List Message) (log : List Slot) (first : ℕ) (read : List ℕ) (streams : List ℕ) (tracker : TrackerState) (old new : ReassemblyState) → Cut queued log → Told log → Few log first
     → Received queued log first read tracker old → Leaves streams old new → Received queued log first read tracker new
 
 -- The peer may queue more and assign more TSNs.

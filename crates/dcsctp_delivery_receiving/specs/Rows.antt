@@ -1,8 +1,18 @@
 -- The runs that a reassembly queue holds are rows of pieces of the peer's log (RFC 9260, section 6.9).
-use Rattle.std.specs.Prelude.{◌≡◌, ◌<◌, ◌≤◌, ◌+◌, ◌-◌, ℕ, true, Some, List, [], ◌∷◌, length, take, drop}
+use Rattle.std.specs.Prelude.{◌≡◌, ◌<◌, ◌≤◌, ◌+◌, ◌-◌, ◌%◌, ◌^◌, ℕ, Bool, true, false, Some, List, [], ◌∷◌, length, take, drop}
 use Rattle.dcsctp_machine.specs.transfer.Runs.{RunModel, PartModel, WholeModel, Assembled, part_dropped, part_kept, message_whole, joined_bytes}
+use Rattle.dcsctp_machine.specs.transfer.Numbers.{fragment_place}
 use Rattle.dcsctp_delivery_sending.specs.Places.{Has, at_place}
 use Rattle.dcsctp_delivery_sending.specs.Log.{Message, Piece, Slot, is_beginning, is_end, bytes_of}
+
+-- Where the part of a piece lies: by its TSN, or with interleaving by the number of its message and by how many parts come before it
+-- (RFC 8260, section 2.1).
+abbrev pub PlacedBy : Bool → ℕ → ℕ → ℕ → ℕ → ℕ → Type 0
+PlacedBy false base offset fsn number place = place ≡ base + offset
+PlacedBy true base offset fsn number place = place ≡ fragment_place number (fsn % 2 ^ 32)
+
+abbrev pub IsPlaced : ℕ → ℕ → Piece → ℕ → ℕ → Type 0
+IsPlaced base offset piece number place = PlacedBy piece.is_interleaved base offset piece.fsn number place
 
 -- The part that is held is the piece of its TSN. `base` is the number that the reassembly queue has for the first TSN, and `Named` what it
 -- knows of a piece by the number of its part.
@@ -10,9 +20,9 @@ pub record IsPart (log : List Slot) (base : ℕ) (Named : Piece → ℕ → Type
   pub offset : ℕ
   pub piece : Piece
   pub at : at_place offset log ≡ Some (Some piece)
-  pub place : part.place ≡ base + offset
+  pub place : IsPlaced base offset piece part.number part.place
   pub number : Named piece part.number
-  pub ppid : part.ppid ≡ piece.message.ppid
+  pub ppid : is_beginning piece ≡ true → part.ppid ≡ piece.message.ppid
   pub payload : part.payload ≡ bytes_of piece
   pub beginning : part.is_beginning ≡ is_beginning piece
   pub end : part.is_end ≡ is_end piece
@@ -25,7 +35,7 @@ pub record IsRow (log : List Slot) (got : List ℕ) (base : ℕ) (Named : Piece 
   pub last : Piece
   pub at_head : at_place offset log ≡ Some (Some head)
   pub at_last : at_place last_offset log ≡ Some (Some last)
-  pub first : run.first ≡ base + offset
+  pub first : IsPlaced base offset head run.number run.first
   pub ends : last_offset + 1 ≡ offset + length run.payloads
   pub some : 0 < length run.payloads
   pub covered : (k : ℕ) → offset ≤ k → k ≤ last_offset → Has k got
@@ -34,7 +44,7 @@ pub record IsRow (log : List Slot) (got : List ℕ) (base : ℕ) (Named : Piece 
   pub order : head.start ≤ last.start
   pub payload : joined_bytes run.payloads ≡ take (last.start + last.size - head.start) (drop head.start head.message.payload)
   pub number : Named head run.number
-  pub ppid : run.ppid ≡ head.message.ppid
+  pub ppid : is_beginning head ≡ true → run.ppid ≡ head.message.ppid
   pub beginning : run.has_beginning ≡ is_beginning head
   pub end : run.has_end ≡ is_end last
 
@@ -60,7 +70,9 @@ pub record Spent (log : List Slot) (got : List ℕ) (place : ℕ) : Type 0 where
 
 -- The whole is the message that was queued at this place, and all its pieces were handled.
 pub record IsQueued (queued : List Message) (log : List Slot) (got : List ℕ) (Named : Piece → ℕ → Type 0) (place : ℕ) (whole : WholeModel) : Type 0 where
+  pub offset : ℕ
   pub head : Piece
+  pub at : at_place offset log ≡ Some (Some head)
   pub is : head.place ≡ place
   pub queued_at : at_place place queued ≡ Some head.message
   pub number : Named head whole.number

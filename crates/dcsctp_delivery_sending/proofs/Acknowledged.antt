@@ -110,5 +110,20 @@ acknowledged_bear log first acknowledged now cumulative window blocks old new va
     missed_length : length missed.outstanding.items ≡ length old.outstanding.items
     missed_length = missed_items count acknowledges.limit (option_map (tsn_at old.outstanding) acknowledges.newest) start ∙ covered_length count blocks old.outstanding.items
 
+-- what is in flight is sent as before
+pub acknowledged_kind : (now cumulative window : ℕ) (blocks : List GapAckBlock) (old new : RetransmissionState) → AcknowledgesItems now cumulative window blocks old new
+    → new.outstanding.is_interleaved ≡ old.outstanding.is_interleaved
+acknowledged_kind now cumulative window blocks old new acknowledges =
+    ap (λ (s : RetransmissionState). s.outstanding.is_interleaved) acknowledges.is
+    ∙ missed (acknowledged_by old.outstanding cumulative) acknowledges.limit (option_map (tsn_at old.outstanding) acknowledges.newest)
+    (with_items (covered (acknowledged_by old.outstanding cumulative) blocks old.outstanding.items) (exiting cumulative old))
+  where
+    missed : (count limit : ℕ) (newest : Option ℕ) (state : RetransmissionState) → (missed_until count limit newest state).outstanding.is_interleaved ≡ state.outstanding.is_interleaved
+    missed count limit newest state = go (nat_lt (marked_items state.outstanding.items) (marked_items (changed_between (Miss newest) count limit state.outstanding.items)))
+      where
+        go : (c : Bool) → (let items = changed_between (Miss newest) count limit state.outstanding.items in (if c then lossy (with_items items state) else with_items items state).outstanding.is_interleaved ≡ state.outstanding.is_interleaved)
+        go true = refl
+        go false = refl
+
 pub lost_bear : (log : List Slot) (first acknowledged now : ℕ) (state : RetransmissionState) → Bears log first acknowledged state.outstanding → Bears log first acknowledged (after_expiry now state).outstanding
 lost_bear log first acknowledged now state b = bears_changed log first acknowledged Mark 0 (outstanding_count state) state.outstanding b

@@ -1,13 +1,11 @@
 -- What a packet is filled with, and what is abandoned for it.
-use Rattle.std.proofs.Common.{◌≡◌, ℕ, Bool, true, false, ◌<◌, ◌+◌, ◌-◌, ◌≤◌, ◌%◌, ◌^◌, List, [], ◌∷◌, ◌++◌, refl, sym, ◌∙◌, ap, arith, subst, inl, inr}
+use Rattle.std.proofs.Common.{◌≡◌, ℕ, Bool, true, false, ◌<◌, ◌+◌, ◌-◌, ◌≤◌, ◌%◌, ◌^◌, List, [], ◌∷◌, ◌++◌, length, refl, sym, ◌∙◌, ap, arith, subst, inl, inr}
 use Rattle.std.specs.Prelude.{Option, None, Some, nat_lt, min, if◌then◌else◌}
 use Rattle.std.proofs.lemmas.Bool.Decides.{nat_tests}
-use Rattle.dcsctp_machine.specs.Packet.{Plain, unworked}
 use Rattle.dcsctp_machine.specs.declared.progress.Change.TheVariants.{SendAgain, Abandon}
 use Rattle.dcsctp_machine.specs.declared.sending.UnderWay.{UnderWay}
 use Rattle.dcsctp_machine.specs.transfer.Abandoning.{GivesUpFirst, GivesUpAll}
 use Rattle.dcsctp_machine.specs.transfer.AtOnce.{empty_stage, SendsAtOnce}
-use Rattle.dcsctp_machine.specs.transfer.Chunks.{IsChunkOf, AreChunks, chunk_said}
 use Rattle.dcsctp_machine.specs.transfer.Filling.{Stage, Closes, DropsRestAt, GivesUpAt, SendsMarked, payload_room, SendsNew, FindsNone, StepAgain, MayAdd, StepNew, Steps, none, more, counting, FillsPacket}
 use Rattle.dcsctp_machine.specs.transfer.ItemMessages.{EndsDropped}
 use Rattle.dcsctp_machine.specs.transfer.Items.{Item}
@@ -17,8 +15,12 @@ use Rattle.dcsctp_machine.specs.transfer.SendQueue.{SendQueueState}
 use Rattle.dcsctp_machine.specs.transfer.Sending.{Fragment, DiscardsNamed}
 use Rattle.dcsctp_delivery_sending.specs.Log.{Message, Slot, Cut}
 use Rattle.dcsctp_delivery_sending.specs.Pieces.{HoldsQueued}
-use Rattle.dcsctp_delivery_sending.specs.Stages.{Bears, Stands, Stays, IsOfLog, AreOfLog}
-use Rattle.dcsctp_delivery_sending.proofs.Pieces.{hands_out, drops_keep_under_way, discards_hold}
+use Rattle.dcsctp_delivery_sending.specs.Numbers.{Numbered}
+use Rattle.dcsctp_delivery_sending.specs.Stages.{IsNamed, Bears, Stands, Stays}
+use Rattle.dcsctp_delivery_sending.proofs.Pieces.{hands_out}
+use Rattle.dcsctp_delivery_sending.proofs.Discarding.{drops_keep_under_way, takes_kind, discards_numbered, discards_hold}
+use Rattle.dcsctp_delivery_sending.proofs.Places.{at_new, at_stays}
+use Rattle.dcsctp_delivery_sending.proofs.Numbers.{NumbersStay, numbered_stay, numbers_dropped, kind_dropped}
 use Rattle.dcsctp_delivery_sending.proofs.Streams.{drops_hold}
 use Rattle.dcsctp_delivery_sending.proofs.Stages.{bears_grown, cut_more, bears_changed, cut_none}
 
@@ -43,11 +45,18 @@ marked_stays queued log first acknowledged now old new stands sends =
       queue_holds = stands.queue_holds;
       cut = stands.cut;
       bears = bears_changed log first acknowledged (SendAgain (next_tsn old.queue.outstanding)) sends.place (sends.place + 1) old.queue.outstanding stands.bears;
+      numbers = stands.numbers;
+      kind = stands.kind;
     }))
 
+-- the end of a message is named as its last item
+named_end : {log : List Slot} {part : Fragment} → IsNamed log part
+    → IsNamed (None ∷ log) (record part { fsn = (part.fsn + 1) % 2 ^ 32; is_beginning = false; is_end = true; payload = []; lifecycle = None })
+named_end n = record { number = n.number; piece = n.piece; at = at_stays n.number None (Some n.piece) _ n.at; stream = n.stream; unordered = n.unordered; mid = n.mid }
+
 -- what waits of a message is dropped
-drops_rest_stays : (queued : List Message) (log : List Slot) (first acknowledged now : ℕ) (last : Item) (old new : Stage) → Stands queued log first acknowledged old → DropsRestAt now last old new → Stays queued log first acknowledged new
-drops_rest_stays queued log first acknowledged now last old new stands drops =
+drops_rest_stays : (queued : List Message) (log : List Slot) (first acknowledged now : ℕ) (last : Item) (old new : Stage) → Stands queued log first acknowledged old → IsNamed log last.fragment → DropsRestAt now last old new → Stays queued log first acknowledged new
+drops_rest_stays queued log first acknowledged now last old new stands named drops =
     subst (λ (s : Stage). Stays queued log first acknowledged s) (sym drops.is) (go drops.drops.is_dropped drops.drops.drops drops.drops.ends)
   where
     go : (dropped : Bool) → DiscardsNamed old.waiting last.fragment.stream last.fragment.message_id old.told dropped new.waiting new.told → EndsDropped now old.queue.reset_begun last old.queue.outstanding drops.outstanding dropped
@@ -59,7 +68,10 @@ drops_rest_stays queued log first acknowledged now last old new stands drops =
             queue_holds = discards_hold queued log old.waiting new.waiting last.fragment.stream last.fragment.message_id old.told new.told stands.queue_holds discards;
             cut = cut_none queued log stands.cut;
             bears = subst (λ (o : OutstandingState). Bears (None ∷ log) first acknowledged o) (sym ends.grows)
-                (bears_grown log first acknowledged None ends.item old.queue.outstanding stands.bears (ap (λ (f : Fragment). f.payload) ends.is_end.is));
+                (bears_grown log first acknowledged None ends.item old.queue.outstanding stands.bears (ap (λ (f : Fragment). f.payload) ends.is_end.is)
+                (subst (λ (f : Fragment). IsNamed (None ∷ log) f) (sym ends.is_end.is) (named_end named)));
+            numbers = discards_numbered log old.waiting new.waiting last.fragment.stream last.fragment.message_id old.told new.told stands.numbers discards;
+            kind = ap (λ (o : OutstandingState). o.is_interleaved) ends.grows ∙ stands.kind ∙ sym (ap (λ (w : SendQueueState). w.is_interleaved) discards.left);
           };
         }
     go false discards ends =
@@ -68,20 +80,22 @@ drops_rest_stays queued log first acknowledged now last old new stands drops =
           queue_holds = subst (λ (w : SendQueueState). HoldsQueued queued log w.streams w.under_way) (sym discards.1) stands.queue_holds;
           cut = stands.cut;
           bears = subst (λ (o : OutstandingState). Bears log first acknowledged o) (sym ends) stands.bears;
+          numbers = subst (λ (w : SendQueueState). Numbered log w) (sym discards.1) stands.numbers;
+          kind = ap (λ (o : OutstandingState). o.is_interleaved) ends ∙ stands.kind ∙ sym (ap (λ (w : SendQueueState). w.is_interleaved) discards.1);
         })
 
-closes_stays : (queued : List Message) (log : List Slot) (first acknowledged now : ℕ) (last : Item) (old new : Stage) (is_end : Bool) → Stands queued log first acknowledged old → Closes now last old new is_end → Stays queued log first acknowledged new
-closes_stays queued log first acknowledged now last old new true stands closes =
-    stay queued log first acknowledged new (subst (λ (s : Stage). Stands queued log first acknowledged s) (sym closes) (record { queue_holds = stands.queue_holds; cut = stands.cut; bears = stands.bears }))
-closes_stays queued log first acknowledged now last old new false stands closes =
+closes_stays : (queued : List Message) (log : List Slot) (first acknowledged now : ℕ) (last : Item) (old new : Stage) (is_end : Bool) → Stands queued log first acknowledged old → IsNamed log last.fragment → Closes now last old new is_end → Stays queued log first acknowledged new
+closes_stays queued log first acknowledged now last old new true stands named closes =
+    stay queued log first acknowledged new (subst (λ (s : Stage). Stands queued log first acknowledged s) (sym closes) (record { queue_holds = stands.queue_holds; cut = stands.cut; bears = stands.bears; numbers = stands.numbers; kind = stands.kind }))
+closes_stays queued log first acknowledged now last old new false stands named closes =
     elim closes [
-      | inl e ↦ drops_rest_stays queued log first acknowledged now last old new stands e.1
+      | inl e ↦ drops_rest_stays queued log first acknowledged now last old new stands named e.1
       | inr e ↦ stay queued log first acknowledged new (subst (λ (s : Stage). Stands queued log first acknowledged s) (sym e.1) stands)
     ]
 
 gives_up_stays : (queued : List Message) (log : List Slot) (first acknowledged now place : ℕ) (old new : Stage) → Stands queued log first acknowledged old → GivesUpAt now place old new → Stays queued log first acknowledged new
 gives_up_stays queued log first acknowledged now place old new stands gives =
-    let closed = closes_stays queued log first acknowledged now gives.last old gives.closed gives.last.fragment.is_end stands gives.closes in
+    let closed = closes_stays queued log first acknowledged now gives.last old gives.closed gives.last.fragment.is_end stands (stands.bears.items gives.last_place gives.last gives.at).named gives.closes in
     record {
       more = closed.more;
       stands = subst (λ (s : Stage). Stands queued (closed.more ++ log) first acknowledged s) (sym gives.is)
@@ -89,6 +103,8 @@ gives_up_stays queued log first acknowledged now place old new stands gives =
             queue_holds = closed.stands.queue_holds;
             cut = closed.stands.cut;
             bears = bears_changed (closed.more ++ log) first acknowledged Abandon gives.start (gives.last_place + 1) gives.closed.queue.outstanding closed.stands.bears;
+            numbers = closed.stands.numbers;
+            kind = closed.stands.kind;
           });
     }
 
@@ -109,14 +125,18 @@ header_small false = omega arith
 new_stays : (queued : List Message) (log : List Slot) (first acknowledged now : ℕ) (old new : Stage) → Stands queued log first acknowledged old → MayAdd old → SendsNew now old new → Stays queued log first acknowledged new
 new_stays queued log first acknowledged now old new stands may sends =
     let handed = hands_out queued log now (payload_room (header old.queue.outstanding) old.room) old.waiting new.waiting old.told new.told sends.item.fragment
-    (has_room (header old.queue.outstanding) old.room (header_small old.queue.outstanding.is_interleaved) may.fits) stands.queue_holds sends.takes in
+    (has_room (header old.queue.outstanding) old.room (header_small old.queue.outstanding.is_interleaved) may.fits) stands.queue_holds stands.numbers sends.takes in
+    let kept = takes_kind now (payload_room (header old.queue.outstanding) old.room) old.waiting new.waiting old.told new.told sends.item.fragment sends.takes in
     record {
       more = Some handed.piece ∷ [];
       stands = record {
         queue_holds = handed.queue_holds;
         cut = cut_more queued log sends.item.fragment new.waiting handed stands.cut;
         bears = subst (λ (s : Stage). Bears (Some handed.piece ∷ log) first acknowledged s.queue.outstanding) (sym sends.is)
-            (bears_grown log first acknowledged (Some handed.piece) sends.item old.queue.outstanding stands.bears handed.says);
+            (bears_grown log first acknowledged (Some handed.piece) sends.item old.queue.outstanding stands.bears handed.says
+            (record { number = length log; piece = handed.piece; at = at_new (Some handed.piece) log; stream = handed.says.stream; unordered = handed.says.unordered; mid = handed.says.mid }));
+        numbers = handed.numbers;
+        kind = ap (λ (s : Stage). s.queue.outstanding.is_interleaved) sends.is ∙ stands.kind ∙ sym kept;
       };
     }
 
@@ -124,12 +144,16 @@ finds_stays : (queued : List Message) (log : List Slot) (first acknowledged now 
 finds_stays queued log first acknowledged now old new stands finds =
     let idle = subst (λ (u : Option UnderWay). HoldsQueued queued log old.waiting.streams u) finds.takes.idle stands.queue_holds in
     let left = drops_hold queued log now old.waiting finds.takes.drops.events new.waiting finds.takes.drops.drops idle in
+    let kept : new.waiting.is_interleaved ≡ old.waiting.is_interleaved = kind_dropped now old.waiting finds.takes.drops.events new.waiting finds.takes.drops.drops in
     let none_going : new.waiting.under_way ≡ None = drops_keep_under_way now old.waiting finds.takes.drops.events new.waiting finds.takes.drops.drops ∙ finds.takes.idle in
     stay queued log first acknowledged new
     (record {
       queue_holds = subst (λ (u : Option UnderWay). HoldsQueued queued log new.waiting.streams u) (sym none_going) left;
       cut = stands.cut;
       bears = subst (λ (s : Stage). Bears log first acknowledged s.queue.outstanding) (sym finds.is) stands.bears;
+      numbers = numbered_stay log old.waiting new.waiting kept (none_going ∙ sym finds.takes.idle)
+          (subst (λ (u : Option UnderWay). NumbersStay u old.waiting.streams new.waiting.streams) (sym finds.takes.idle) (numbers_dropped now old.waiting finds.takes.drops.events new.waiting finds.takes.drops.drops)) stands.numbers;
+      kind = ap (λ (s : Stage). s.queue.outstanding.is_interleaved) finds.is ∙ stands.kind ∙ sym kept;
     })
 
 anew_stays : (queued : List Message) (log : List Slot) (first acknowledged now : ℕ) (old new : Stage) → Stands queued log first acknowledged old → StepNew now old new → Stays queued log first acknowledged new
@@ -165,51 +189,37 @@ fills_stay queued log first acknowledged now old new stands fills =
       queue_holds = again.stands.queue_holds;
       cut = again.stands.cut;
       bears = subst (λ (o : OutstandingState). Bears (again.more ++ log) first acknowledged o) (sym (counted_outstanding (old.room - fills.fills.resent.room) fills.fills.resent.queue)) again.stands.bears;
+      numbers = again.stands.numbers;
+      kind = ap (λ (o : OutstandingState). o.is_interleaved) (counted_outstanding (old.room - fills.fills.resent.room) fills.fills.resent.queue) ∙ again.stands.kind;
     }) in
     let anew = steps_stay queued first acknowledged (StepNew now) (λ l o n s step. anew_stays queued l first acknowledged now o n s step) (again.more ++ log) (counting old.room fills.fills.resent) fills.sent counted fills.fills.anew in
     let sent = stay_on queued log first acknowledged fills.fills.resent fills.sent again anew in
     record {
       more = sent.more;
-      stands = subst (λ (s : Stage). Stands queued (sent.more ++ log) first acknowledged s) (sym fills.is) (record { queue_holds = sent.stands.queue_holds; cut = sent.stands.cut; bears = sent.stands.bears });
+      stands = subst (λ (s : Stage). Stands queued (sent.more ++ log) first acknowledged s) (sym fills.is) (record { queue_holds = sent.stands.queue_holds; cut = sent.stands.cut; bears = sent.stands.bears; numbers = sent.stands.numbers; kind = sent.stands.kind });
     }
 
 pub give_up_all_stays : (queued : List Message) (log : List Slot) (first acknowledged now : ℕ) (old new : Stage) → Stands queued log first acknowledged old → GivesUpAll now old new → Stays queued log first acknowledged new
 give_up_all_stays queued log first acknowledged now old new stands gives =
     steps_stay queued first acknowledged (GivesUpFirst now) (λ l o n s step. gives_up_stays queued l first acknowledged now step.place o n s step.gives_up) log old new stands gives.steps
 
--- ---- what is sent
-
-chunk_of_log : (log : List Slot) (first acknowledged : ℕ) (outstanding : OutstandingState) (tsn : ℕ) (chunk : Plain) → Bears log first acknowledged outstanding → IsChunkOf outstanding tsn chunk → IsOfLog log first outstanding.is_interleaved chunk
-chunk_of_log log first acknowledged outstanding tsn chunk b is =
-    let same : tsn ≡ (first + (acknowledged + is.place)) % 2 ^ 32 = is.is ∙ grind (arith, b.tsn) in
-    record {
-      number = acknowledged + is.place;
-      part = is.item.fragment;
-      says = b.items is.place is.item is.at;
-      is = is.says ∙ ap (λ (t : ℕ). unworked (chunk_said outstanding.is_interleaved t is.item.fragment)) same;
-    }
-
-pub chunks_of_log : (log : List Slot) (first acknowledged : ℕ) (outstanding : OutstandingState) (tsns : List ℕ) (chunks : List Plain) → Bears log first acknowledged outstanding → AreChunks outstanding tsns chunks
-    → AreOfLog log first outstanding.is_interleaved chunks
-chunks_of_log log first acknowledged outstanding [] [] b are = tt
-chunks_of_log log first acknowledged outstanding [] (c ∷ chunks) b are = absurd are
-chunks_of_log log first acknowledged outstanding (t ∷ tsns) [] b are = absurd are
-chunks_of_log log first acknowledged outstanding (t ∷ tsns) (c ∷ chunks) b are = (chunk_of_log log first acknowledged outstanding t c b are.0, chunks_of_log log first acknowledged outstanding tsns chunks b are.1)
-
-pub packets_bear : (queued : List Message) (log : List Slot) (first acknowledged now : ℕ) (old new : Stage) (chunks : List Plain) → Stands queued log first acknowledged old → FillsPacket now old new
-    → AreChunks new.queue.outstanding new.tsns chunks
-    → (stays : Stays queued log first acknowledged new) × AreOfLog (stays.more ++ log) first new.queue.outstanding.is_interleaved chunks
-packets_bear queued log first acknowledged now old new chunks stands fills are =
-    let stays = fills_stay queued log first acknowledged now old new stands fills in
-    (stays, chunks_of_log (stays.more ++ log) first acknowledged new.queue.outstanding new.tsns chunks stays.stands.bears are)
-
 -- ---- a fast retransmission
 
 pub at_once_stays : (queued : List Message) (log : List Slot) (first acknowledged now bytes : ℕ) (waiting : SendQueueState) (old new : RetransmissionState) (tsns : List ℕ) → HoldsQueued queued log waiting.streams waiting.under_way → Cut queued log
-    → Bears log first acknowledged old.outstanding → SendsAtOnce now bytes waiting old new tsns → (later : List Slot) × HoldsQueued queued (later ++ log) waiting.streams waiting.under_way × Cut queued (later ++ log) × Bears (later ++ log) first acknowledged new.outstanding
-at_once_stays queued log first acknowledged now bytes waiting old new tsns queue_holds cut bears sends =
-    let start : Stands queued log first acknowledged (empty_stage (record old { fast_retransmit_due = false }) waiting bytes) = (record { queue_holds = queue_holds; cut = cut; bears = bears }) in
+    → Numbered log waiting → old.outstanding.is_interleaved ≡ waiting.is_interleaved
+    → Bears log first acknowledged old.outstanding → SendsAtOnce now bytes waiting old new tsns → Stays queued log first acknowledged (record (empty_stage new waiting bytes) { tsns = tsns })
+at_once_stays queued log first acknowledged now bytes waiting old new tsns queue_holds cut numbers kind bears sends =
+    let start : Stands queued log first acknowledged (empty_stage (record old { fast_retransmit_due = false }) waiting bytes) = (record { queue_holds = queue_holds; cut = cut; bears = bears; numbers = numbers; kind = kind }) in
     let stays = steps_stay queued first acknowledged (SendsMarked now) (λ l o n s step. marked_stays queued l first acknowledged now o n s step) log (empty_stage (record old { fast_retransmit_due = false }) waiting bytes)
     (record (empty_stage sends.resent waiting sends.room) { tsns = tsns }) start sends.steps in
     let same : new.outstanding ≡ sends.resent.outstanding = ap (λ (r : RetransmissionState). r.outstanding) sends.is ∙ counted_outstanding (bytes - sends.room) sends.resent in
-    (stays.more, stays.stands.queue_holds, stays.stands.cut, subst (λ (o : OutstandingState). Bears (stays.more ++ log) first acknowledged o) (sym same) stays.stands.bears)
+    record {
+      more = stays.more;
+      stands = record {
+        queue_holds = stays.stands.queue_holds;
+        cut = stays.stands.cut;
+        bears = subst (λ (o : OutstandingState). Bears (stays.more ++ log) first acknowledged o) (sym same) stays.stands.bears;
+        numbers = stays.stands.numbers;
+        kind = ap (λ (o : OutstandingState). o.is_interleaved) same ∙ stays.stands.kind;
+      };
+    }

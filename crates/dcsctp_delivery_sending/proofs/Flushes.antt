@@ -1,5 +1,5 @@
 -- A flush, packet by packet.
-use Rattle.std.proofs.Common.{◌≡◌, ◌==◌, ℕ, zero, suc, Bool, true, false, List, [], ◌∷◌, ◌++◌, length, map, take, refl, sym, ap, subst, inl, inr}
+use Rattle.std.proofs.Common.{◌≡◌, ◌==◌, ℕ, zero, suc, Bool, true, false, List, [], ◌∷◌, ◌++◌, length, map, take, refl, sym, ◌∙◌, ap, subst, inl, inr}
 use Rattle.std.specs.Prelude.{Option, None, Some, if◌then◌else◌}
 use Rattle.dcsctp_machine.specs.Event.{Event, packets_in}
 use Rattle.dcsctp_machine.specs.Packet.{Plain, plain, Content, Emission}
@@ -20,7 +20,10 @@ use Rattle.dcsctp_delivery_sending.specs.Pieces.{HoldsQueued}
 use Rattle.dcsctp_delivery_sending.specs.Stages.{Bears, Stands, Stays}
 use Rattle.dcsctp_delivery_sending.specs.Flushes.{SayAll, PacketsSay, InFlight, StandsBelow, Sends}
 use Rattle.dcsctp_delivery_sending.proofs.Streams.{Alike, alike_hold}
-use Rattle.dcsctp_delivery_sending.proofs.Filling.{fills_stay, give_up_all_stays, chunks_of_log, append_twice}
+use Rattle.dcsctp_delivery_sending.proofs.Filling.{fills_stay, give_up_all_stays, append_twice}
+use Rattle.dcsctp_delivery_sending.proofs.Chunks.{kinds_of, chunks_of_log}
+use Rattle.dcsctp_delivery_sending.proofs.Numbers.{NumbersStay, numbers_same, numbers_then, numbers_changed, front_kept, numbered_stay}
+use Rattle.dcsctp_delivery_sending.specs.Numbers.{Numbered, AreOfKind, IsOfKind}
 use Rattle.dcsctp_delivery_sending.proofs.Packets.{said_sacks, out_below, packets_both, out_says, say_both, all_more, said_chunks, packets_more, said_request, said_forwards}
 
 -- ---- streams that are handed out to be reset
@@ -61,6 +64,26 @@ requesting_hold : (queued : List Message) (log : List Slot) (count : ℕ) (begun
 requesting_hold queued log count None queue queue_holds = queue_holds
 requesting_hold queued log count (Some begun) queue queue_holds = handing_hold queued log queue.under_way (take count (ready_streams queue)) queue.streams queue_holds
 
+-- they are numbered as before
+handing_numbers : (u : Option UnderWay) (ids : List ℕ) (streams : List Stream) → NumbersStay u streams (handing_out ids streams)
+handing_numbers u [] streams = numbers_same u streams
+handing_numbers u (id ∷ ids) streams =
+    numbers_then u streams (changed id handed_out streams) (handing_out ids (changed id handed_out streams))
+    (numbers_changed u id handed_out (λ s. refl) (λ s. record { ordered = refl; unordered = refl }) (λ v is s here. front_kept s (handed_out s) refl) streams) (handing_numbers u ids (changed id handed_out streams))
+
+requesting_kind : (count : ℕ) (begun : Option BegunReset) (queue : SendQueueState) → (queue_requesting count begun queue).is_interleaved ≡ queue.is_interleaved
+requesting_kind count None queue = refl
+requesting_kind count (Some begun) queue = refl
+
+begun_kind : (begun : Option BegunReset) (state : RetransmissionState) → (retransmission_begun begun state).outstanding.is_interleaved ≡ state.outstanding.is_interleaved
+begun_kind None state = refl
+begun_kind (Some begun) state = refl
+
+requesting_numbered : (log : List Slot) (count : ℕ) (begun : Option BegunReset) (queue : SendQueueState) → Numbered log queue → Numbered log (queue_requesting count begun queue)
+requesting_numbered log count None queue numbers = numbers
+requesting_numbered log count (Some begun) queue numbers =
+    numbered_stay log queue (queue_requesting count (Some begun) queue) refl refl (handing_numbers queue.under_way (take count (ready_streams queue)) queue.streams) numbers
+
 begun_bears : (log : List Slot) (first acknowledged : ℕ) (begun : Option BegunReset) (state : RetransmissionState) → Bears log first acknowledged state.outstanding → Bears log first acknowledged (retransmission_begun begun state).outstanding
 begun_bears log first acknowledged None state b = b
 begun_bears log first acknowledged (Some begun) state b = b
@@ -72,10 +95,10 @@ gives_up_where : (queued : List Message) (log : List Slot) (first acknowledged n
 gives_up_where queued log first acknowledged now room false transfer old new next chunks stands gives = record { more = []; stands = subst (λ (s : Stage). Stands queued log first acknowledged s) (sym gives.0) stands }
 gives_up_where queued log first acknowledged now room true transfer old new next chunks stands gives = give_up_all_stays queued log first acknowledged now old new stands gives.0
 
-forwards_where : (log : List Slot) (first acknowledged now room : ℕ) (b : Bool) (transfer : Transfer) (old new : Stage) (next : Option ℕ) (chunks : List Plain) → Bears log first acknowledged new.queue.outstanding → GivesUpWhere b now transfer room old new next chunks
+forwards_where : (log : List Slot) (first acknowledged now room : ℕ) (b : Bool) (transfer : Transfer) (old new : Stage) (next : Option ℕ) (chunks : List Plain) → AreOfKind new.queue.outstanding.is_interleaved log → Bears log first acknowledged new.queue.outstanding → GivesUpWhere b now transfer room old new next chunks
     → SayAll log first (plain_contents chunks)
-forwards_where log first acknowledged now room false transfer old new next chunks bears gives = subst (λ (l : List Plain). SayAll log first (plain_contents l)) (sym gives.2) tt
-forwards_where log first acknowledged now room true transfer old new next chunks bears gives = said_forwards log first acknowledged _ now transfer room new.queue next chunks bears gives.1
+forwards_where log first acknowledged now room false transfer old new next chunks kinds bears gives = subst (λ (l : List Plain). SayAll log first (plain_contents l)) (sym gives.2) tt
+forwards_where log first acknowledged now room true transfer old new next chunks kinds bears gives = said_forwards log first acknowledged _ now transfer room new.queue next chunks kinds bears gives.1
 
 fills_where : (queued : List Message) (log : List Slot) (first acknowledged now : ℕ) (b : Bool) (old new : Stage) → Stands queued log first acknowledged old → FillsWhere b now old new → Stays queued log first acknowledged new
 fills_where queued log first acknowledged now true old new stands fills = fills_stay queued log first acknowledged now old new stands fills
@@ -96,9 +119,9 @@ plain_both [] others = refl
 plain_both (c ∷ chunks) others = ap (λ (l : List Content). plain c ∷ l) (plain_both chunks others)
 
 gives_stays : (queued : List Message) (log : List Slot) (first acknowledged : ℕ) (ask : Ask) (e : Endpoint) (draft : Emission) (transfer : Transfer) (answer : Answer) → HoldsQueued queued log e.below.queue.streams e.below.queue.under_way
-    → Cut queued log → Bears log first acknowledged transfer.retransmission.outstanding → Gives ask e draft transfer answer → Answers' queued log first acknowledged answer
-gives_stays queued log first acknowledged ask e draft transfer answer queue_holds cut bears gives =
-    let start : Stands queued log first acknowledged (stage_of e.below.queue transfer.retransmission [] 0) = (record { queue_holds = queue_holds; cut = cut; bears = bears }) in
+    → Cut queued log → Bears log first acknowledged transfer.retransmission.outstanding → Numbered log e.below.queue → transfer.retransmission.outstanding.is_interleaved ≡ e.below.queue.is_interleaved → Gives ask e draft transfer answer → Answers' queued log first acknowledged answer
+gives_stays queued log first acknowledged ask e draft transfer answer queue_holds cut bears numbers kind gives =
+    let start : Stands queued log first acknowledged (stage_of e.below.queue transfer.retransmission [] 0) = (record { queue_holds = queue_holds; cut = cut; bears = bears; numbers = numbers; kind = kind }) in
     let gave = gives_up_where queued log first acknowledged e.moment _ (may_forward ask e transfer.retransmission) transfer (stage_of e.below.queue transfer.retransmission [] 0) gives.gave_up gives.next gives.forwards start gives.gives_up in
     let room : ℕ = room_in e (filled draft (plain_contents answer.acknowledgements)) in
     let left : SendQueueState = queue_requesting (streams_within room) answer.begun gives.gave_up.waiting in
@@ -107,6 +130,8 @@ gives_stays queued log first acknowledged ask e draft transfer answer queue_hold
       queue_holds = requesting_hold queued (gave.more ++ log) (streams_within room) answer.begun gives.gave_up.waiting gave.stands.queue_holds;
       cut = gave.stands.cut;
       bears = begun_bears (gave.more ++ log) first acknowledged answer.begun gives.gave_up.queue gave.stands.bears;
+      numbers = requesting_numbered (gave.more ++ log) (streams_within room) answer.begun gives.gave_up.waiting gave.stands.numbers;
+      kind = begun_kind answer.begun gives.gave_up.queue ∙ gave.stands.kind ∙ sym (requesting_kind (streams_within room) answer.begun gives.gave_up.waiting);
     }) in
     let full = fills_where queued (gave.more ++ log) first acknowledged e.moment (may_give left begun) (stage_of left begun gives.gave_up.told (room_in e (filled draft (plain_contents answer.acknowledgements ++ request_contents answer.begun)))) gives.sent between gives.fills in
     let same = append_twice full.more gave.more log in
@@ -115,17 +140,17 @@ gives_stays queued log first acknowledged ask e draft transfer answer queue_hold
     let forwards : SayAll all first (plain_contents gives.forwards) =
     subst (λ (l : List Slot). SayAll l first (plain_contents gives.forwards)) (sym same)
     (all_more full.more (gave.more ++ log) first (plain_contents gives.forwards)
-    (forwards_where (gave.more ++ log) first acknowledged e.moment _ _ transfer _ gives.gave_up gives.next gives.forwards gave.stands.bears gives.gives_up)) in
+    (forwards_where (gave.more ++ log) first acknowledged e.moment _ _ transfer _ gives.gave_up gives.next gives.forwards (kinds_of gave.stands.numbers gave.stands.kind) gave.stands.bears gives.gives_up)) in
     record {
       more = full.more ++ gave.more;
-      stands = subst (λ (b : Below). StandsBelow queued all first acknowledged b) (sym gives.below) (record { queue_holds = stands.queue_holds; cut = stands.cut; flight = stands.bears });
+      stands = subst (λ (b : Below). StandsBelow queued all first acknowledged b) (sym gives.below) (record { queue_holds = stands.queue_holds; cut = stands.cut; flight = stands.bears; numbers = stands.numbers; kind = stands.kind });
       says = say_both all first (plain_contents answer.acknowledgements) (request_contents answer.begun ++ plain_contents answer.data_chunks)
           (subst (λ (l : List Plain). SayAll all first (plain_contents l)) (sym gives.parts)
           (subst (λ (l : List Content). SayAll all first l) (sym (plain_both gives.sacks gives.forwards))
           (say_both all first (plain_contents gives.sacks) (plain_contents gives.forwards)
           (said_sacks all first _ _ transfer gives.tracker gives.sacks gives.acknowledges) forwards)))
           (say_both all first (request_contents answer.begun) (plain_contents answer.data_chunks) (said_request all first answer.begun)
-          (said_chunks all first gives.sent.queue.outstanding.is_interleaved answer.data_chunks (chunks_of_log all first acknowledged gives.sent.queue.outstanding gives.sent.tsns answer.data_chunks stands.bears gives.chunks)));
+          (said_chunks all first gives.sent.queue.outstanding.is_interleaved answer.data_chunks (chunks_of_log all first acknowledged gives.sent.queue.outstanding gives.sent.tsns answer.data_chunks (kinds_of stands.numbers stands.kind) stands.bears gives.chunks)));
     }
 
 nothing_stays : (queued : List Message) (log : List Slot) (first acknowledged : ℕ) (e : Endpoint) (answer : Answer) → StandsBelow queued log first acknowledged e.below → answer ≡ nothing_waits e → Answers' queued log first acknowledged answer
@@ -136,7 +161,8 @@ gives_where : (queued : List Message) (log : List Slot) (first acknowledged : �
     → StandsBelow queued log first acknowledged e.below → GivesWhere b ask e draft transfer answer → Answers' queued log first acknowledged answer
 gives_where queued log first acknowledged ask true e draft transfer answer known stands gives = nothing_stays queued log first acknowledged e answer stands gives
 gives_where queued log first acknowledged ask false e draft transfer answer known stands gives =
-    gives_stays queued log first acknowledged ask e draft transfer answer stands.queue_holds stands.cut (subst (λ (t : Option Transfer). InFlight log first acknowledged t) known stands.flight) gives
+    gives_stays queued log first acknowledged ask e draft transfer answer stands.queue_holds stands.cut (subst (λ (t : Option Transfer). InFlight log first acknowledged t) known stands.flight) stands.numbers
+    (subst (λ (t : Option Transfer). IsOfKind e.below.queue.is_interleaved t) known stands.kind) gives
 
 answered_below : (queued : List Message) (log : List Slot) (first acknowledged : ℕ) (ask : Ask) (e : Endpoint) (draft : Emission) (transfer : Option Transfer) (answer : Answer) → e.below.transfer ≡ transfer
     → StandsBelow queued log first acknowledged e.below → AnsweredBelow ask e draft answer transfer → Answers' queued log first acknowledged answer

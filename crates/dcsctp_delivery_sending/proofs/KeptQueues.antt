@@ -2,12 +2,14 @@
 use Rattle.std.proofs.Common.{◌≡◌, ◌==◌, ℕ, zero, suc, Bool, true, false, List, [], ◌∷◌, length, map, refl, sym, ◌∙◌, ap, arith, subst, inl}
 use Rattle.std.specs.Prelude.{Option, None, Some, if◌then◌else◌}
 use Rattle.dcsctp_machine.specs.declared.sending.UnderWay.{UnderWay}
-use Rattle.dcsctp_machine.specs.transfer.SendStreams.{counted, Stream, stream_at, unused, begun_anew, raised}
-use Rattle.dcsctp_machine.specs.transfer.SendQueue.{numbered_for, numbered_where, is_other, front_counted, is_front_unordered, SendQueueState, changed, put_back, restarted}
+use Rattle.dcsctp_machine.specs.transfer.SendStreams.{Stream, stream_at, unused, begun_anew, raised}
+use Rattle.dcsctp_machine.specs.transfer.SendQueue.{SendQueueState, changed, put_back, restarted}
 use Rattle.dcsctp_delivery_sending.specs.Log.{Message, Slot}
-use Rattle.dcsctp_delivery_sending.specs.Pieces.{IsGoing, Going, HoldsQueued}
+use Rattle.dcsctp_delivery_sending.specs.Pieces.{Going, HoldsQueued}
 use Rattle.dcsctp_delivery_sending.specs.Queueing.{QueueHolds}
 use Rattle.dcsctp_delivery_sending.proofs.Streams.{Alike, alike_hold}
+use Rattle.dcsctp_delivery_sending.specs.Numbers.{CountsWhere, Numbered}
+use Rattle.dcsctp_delivery_sending.proofs.Counting.{counts_idle, counts_anew}
 
 -- ---- another association
 
@@ -15,6 +17,22 @@ fresh_going : (queued : List Message) (log : List Slot) (streams : List Stream) 
 fresh_going queued log streams None g = tt
 fresh_going queued log streams (Some u) g =
     record { place = g.place; message = g.message; at = g.at; unfinished = g.unfinished; begun = g.begun; there = g.there; came = inl refl; front = g.front }
+
+-- the numbers go on
+counts_anew_where : (b : Bool) (log : List Slot) (streams : List Stream) (u : Option UnderWay) → CountsWhere b log streams u → CountsWhere b [] streams u
+counts_anew_where true log streams u counts = counts_anew log streams u counts
+counts_anew_where false log streams u counts = tt
+
+pub numbered_anew_log : (log : List Slot) (queue : SendQueueState) → Numbered log queue → Numbered [] queue
+numbered_anew_log log queue numbers = record { kinds = λ n f at. absurd (cc); counts = counts_anew_where queue.is_interleaved log queue.streams queue.under_way numbers.counts }
+
+-- with no message under way they may begin anywhere
+pub numbered_idle : (queue : SendQueueState) → queue.under_way ≡ None → Numbered [] queue
+numbered_idle queue idle = record { kinds = λ n f at. absurd (cc); counts = subst (λ (u : Option UnderWay). CountsWhere queue.is_interleaved [] queue.streams u) (sym idle) (go queue.is_interleaved) }
+  where
+    go : (b : Bool) → CountsWhere b [] queue.streams None
+    go true = counts_idle queue.streams
+    go false = tt
 
 pub kept_hold : (queued : List Message) (log : List Slot) (queue : SendQueueState) → QueueHolds queued log queue → QueueHolds queued [] queue
 kept_hold queued log queue queues =
@@ -28,6 +46,7 @@ kept_hold queued log queue queues =
         room = (let room = queues.queue_holds.room in record { whole = room.whole; count = omega (arith, room.whole) });
       };
       next = queues.next;
+      numbers = numbered_anew_log log queue queues.numbers;
     }
 
 -- streams of which numbers and amounts alone changed
@@ -93,6 +112,7 @@ restarted_hold queued log queue queues =
           (alike_hold queued [] None (put_back queue.under_way queue).streams (map begun_anew (put_back queue.under_way queue).streams)
           (mapped_alike begun_anew (λ s. refl) (λ s. refl) refl (put_back queue.under_way queue).streams) back);
       next = back_next queue.under_way queue ∙ queues.next;
+      numbers = numbered_idle (restarted queue) (back_idle queue.under_way queue refl);
     }
 
 pub one_set : (f : Stream → Stream) → ((s : Stream) → (f s).id ≡ s.id) → ((s : Stream) → (f s).messages ≡ s.messages) → (id : ℕ) (streams : List Stream) → Alike streams (changed id f streams)
@@ -106,46 +126,3 @@ one_set f same_id same id streams =
     keeps_messages : (b : Bool) (s : Stream) → (if b then f s else s).messages ≡ s.messages
     keeps_messages true s = same s
     keeps_messages false s = refl
-
--- ---- whether messages are interleaved
-
-numbered_again : (queued : List Message) (u : UnderWay) (ssn mid : ℕ) (streams : List Stream) → HoldsQueued queued [] streams (Some u) → HoldsQueued queued [] streams (Some (record u { ssn = ssn; mid = mid }))
-numbered_again queued u ssn mid streams queue_holds =
-    let g : IsGoing queued [] streams u = queue_holds.going in
-    record {
-      wait = queue_holds.wait;
-      ascend = queue_holds.ascend;
-      beyond = λ q n f at of. absurd (cc);
-      distinct = queue_holds.distinct;
-      going = record { place = g.place; message = g.message; at = g.at; unfinished = g.unfinished; begun = g.begun; there = record { q = g.there.q; within = g.there.within; is = g.there.is; waiting = g.there.waiting; front = g.there.front }; came = inl refl; front = g.front };
-      room = (let room = queue_holds.room in record { whole = room.whole; count = room.count });
-    }
-
-pub numbered_hold : (queued : List Message) (enabled : Bool) (queue : SendQueueState) → QueueHolds queued [] queue → QueueHolds queued [] (numbered_for enabled queue)
-numbered_hold queued enabled queue queues = go queue.under_way (is_other queue.is_interleaved enabled) queues.queue_holds
-  where
-    same_id : (a b : Bool) (s : Stream) → (counted a b s).id ≡ s.id
-    same_id true true s = refl
-    same_id true false s = refl
-    same_id false true s = refl
-    same_id false false s = refl
-
-    same_messages : (a b : Bool) (s : Stream) → (counted a b s).messages ≡ s.messages
-    same_messages true true s = refl
-    same_messages true false s = refl
-    same_messages false true s = refl
-    same_messages false false s = refl
-
-    start : SendQueueState
-    start = record queue { is_interleaved = enabled }
-
-    go : (u : Option UnderWay) (b : Bool) → HoldsQueued queued [] queue.streams u → QueueHolds queued [] (numbered_where u b (record start { under_way = u }))
-    go None b queue_holds = record { queue_holds = queue_holds; next = queues.next }
-    go (Some u) false queue_holds = record { queue_holds = queue_holds; next = queues.next }
-    go (Some u) true queue_holds =
-        record {
-          queue_holds = numbered_again queued u _ _ (changed u.stream_id.0 (front_counted enabled) queue.streams)
-              (alike_hold queued [] (Some u) queue.streams (changed u.stream_id.0 (front_counted enabled) queue.streams)
-              (one_set (front_counted enabled) (λ s. same_id enabled (is_front_unordered s.messages) s) (λ s. same_messages enabled (is_front_unordered s.messages) s) u.stream_id.0 queue.streams) queue_holds);
-          next = queues.next;
-        }

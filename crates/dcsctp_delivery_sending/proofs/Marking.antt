@@ -113,6 +113,7 @@ marking_hold queued place queue others queues =
         room = (let room = queues.queue_holds.room in let same = marked_total place queued in record { whole = omega (arith, room.whole, same); count = omega (arith, room.count, same) });
       };
       next = queues.next ∙ sym (marked_length place queued);
+      numbers = queues.numbers;
     }
 
 pub marking_fits : (place : ℕ) (queued : List Message) → AllByRecursion Fits queued → AllByRecursion Fits (marked place queued)

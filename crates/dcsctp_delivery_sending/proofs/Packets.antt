@@ -1,5 +1,5 @@
 -- What packets say stays true as the log grows.
-use Rattle.std.proofs.Common.{◌≡◌, ℕ, Bool, true, false, ◌+◌, ◌-◌, ◌≤◌, ◌%◌, ◌^◌, List, [], ◌∷◌, ◌++◌, length, map, refl, sym, arith, subst}
+use Rattle.std.proofs.Common.{◌≡◌, ℕ, Bool, true, false, ◌+◌, ◌-◌, ◌≤◌, ◌%◌, ◌^◌, List, [], ◌∷◌, ◌++◌, length, map, refl, sym, ◌∙◌, arith, subst}
 use Rattle.std.specs.Prelude.{Option, None, Some, nat_le, if◌then◌else◌}
 use Rattle.std.proofs.lemmas.List.{length-append}
 use Rattle.dcsctp_wire.specs.Content.{ChunkContent, data_chunk, i_data_chunk, init_chunk, init_ack_chunk, sack_chunk, heartbeat_chunk, heartbeat_ack_chunk, abort_chunk, shutdown_chunk, shutdown_ack_chunk, error_chunk, cookie_echo_chunk, cookie_ack_chunk, shutdown_complete_chunk, re_config_chunk, forward_tsn_chunk, i_forward_tsn_chunk, unknown_chunk}
@@ -18,9 +18,11 @@ use Rattle.dcsctp_machine.specs.turns.BegunResets.{BegunReset, request_contents}
 use Rattle.dcsctp_machine.specs.turns.FlushOutcomes.{Told, amount_is_low, total_amount_is_low, message_is_sent, message_may_have_expired, message_has_expired, message_ends, told_event, goes_out, where_fits, own_sack, Acknowledges, ForwardsWhere}
 use Rattle.dcsctp_delivery_sending.specs.Places.{at_place}
 use Rattle.dcsctp_delivery_sending.specs.Log.{Slot}
+use Rattle.dcsctp_delivery_sending.specs.Numbers.{AreOfKind, KindAt}
 use Rattle.dcsctp_delivery_sending.specs.Stages.{SaysAt, Bears, IsOfLog, AreOfLog}
-use Rattle.dcsctp_delivery_sending.specs.Flushes.{IsPassed, SaysPlain, NoPlain, NoContent, NoData, SaysContent, SayAll, PacketsSay}
+use Rattle.dcsctp_delivery_sending.specs.Flushes.{IsPassed, AreEntries, IsForward, SaysPlain, NoPlain, NoContent, NoData, SaysContent, SayAll, PacketsSay}
 use Rattle.dcsctp_delivery_sending.proofs.Places.{at_stays}
+use Rattle.dcsctp_delivery_sending.proofs.Entries.{listed_entries, entry_found}
 
 -- ---- what was said stays said
 
@@ -29,15 +31,39 @@ at_more [] log n x at = at
 at_more (slot ∷ more) log n x at = at_stays n slot x (more ++ log) (at_more more log n x at)
 
 says_more : (more log : List Slot) (n : ℕ) (part : Fragment) → SaysAt log n part → SaysAt (more ++ log) n part
-says_more more log n part says = record { slot = says.slot; at = at_more more log n says.slot says.at; says = says.says }
+says_more more log n part says =
+    record {
+      slot = says.slot;
+      at = at_more more log n says.slot says.at;
+      says = says.says;
+      named = (let of = says.named in record { number = of.number; piece = of.piece; at = at_more more log of.number (Some of.piece) of.at; stream = of.stream; unordered = of.unordered; mid = of.mid });
+    }
+
+kind_more : (more log : List Slot) (is_interleaved : Bool) (n : ℕ) (slot : Slot) → at_place n log ≡ Some slot → KindAt is_interleaved log n → KindAt is_interleaved (more ++ log) n
+kind_more more log is_interleaved n slot at kind f at' =
+    let both : Some slot ≡ Some (Some f) = sym (at_more more log n slot at) ∙ at' in
+    kind f (at ∙ both)
+
+entries_more : (more log : List Slot) (is_interleaved : Bool) (entries : List ((ℕ × Bool) × ℕ)) → AreEntries is_interleaved log entries → AreEntries is_interleaved (more ++ log) entries
+entries_more more log is_interleaved [] names = tt
+entries_more more log is_interleaved (entry ∷ entries) names = (
+  record { number = names.0.number; piece = names.0.piece; at = at_more more log names.0.number (Some names.0.piece) names.0.at; kind = names.0.kind; stream = names.0.stream; unordered = names.0.unordered; mid = names.0.mid },
+  entries_more more log is_interleaved entries names.1,
+)
 
 passed_more : (more log : List Slot) (first tsn : ℕ) → IsPassed log first tsn → IsPassed (more ++ log) first tsn
 passed_more more log first tsn p = record { passed = p.passed; below = omega (arith, p.below, length-append more log); is = p.is }
 
+forward_more : (more log : List Slot) (is_interleaved : Bool) (first tsn : ℕ) (streams : List ℕ) → IsForward is_interleaved log first tsn streams → IsForward is_interleaved (more ++ log) first tsn streams
+forward_more more log is_interleaved first tsn streams f =
+    record { passed = passed_more more log first tsn f.passed; entries = f.entries; is = f.is; names = entries_more more log is_interleaved f.entries f.names }
+
 module _ (more log : List Slot) (first : ℕ) where
   open_more : (chunk : ChunkContent) → SaysPlain log first (unworked chunk) → SaysPlain (more ++ log) first (unworked chunk)
-  open_more (data_chunk d) says = record { number = says.number; part = says.part; says = says_more more log says.number says.part says.says; is = says.is }
-  open_more (i_data_chunk d) says = record { number = says.number; part = says.part; says = says_more more log says.number says.part says.says; is = says.is }
+  open_more (data_chunk d) says =
+      record { number = says.number; part = says.part; says = says_more more log says.number says.part says.says; is = says.is; kind = kind_more more log false says.number says.says.slot says.says.at says.kind }
+  open_more (i_data_chunk d) says =
+      record { number = says.number; part = says.part; says = says_more more log says.number says.part says.says; is = says.is; kind = kind_more more log true says.number says.says.slot says.says.at says.kind }
   open_more (init_chunk c) says = tt
   open_more (init_ack_chunk c) says = tt
   open_more (sack_chunk c) says = tt
@@ -51,8 +77,8 @@ module _ (more log : List Slot) (first : ℕ) where
   open_more cookie_ack_chunk says = tt
   open_more (shutdown_complete_chunk b) says = tt
   open_more (re_config_chunk ps) says = tt
-  open_more (forward_tsn_chunk t bs) says = passed_more more log first t says
-  open_more (i_forward_tsn_chunk t bs) says = passed_more more log first t says
+  open_more (forward_tsn_chunk t bs) says = forward_more more log false first t bs says
+  open_more (i_forward_tsn_chunk t bs) says = forward_more more log true first t bs says
   open_more (unknown_chunk t f bs) says = tt
 
   plain_more : (chunk : Plain) → SaysPlain log first chunk → SaysPlain (more ++ log) first chunk
@@ -109,9 +135,9 @@ module _ (log : List Slot) (first : ℕ) where
 
   said_chunk : (is_interleaved : Bool) (chunk : Plain) → IsOfLog log first is_interleaved chunk → SaysPlain log first chunk
   said_chunk true chunk of =
-      subst (λ (c : Plain). SaysPlain log first c) (sym of.is) (record { number = of.number; part = of.part; says = of.says; is = refl })
+      subst (λ (c : Plain). SaysPlain log first c) (sym of.is) (record { number = of.number; part = of.part; says = of.says; is = refl; kind = of.kind })
   said_chunk false chunk of =
-      subst (λ (c : Plain). SaysPlain log first c) (sym of.is) (record { number = of.number; part = of.part; says = of.says; is = refl })
+      subst (λ (c : Plain). SaysPlain log first c) (sym of.is) (record { number = of.number; part = of.part; says = of.says; is = refl; kind = of.kind })
 
   pub said_chunks : (is_interleaved : Bool) (chunks : List Plain) → AreOfLog log first is_interleaved chunks → SayAll log first (plain_contents chunks)
   said_chunks is_interleaved [] of = tt
@@ -128,21 +154,22 @@ module _ (log : List Slot) (first : ℕ) where
   said_sacks false room transfer after chunks acknowledges = subst (λ (l : List Plain). SayAll log first (plain_contents l)) (sym acknowledges.1) tt
   said_sacks true room transfer after chunks acknowledges = subst (λ (l : List Plain). SayAll log first (plain_contents l)) (sym acknowledges.1) (said_fitting room (own_sack transfer) tt)
 
-  said_forward : (is_interleaved : Bool) (tsn : ℕ) (entries : List ((ℕ × Bool) × ℕ)) → IsPassed log first tsn → SaysPlain log first (unworked (forward_chunk is_interleaved tsn entries))
-  said_forward true tsn entries passed = passed
-  said_forward false tsn entries passed = passed
+  said_forward : (is_interleaved : Bool) (tsn : ℕ) (entries : List ((ℕ × Bool) × ℕ)) → IsPassed log first tsn → AreEntries is_interleaved log entries → SaysPlain log first (unworked (forward_chunk is_interleaved tsn entries))
+  said_forward true tsn entries passed names = record { passed = passed; entries = entries; is = refl; names = names }
+  said_forward false tsn entries passed names = record { passed = passed; entries = entries; is = refl; names = names }
 
   passed_by : (acknowledged count : ℕ) (outstanding : OutstandingState) → Bears log first acknowledged outstanding → count ≤ length outstanding.items → IsPassed log first ((outstanding.first_tsn + count + (2 ^ 32 - 1)) % 2 ^ 32)
   passed_by acknowledged count outstanding b within =
       record { passed = acknowledged + count; below = omega (arith, b.count, within); is = (let at = b.tsn in grind (arith, at)) }
 
-  pub said_forwards : (acknowledged : ℕ) (made : Bool) (now : ℕ) (transfer : Transfer) (room : ℕ) (state : RetransmissionState) (next : Option ℕ) (chunks : List Plain) → Bears log first acknowledged state.outstanding → ForwardsWhere made now transfer room state next chunks
+  pub said_forwards : (acknowledged : ℕ) (made : Bool) (now : ℕ) (transfer : Transfer) (room : ℕ) (state : RetransmissionState) (next : Option ℕ) (chunks : List Plain) → AreOfKind state.outstanding.is_interleaved log → Bears log first acknowledged state.outstanding → ForwardsWhere made now transfer room state next chunks
       → SayAll log first (plain_contents chunks)
-  said_forwards acknowledged false now transfer room state next chunks b forwards = subst (λ (l : List Plain). SayAll log first (plain_contents l)) (sym forwards.1) tt
-  said_forwards acknowledged true now transfer room state next chunks b forwards =
+  said_forwards acknowledged false now transfer room state next chunks kinds b forwards = subst (λ (l : List Plain). SayAll log first (plain_contents l)) (sym forwards.1) tt
+  said_forwards acknowledged true now transfer room state next chunks kinds b forwards =
       let (chunk, says, is) = forwards.1 in
       subst (λ (l : List Plain). SayAll log first (plain_contents l)) (sym is)
-      (said_fitting room (unworked chunk) (subst (λ (c : ChunkContent). SaysPlain log first (unworked c)) (sym says.is) (said_forward state.outstanding.is_interleaved _ says.entries (passed_by acknowledged says.count state.outstanding b says.row.within))))
+      (said_fitting room (unworked chunk) (subst (λ (c : ChunkContent). SaysPlain log first (unworked c)) (sym says.is) (said_forward state.outstanding.is_interleaved _ says.entries (passed_by acknowledged says.count state.outstanding b says.row.within)
+      (listed_entries log first acknowledged says.count state.outstanding kinds b says.entries says.entries says.lists.numbers (entry_found says.entries says.lists.none_twice)))))
 
   pub said_request : (begun : Option BegunReset) → SayAll log first (request_contents begun)
   said_request None = tt

@@ -1,45 +1,24 @@
--- What the send queue hands out, and what it discards.
-use Rattle.std.proofs.Common.{◌≡◌, ◌≢◌, ◌==◌, ℕ, Bool, true, false, ◌<◌, ◌-◌, List, [], ◌∷◌, length, drop, refl, sym, ◌∙◌, ap, arith, subst, inl, inr}
-use Rattle.std.specs.Prelude.{◌⊎◌, Option, None, Some, if◌then◌else◌}
+-- What the send queue hands out.
+use Rattle.std.proofs.Common.{◌≡◌, ◌≢◌, ◌==◌, ℕ, Bool, true, false, ◌<◌, ◌%◌, ◌^◌, List, ◌∷◌, length, drop, refl, sym, ◌∙◌, ap, arith, subst, inl, inr}
+use Rattle.std.specs.Prelude.{Option, None, Some, if◌then◌else◌}
 use Rattle.std.proofs.lemmas.Bool.Decides.{eqb_tells}
-use Rattle.std.proofs.lemmas.List.{get_or-set_same}
 use Rattle.dcsctp_machine.specs.Event.{Event}
 use Rattle.dcsctp_machine.specs.declared.sending.UnderWay.{UnderWay}
-use Rattle.dcsctp_machine.specs.transfer.SendStreams.{Waiting, Stream, front_of, without_front, unused, stream_at}
+use Rattle.dcsctp_machine.specs.transfer.SendStreams.{Waiting, front_of, stream_at}
 use Rattle.dcsctp_machine.specs.transfer.SendQueue.{SendQueueState}
-use Rattle.dcsctp_machine.specs.transfer.Sending.{Fragment, fragment, begun, Drops, none, more, reduced, without_rest, produced, size_produced, Takes, Chooses, Discards, IsNamed}
+use Rattle.dcsctp_machine.specs.transfer.Sending.{Fragment, fragment, produced, size_produced, Takes, Chooses}
 use Rattle.dcsctp_delivery_sending.specs.Places.{at_place}
 use Rattle.dcsctp_delivery_sending.specs.Log.{Message, Piece, Slot, HasBefore}
-use Rattle.dcsctp_delivery_sending.specs.Pieces.{AllBeyond, ComesTo, IsGoing, HoldsQueued, HandsOutPiece}
-use Rattle.dcsctp_delivery_sending.specs.Weights.{HasRoom}
-use Rattle.dcsctp_delivery_sending.proofs.Places.{decide, at_cases}
-use Rattle.dcsctp_delivery_sending.proofs.Weights.{weight_same, weight_front}
-use Rattle.dcsctp_delivery_sending.proofs.Streams.{rest_shorter, distinct_on, newest_at, wait_on, drops_hold, shorter_beyond, ascend_on, Shorter, beyond_front, reduced_alike, beyond_drop, front_queued}
-use Rattle.dcsctp_delivery_sending.proofs.Produced.{it_is_piece, it_says, none_beyond, there_or_empty, it_hold}
-
-begins : (queued : List Message) (log : List Slot) (max place : ℕ) (queue : SendQueueState) (message : Waiting) (under_way : UnderWay) → 0 < max → HoldsQueued queued log queue.streams None
-    → front_of (stream_at queue.streams place).messages ≡ Some message → under_way ≡ begun message (stream_at queue.streams place)
-    → HandsOutPiece queued log (fragment under_way message (size_produced max message under_way)) (produced place max message under_way queue)
-begins queued log max place queue message under_way room queue_holds front is =
-    let w = front_queued queued (stream_at queue.streams place).id (stream_at queue.streams place).messages message (queue_holds.wait place) front in
-    let stream_is : under_way.stream_id.0 ≡ (stream_at queue.streams place).id = ap (λ (u : UnderWay). u.stream_id.0) is in
-    let sent_is : under_way.sent ≡ 0 = ap (λ (u : UnderWay). u.sent) is in
-    let piece : Piece = record { place = message.message_id; message = w.message; start = 0; size = size_produced max message under_way } in
-    let unfinished : under_way.sent < length message.payload = omega (arith, sent_is, w.some) in
-    let roomy : HasRoom queued log queue.streams (Some under_way) = record { whole = queue_holds.room.whole; count = (let count = queue_holds.room.count in omega (arith, count)) } in
-    let old_here = λ (n : ℕ) (f : Piece) (at : at_place n log ≡ Some (Some f)) (of : f.message.stream ≡ (stream_at queue.streams place).id). beyond_drop f.place (stream_at queue.streams place).messages (queue_holds.beyond place n f at of) in
-    let old_there = λ (q n : ℕ) (f : Piece) (at : at_place n log ≡ Some (Some f)) (of : f.message.stream ≡ (stream_at queue.streams q).id) (other : (stream_at queue.streams q).id ≢ (stream_at queue.streams place).id). queue_holds.beyond q n f at of in
-    record {
-      piece = piece;
-      is_piece = it_is_piece queued log max place queue message under_way piece queue_holds.wait queue_holds.ascend queue_holds.distinct front (sym stream_is) old_here old_there refl w.is w.at w.fresh sent_is refl room roomy unfinished;
-      row = λ some started. absurd (omega arith);
-      ascends = λ n f at starts of. beyond_front f.place (stream_at queue.streams place).messages message (queue_holds.beyond place n f at (of ∙ sym w.is.stream)) front;
-      says = it_says queued log max place queue message under_way piece queue_holds.wait queue_holds.ascend queue_holds.distinct front (sym stream_is) old_here old_there refl w.is w.at w.fresh sent_is refl room roomy unfinished;
-      queue_holds = it_hold queued log max place queue message under_way piece queue_holds.wait queue_holds.ascend queue_holds.distinct front (sym stream_is) old_here old_there refl w.is w.at w.fresh sent_is refl room roomy unfinished;
-    }
+use Rattle.dcsctp_delivery_sending.specs.Pieces.{WaitingWasQueued, AllBeyond, ComesTo, IsGoing, HoldsQueued, HandsOutPiece}
+use Rattle.dcsctp_delivery_sending.specs.Numbers.{CountsWhere, AreOfKind, Numbered}
+use Rattle.dcsctp_delivery_sending.proofs.Streams.{newest_at, drops_hold, front_queued}
+use Rattle.dcsctp_delivery_sending.proofs.Produced.{it_is_piece, it_says, within_streams, it_hold}
+use Rattle.dcsctp_delivery_sending.proofs.Numbers.{where_stay, numbers_dropped, kind_dropped}
+use Rattle.dcsctp_delivery_sending.proofs.ProducedNumbers.{produced_kind, later_counts, kinds_more}
+use Rattle.dcsctp_delivery_sending.proofs.Begun.{begins}
 
 -- what the pieces on the stream of the message under way come before, and those on others
-here_going : (queued : List Message) (log : List Slot) (place : ℕ) (queue : SendQueueState) (under_way : UnderWay) → HoldsQueued queued log queue.streams (Some under_way) → (stream_at queue.streams place).id ≡ under_way.stream_id.0
+pub here_going : (queued : List Message) (log : List Slot) (place : ℕ) (queue : SendQueueState) (under_way : UnderWay) → HoldsQueued queued log queue.streams (Some under_way) → (stream_at queue.streams place).id ≡ under_way.stream_id.0
     → (n : ℕ) (f : Piece) → at_place n log ≡ Some (Some f) → f.message.stream ≡ (stream_at queue.streams place).id → AllBeyond f.place (drop 1 (stream_at queue.streams place).messages)
 here_going queued log place queue under_way queue_holds id n f at of = go ((stream_at queue.streams place).id == under_way.stream_id.0) (elim (eqb_tells (stream_at queue.streams place).id under_way.stream_id.0) [ inl e ↦ e.0 | inr e ↦ absurd (e.1 id) ]) (queue_holds.beyond place n f at of)
   where
@@ -47,7 +26,7 @@ here_going queued log place queue under_way queue_holds id n f at of = go ((stre
     go true e are = are
     go false e are = absurd (cc)
 
-there_going : (queued : List Message) (log : List Slot) (place : ℕ) (queue : SendQueueState) (under_way : UnderWay) → HoldsQueued queued log queue.streams (Some under_way) → (stream_at queue.streams place).id ≡ under_way.stream_id.0
+pub there_going : (queued : List Message) (log : List Slot) (place : ℕ) (queue : SendQueueState) (under_way : UnderWay) → HoldsQueued queued log queue.streams (Some under_way) → (stream_at queue.streams place).id ≡ under_way.stream_id.0
     → (q n : ℕ) (f : Piece) → at_place n log ≡ Some (Some f) → f.message.stream ≡ (stream_at queue.streams q).id → (stream_at queue.streams q).id ≢ (stream_at queue.streams place).id
     → AllBeyond f.place (stream_at queue.streams q).messages
 there_going queued log place queue under_way queue_holds id q n f at of other = go ((stream_at queue.streams q).id == under_way.stream_id.0) (elim (eqb_tells (stream_at queue.streams q).id under_way.stream_id.0) [ inl e ↦ absurd (other (e.1 ∙ sym id)) | inr e ↦ e.0 ]) (queue_holds.beyond q n f at of)
@@ -56,133 +35,132 @@ there_going queued log place queue under_way queue_holds id q n f at of other = 
     go true e are = absurd (cc)
     go false e are = are
 
-comes_before : (log : List Slot) (place sent : ℕ) (message : Message) (piece : Piece) → piece.place ≡ place → piece.message ≡ message → piece.start ≡ sent → (log ≡ []) ⊎ ComesTo log place sent message → 0 < length log
-    → HasBefore log (length log) piece
-comes_before log place sent message piece is says start came some =
-    elim came [
-      | inl e ↦ (let none : length log ≡ 0 = ap (λ (l : List Slot). length l) e in absurd (omega arith))
-      | inr c ↦
-          (let (k, next, at) = newest_at log (Some c.piece) c.at in
-          record { earlier = k; is = next; before = c.piece; at = at; start = c.end ∙ sym start; place = c.is ∙ sym is; message = c.says ∙ sym says })
-    ]
-
-goes_on : (queued : List Message) (log : List Slot) (max place : ℕ) (queue : SendQueueState) (message : Waiting) (under_way : UnderWay) → 0 < max → HoldsQueued queued log queue.streams (Some under_way)
-    → front_of (stream_at queue.streams place).messages ≡ Some message → (stream_at queue.streams place).id ≡ under_way.stream_id.0
-    → HandsOutPiece queued log (fragment under_way message (size_produced max message under_way)) (produced place max message under_way queue)
-goes_on queued log max place queue message under_way room queue_holds front id =
-    let w = front_queued queued (stream_at queue.streams place).id (stream_at queue.streams place).messages message (queue_holds.wait place) front in
-    let g : IsGoing queued log queue.streams under_way = queue_holds.going in
-    let named : message.message_id ≡ g.place = g.front place message id front in
-    let found : Some w.message ≡ Some g.message = sym w.at ∙ ap (λ (k : ℕ). at_place k queued) named ∙ g.at in
-    let same : w.message ≡ g.message = cc in
-    let piece : Piece = record { place = message.message_id; message = w.message; start = under_way.sent; size = size_produced max message under_way } in
-    let unfinished : under_way.sent < length message.payload = (let sizes : length message.payload ≡ length g.message.payload = ap (λ (l : List ℕ). length l) w.is.payload ∙ ap (λ (m : Message). length m.payload) same in omega (arith, g.unfinished)) in
-    let old_here = λ (n : ℕ) (f : Piece) (at : at_place n log ≡ Some (Some f)) (of : f.message.stream ≡ (stream_at queue.streams place).id). here_going queued log place queue under_way queue_holds id n f at of in
-    let old_there = λ (q n : ℕ) (f : Piece) (at : at_place n log ≡ Some (Some f)) (of : f.message.stream ≡ (stream_at queue.streams q).id) (other : (stream_at queue.streams q).id ≢ (stream_at queue.streams place).id). there_going queued log place queue under_way queue_holds id q n f at of other in
+comes_before : (log : List Slot) (place : ℕ) (under_way : UnderWay) (message : Message) (piece : Piece) → piece.place ≡ place → piece.message ≡ message → piece.start ≡ under_way.sent → piece.fsn ≡ under_way.next_fsn
+    → (c : ComesTo log place under_way message) → c.piece.mid ≡ piece.mid → HasBefore log (length log) piece
+comes_before log place under_way message piece is says start fsn c mid =
+    let (k, next, at) = newest_at log (Some c.piece) c.at in
     record {
-      piece = piece;
-      is_piece = it_is_piece queued log max place queue message under_way piece queue_holds.wait queue_holds.ascend queue_holds.distinct front id old_here old_there refl w.is w.at w.fresh refl refl room queue_holds.room unfinished;
-      row = λ some started. comes_before log g.place under_way.sent g.message piece named same refl g.came some;
-      ascends = λ n f at starts of. (let clash : under_way.sent ≡ 0 = starts in absurd (omega (arith, g.begun)));
-      says = it_says queued log max place queue message under_way piece queue_holds.wait queue_holds.ascend queue_holds.distinct front id old_here old_there refl w.is w.at w.fresh refl refl room queue_holds.room unfinished;
-      queue_holds = it_hold queued log max place queue message under_way piece queue_holds.wait queue_holds.ascend queue_holds.distinct front id old_here old_there refl w.is w.at w.fresh refl refl room queue_holds.room unfinished;
+      earlier = k;
+      is = next;
+      before = c.piece;
+      at = at;
+      start = c.end ∙ sym start;
+      place = c.is ∙ sym is;
+      message = c.says ∙ sym says;
+      mid = mid;
+      fsn = (let its = c.fsn in omega (arith, its, fsn));
     }
 
+-- the number of a message under way whose pieces were all sent in an earlier association
+rest_mid : (b : Bool) (log : List Slot) (queue : SendQueueState) (under_way : UnderWay) → CountsWhere b log queue.streams (Some under_way) → ℕ
+rest_mid true log queue under_way c = c.going.mid
+rest_mid false log queue under_way c = under_way.mid
+
+rest_mid_is : (b : Bool) (log : List Slot) (queue : SendQueueState) (under_way : UnderWay) (c : CountsWhere b log queue.streams (Some under_way)) → under_way.mid % 2 ^ 32 ≡ rest_mid b log queue under_way c % 2 ^ 32
+unfolding rest_mid
+rest_mid_is true log queue under_way c = c.going.is
+rest_mid_is false log queue under_way c = refl
+
+module _ (queued : List Message) (log : List Slot) (max place : ℕ) (queue : SendQueueState) (message : Waiting) (under_way : UnderWay) (room : 0 < max) (queue_holds : HoldsQueued queued log queue.streams (Some under_way))
+    (kinds : AreOfKind queue.is_interleaved log) (counts : CountsWhere queue.is_interleaved log queue.streams (Some under_way))
+    (front : front_of (stream_at queue.streams place).messages ≡ Some message) (id : (stream_at queue.streams place).id ≡ under_way.stream_id.0) where
+  waited : WaitingWasQueued queued (stream_at queue.streams place).id message
+  waited = front_queued queued (stream_at queue.streams place).id (stream_at queue.streams place).messages message (queue_holds.wait place) front
+
+  going : IsGoing queued log queue.streams under_way
+  going = queue_holds.going
+
+  named_so : message.message_id ≡ going.place
+  named_so = going.front place message id front
+
+  same_message : waited.message ≡ going.message
+  same_message = let found : Some waited.message ≡ Some going.message = sym waited.at ∙ ap (λ (k : ℕ). at_place k queued) named_so ∙ going.at in cc
+
+  next_piece : ℕ → Piece
+  next_piece mid =
+      record { place = message.message_id; message = waited.message; start = under_way.sent; size = size_produced max message under_way; mid = mid; fsn = under_way.next_fsn; is_interleaved = queue.is_interleaved }
+
+  unfinished : under_way.sent < length message.payload
+  unfolding going
+  unfinished = let sizes : length message.payload ≡ length going.message.payload = ap (λ (l : List ℕ). length l) waited.is.payload ∙ ap (λ (m : Message). length m.payload) same_message in omega (arith, going.unfinished)
+
+  -- what is counted, by whether messages are interleaved
+  counted_on : (b : Bool) → queue.is_interleaved ≡ b → (c : CountsWhere b log queue.streams (Some under_way)) (mid : ℕ) → under_way.mid % 2 ^ 32 ≡ mid % 2 ^ 32 → mid ≡ rest_mid b log queue under_way c
+      → (0 < length log → HasBefore log (length log) (next_piece mid))
+      → CountsWhere b (Some (next_piece mid) ∷ log) (produced place max message under_way queue).streams (produced place max message under_way queue).under_way
+  unfolding next_piece rest_mid going
+  counted_on false kind c mid mid_is number row = tt
+  counted_on true kind c mid mid_is number row =
+      later_counts log max place queue message under_way (next_piece mid) front (within_streams queue.streams place message front) queue_holds.distinct id (sym waited.is.stream) (sym waited.is.unordered) mid_is going.begun c number row
+
+  with_mid : (mid : ℕ) → under_way.mid % 2 ^ 32 ≡ mid % 2 ^ 32 → (0 < length log → HasBefore log (length log) (next_piece mid))
+      → CountsWhere queue.is_interleaved (Some (next_piece mid) ∷ log) (produced place max message under_way queue).streams (produced place max message under_way queue).under_way
+      → HandsOutPiece queued log (fragment under_way message (size_produced max message under_way)) (produced place max message under_way queue)
+  unfolding next_piece going
+  with_mid mid mid_is row counted =
+      let old_here = λ (n : ℕ) (f : Piece) (at : at_place n log ≡ Some (Some f)) (of : f.message.stream ≡ (stream_at queue.streams place).id). here_going queued log place queue under_way queue_holds id n f at of in
+      let old_there = λ (q n : ℕ) (f : Piece) (at : at_place n log ≡ Some (Some f)) (of : f.message.stream ≡ (stream_at queue.streams q).id) (other : (stream_at queue.streams q).id ≢ (stream_at queue.streams place).id). there_going queued log place queue under_way queue_holds id q n f at of other in
+      let first : (next_piece mid).start ≡ 0 → (next_piece mid).fsn ≡ 0 = λ start. (let clash : under_way.sent ≡ 0 = start in absurd (omega (arith, going.begun))) in
+      record {
+        piece = next_piece mid;
+        is_piece = it_is_piece queued log max place queue message under_way (next_piece mid) queue_holds.wait queue_holds.ascend queue_holds.distinct front id old_here old_there refl waited.is waited.at waited.fresh refl mid_is refl first refl room queue_holds.room unfinished;
+        row = λ some started. row some;
+        ascends = λ n f at starts of. (let clash : under_way.sent ≡ 0 = starts in absurd (omega (arith, going.begun)));
+        says = it_says queued log max place queue message under_way (next_piece mid) queue_holds.wait queue_holds.ascend queue_holds.distinct front id old_here old_there refl waited.is waited.at waited.fresh refl mid_is refl first refl room queue_holds.room unfinished;
+        queue_holds = it_hold queued log max place queue message under_way (next_piece mid) queue_holds.wait queue_holds.ascend queue_holds.distinct front id old_here old_there refl waited.is waited.at waited.fresh refl mid_is refl first refl room queue_holds.room unfinished;
+        numbers = record {
+          kinds = kinds_more queue.is_interleaved (produced place max message under_way queue).is_interleaved log (next_piece mid) (produced_kind place max message under_way queue) kinds refl;
+          counts = subst (λ (b : Bool). CountsWhere b (Some (next_piece mid) ∷ log) (produced place max message under_way queue).streams (produced place max message under_way queue).under_way)
+              (sym (produced_kind place max message under_way queue)) counted;
+        };
+      }
+
+  -- its number is that of the newest piece
+  newest_mid : (b : Bool) (c : CountsWhere b log queue.streams (Some under_way)) (came : ComesTo log going.place under_way going.message) → b ≡ true → came.piece.mid ≡ rest_mid b log queue under_way c
+  unfolding rest_mid
+  newest_mid true c came is = c.going.came came.piece came.at
+  newest_mid false c came is = absurd (cc)
+
+  goes_on : HandsOutPiece queued log (fragment under_way message (size_produced max message under_way)) (produced place max message under_way queue)
+  unfolding next_piece going
+  goes_on =
+      elim going.came [
+        | inl e ↦
+            (let empty : 0 < length log → ⊥ = λ some. (let none : length log ≡ 0 = ap (λ (l : List Slot). length l) e in absurd (omega arith)) in
+            let mid : ℕ = rest_mid queue.is_interleaved log queue under_way counts in
+            let mid_is = rest_mid_is queue.is_interleaved log queue under_way counts in
+            with_mid mid mid_is (λ some. absurd (empty some)) (counted_on queue.is_interleaved refl counts mid mid_is refl (λ some. absurd (empty some))))
+        | inr c ↦
+            (let row : 0 < length log → HasBefore log (length log) (next_piece c.piece.mid) = λ some. comes_before log going.place under_way going.message (next_piece c.piece.mid) named_so same_message refl refl c refl in
+            with_mid c.piece.mid c.mid row (counted_where queue.is_interleaved refl counts c row))
+      ]
+    where
+      counted_where : (b : Bool) → queue.is_interleaved ≡ b → (counts' : CountsWhere b log queue.streams (Some under_way)) (c : ComesTo log going.place under_way going.message)
+          → (0 < length log → HasBefore log (length log) (next_piece c.piece.mid))
+          → CountsWhere b (Some (next_piece c.piece.mid) ∷ log) (produced place max message under_way queue).streams (produced place max message under_way queue).under_way
+      counted_where false kind counts' c row = tt
+      counted_where true kind counts' c row = counted_on true kind counts' c.piece.mid c.mid (newest_mid true counts' c refl) row
+
 pub hands_out : {P : Type 0} (queued : List Message) (log : List Slot) (now max : ℕ) (old new : SendQueueState) (told_before told_after : List (Event P)) (part : Fragment)
-    → 0 < max → HoldsQueued queued log old.streams old.under_way → Takes now max old told_before part new told_after
+    → 0 < max → HoldsQueued queued log old.streams old.under_way → Numbered log old → Takes now max old told_before part new told_after
     → HandsOutPiece queued log part new
-hands_out queued log now max old new told_before told_after part room queue_holds takes =
-    let handed = go old.under_way refl queue_holds takes.chosen in
+hands_out queued log now max old new told_before told_after part room queue_holds numbers takes =
+    let handed = go old.under_way refl queue_holds numbers.counts takes.chosen in
     subst (λ (b : SendQueueState). HandsOutPiece queued log part b) (sym takes.left)
     (subst (λ (s : Fragment). HandsOutPiece queued log s (produced takes.place max takes.message takes.under_way takes.queue)) (sym takes.is) handed)
   where
-    go : (u : Option UnderWay) → old.under_way ≡ u → HoldsQueued queued log old.streams u → Chooses now old u takes.queue takes.place takes.message takes.under_way
+    go : (u : Option UnderWay) → old.under_way ≡ u → HoldsQueued queued log old.streams u → CountsWhere old.is_interleaved log old.streams u → Chooses now old u takes.queue takes.place takes.message takes.under_way
         → HandsOutPiece queued log (fragment takes.under_way takes.message (size_produced max takes.message takes.under_way)) (produced takes.place max takes.message takes.under_way takes.queue)
-    go None is queue_holds chosen =
-        begins queued log max takes.place takes.queue takes.message takes.under_way room (drops_hold queued log now old takes.drops.events takes.queue takes.drops.drops queue_holds) takes.front chosen.2
-    go (Some going) is queue_holds chosen =
+    go None is queue_holds counts chosen =
+        let kind : takes.queue.is_interleaved ≡ old.is_interleaved = kind_dropped now old takes.drops.events takes.queue takes.drops.drops in
+        begins queued log max takes.place takes.queue takes.message takes.under_way room (drops_hold queued log now old takes.drops.events takes.queue takes.drops.drops queue_holds)
+        (λ n f at. numbers.kinds n f at ∙ sym kind)
+        (subst (λ (b : Bool). CountsWhere b log takes.queue.streams None) (sym kind)
+        (where_stay old.is_interleaved log None old.streams takes.queue.streams (numbers_dropped now old takes.drops.events takes.queue takes.drops.drops) counts)) takes.front chosen.2
+    go (Some earlier) is queue_holds counts chosen =
         let here : HoldsQueued queued log takes.queue.streams (Some takes.under_way) =
         subst (λ (b : SendQueueState). HoldsQueued queued log b.streams (Some takes.under_way)) (sym chosen.0) (subst (λ (u : UnderWay). HoldsQueued queued log old.streams (Some u)) (sym chosen.1) queue_holds) in
-        goes_on queued log max takes.place takes.queue takes.message takes.under_way room here takes.front (chosen.2 ∙ ap (λ (u : UnderWay). u.stream_id.0) (sym chosen.1))
-
--- ---- what is dropped
-
-pub drops_keep_under_way : {P : Type 0} (now : ℕ) (old : SendQueueState) (events : List (Event P)) (new : SendQueueState) → Drops now old events new → new.under_way ≡ old.under_way
-drops_keep_under_way now old events new none = refl
-drops_keep_under_way now old events new (more events' queue place message drops next front expired) = drops_keep_under_way now old events' queue drops
-
--- what is left of the message under way is dropped, and a TSN may stand for its end
-module _ (queued : List Message) (log : List Slot) (old : SendQueueState) (stream message_id : ℕ) (named : IsNamed old stream message_id) (queue_holds : HoldsQueued queued log old.streams old.under_way) where
-  left : List Stream
-  left = (without_rest named.place named.under_way.sent named.message old).streams
-
-  left_shorter : Shorter old.streams left
-  unfolding left
-  left_shorter = rest_shorter named.place named.under_way.sent named.message old
-
-  going_on : HoldsQueued queued log old.streams (Some named.under_way)
-  going_on = subst (λ (u : Option UnderWay). HoldsQueued queued log old.streams u) named.goes_on queue_holds
-
-  named_id : (stream_at old.streams named.place).id ≡ named.under_way.stream_id.0
-  named_id = named.is ∙ sym named.same
-
-  left_here : (stream_at left named.place).messages ≡ drop 1 (stream_at old.streams named.place).messages
-  unfolding left
-  left_here =
-      let between = reduced named.place (length named.message.payload - named.under_way.sent) old in
-      let same = reduced_alike named.place (length named.message.payload - named.under_way.sent) old in
-      let size : length between.streams ≡ length old.streams = same.sizes in
-      ap (λ (s : Stream). s.messages) (get_or-set_same between.streams named.place (without_front (stream_at between.streams named.place)) (unused 0 0 0) (omega (arith, named.within)))
-      ∙ ap (λ (l : List Waiting). drop 1 l) (same.messages named.place)
-
-  beyond_left : (q n : ℕ) (f : Piece) → at_place n (None ∷ log) ≡ Some (Some f) → f.message.stream ≡ (stream_at left q).id → AllBeyond f.place (stream_at left q).messages
-  beyond_left q n f at of =
-      elim (at_cases n None (Some f) log at) [
-        | inl e ↦ absurd (cc)
-        | inr at' ↦
-            elim (decide (stream_at old.streams q).id (stream_at old.streams named.place).id) [
-              | inl same ↦
-                  elim (there_or_empty old.streams q) [
-                    | inr e ↦ shorter_beyond f.place q old.streams left left_shorter (none_beyond f.place (stream_at old.streams q).messages e)
-                    | inl below ↦
-                        (let is : q ≡ named.place = queue_holds.distinct q named.place below named.within same in
-                        let rest = here_going queued log named.place old named.under_way going_on named_id n f at' (of ∙ left_shorter.ids q ∙ same) in
-                        subst (λ (k : ℕ). AllBeyond f.place (stream_at left k).messages) (sym is) (subst (λ (l : List Waiting). AllBeyond f.place l) (sym left_here) rest))
-                  ]
-              | inr other ↦
-                  shorter_beyond f.place q old.streams left left_shorter (there_going queued log named.place old named.under_way going_on named_id q n f at' (of ∙ left_shorter.ids q) other)
-            ]
-      ]
-
-  left_room : HasRoom queued (None ∷ log) left None
-  unfolding left
-  left_room =
-      let g : IsGoing queued log old.streams named.under_way = going_on.going in
-      let w = front_queued queued (stream_at old.streams named.place).id (stream_at old.streams named.place).messages named.message (queue_holds.wait named.place) named.front in
-      let is_named : named.message.message_id ≡ g.place = g.front named.place named.message named_id named.front in
-      let found : Some w.message ≡ Some g.message = sym w.at ∙ ap (λ (k : ℕ). at_place k queued) is_named ∙ g.at in
-      let same_message : w.message ≡ g.message = cc in
-      let sizes : length named.message.payload ≡ length g.message.payload = ap (λ (l : List ℕ). length l) w.is.payload ∙ ap (λ (m : Message). length m.payload) same_message in
-      let between = reduced named.place (length named.message.payload - named.under_way.sent) old in
-      let alike' = reduced_alike named.place (length named.message.payload - named.under_way.sent) old in
-      let same = weight_same old.streams between.streams alike'.sizes alike'.messages in
-      let acknowledged = weight_front between.streams named.place named.message (ap front_of (alike'.messages named.place) ∙ named.front) in
-      let room = going_on.room in
-      record { whole = omega (arith, same, acknowledged, room.whole); count = omega (arith, same, acknowledged, room.count, sizes, g.unfinished) }
-
-  left_hold : HoldsQueued queued (None ∷ log) left None
-  left_hold =
-      record {
-        wait = wait_on queued old.streams left left_shorter queue_holds.wait;
-        ascend = ascend_on old.streams left left_shorter queue_holds.ascend;
-        beyond = beyond_left;
-        distinct = distinct_on old.streams left left_shorter queue_holds.distinct;
-        going = tt;
-        room = left_room;
-      }
-
-pub discards_hold : {P : Type 0} (queued : List Message) (log : List Slot) (old new : SendQueueState) (stream message_id : ℕ) (before after : List (Event P)) → HoldsQueued queued log old.streams old.under_way
-    → Discards old stream message_id before new after → HoldsQueued queued (None ∷ log) new.streams new.under_way
-unfolding left
-discards_hold queued log old new stream message_id before after queue_holds discards =
-    subst (λ (b : SendQueueState). HoldsQueued queued (None ∷ log) b.streams b.under_way) (sym discards.left) (left_hold queued log old stream message_id discards.named queue_holds)
+        let counts' : CountsWhere takes.queue.is_interleaved log takes.queue.streams (Some takes.under_way) =
+        subst (λ (b : SendQueueState). CountsWhere b.is_interleaved log b.streams (Some takes.under_way)) (sym chosen.0) (subst (λ (u : UnderWay). CountsWhere old.is_interleaved log old.streams (Some u)) (sym chosen.1) counts) in
+        goes_on queued log max takes.place takes.queue takes.message takes.under_way room here (subst (λ (b : SendQueueState). AreOfKind b.is_interleaved log) (sym chosen.0) numbers.kinds) counts' takes.front
+        (chosen.2 ∙ ap (λ (u : UnderWay). u.stream_id.0) (sym chosen.1))

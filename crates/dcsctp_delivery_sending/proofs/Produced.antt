@@ -54,6 +54,9 @@ module _ (queued : List Message) (log : List Slot) (max place : ℕ) (queue : Se
     (queued_at : at_place piece.place queued ≡ Some piece.message)
     (fresh : piece.message.is_spent ≡ false)
     (start_is : under_way.sent ≡ piece.start)
+    (mid_is : under_way.mid % 2 ^ 32 ≡ piece.mid % 2 ^ 32)
+    (fsn_is : under_way.next_fsn ≡ piece.fsn)
+    (first_is : piece.start ≡ 0 → piece.fsn ≡ 0)
     (size_is : piece.size ≡ size_produced max message under_way)
     (has_room : 0 < max)
     (roomy : HasRoom queued log queue.streams (Some under_way))
@@ -71,6 +74,7 @@ module _ (queued : List Message) (log : List Slot) (max place : ℕ) (queue : Se
         fresh = fresh;
         some = omega (arith, has_size, size_is);
         within = omega (arith, has_size, size_is, start_is, lengths);
+        first = first_is;
       }
 
   pub it_says : Says (fragment under_way message (size_produced max message under_way)) piece
@@ -85,6 +89,8 @@ module _ (queued : List Message) (log : List Slot) (max place : ℕ) (queue : Se
             ∙ ap (λ (k : ℕ). (piece.start + k) == length message.payload) (sym size_is) ∙ ap (λ (k : ℕ). (piece.start + piece.size) == k) lengths;
         payload = ap (λ (k : ℕ). take k (drop under_way.sent message.payload)) (sym size_is) ∙ ap (λ (k : ℕ). take piece.size (drop k message.payload)) start_is
             ∙ ap (λ (l : List ℕ). take piece.size (drop piece.start l)) message_is.payload;
+        mid = mid_is;
+        fsn = fsn_is;
       }
 
   within : place < length queue.streams
@@ -132,9 +138,9 @@ module _ (queued : List Message) (log : List Slot) (max place : ℕ) (queue : Se
       ap (λ (s : Stream). s.messages) (get_or-set_same between.streams place (without_front (stream_at between.streams place)) (unused 0 0 0) (omega (arith, within)))
       ∙ ap (λ (l : List Waiting). drop 1 l) (same.messages place)
 
-  part_going : (u : UnderWay) → u.stream_id.0 ≡ under_way.stream_id.0 → u.sent ≡ under_way.sent + max → is_last max message under_way ≡ false
+  part_going : (u : UnderWay) → u.stream_id.0 ≡ under_way.stream_id.0 → u.sent ≡ under_way.sent + max → u.mid ≡ under_way.mid → u.next_fsn ≡ (under_way.next_fsn + 1) % 2 ^ 32 → is_last max message under_way ≡ false
       → IsGoing queued (Some piece ∷ log) (after_part place max message under_way queue).streams u
-  part_going u same_stream same_sent open_end =
+  part_going u same_stream same_sent same_mid next_fsn open_end =
       let rest : max < length message.payload - under_way.sent = elim (leb_tells (length message.payload - under_way.sent) max) [
         | inl e ↦ (let clash : true ≡ false = sym e.0 ∙ open_end in absurd (cc))
         | inr e ↦ e.1
@@ -152,7 +158,7 @@ module _ (queued : List Message) (log : List Slot) (max place : ℕ) (queue : Se
           waiting = message;
           front = ap front_of (alike.messages place) ∙ front;
         };
-        came = inr (record { piece = piece; at = refl; is = refl; says = refl; end = omega (arith, same_sent, start_is, size_is) });
+        came = inr (record { piece = piece; at = refl; is = refl; says = refl; end = omega (arith, same_sent, start_is, size_is); mid = ap (λ (k : ℕ). k % 2 ^ 32) same_mid ∙ mid_is; fsn = omega (arith, next_fsn, fsn_is) });
         front = λ q w id is.
             let is' : front_of (stream_at queue.streams q).messages ≡ Some w = ap front_of (sym (alike.messages q)) ∙ is in
             let same_id : (stream_at queue.streams q).id ≡ (stream_at queue.streams place).id = sym (alike.ids q) ∙ id ∙ same_stream ∙ sym id_is in
@@ -229,7 +235,7 @@ module _ (queued : List Message) (log : List Slot) (max place : ℕ) (queue : Se
             ascend = ascend_on queue.streams (after_part place max message under_way queue).streams (alike_is_shorter queue.streams (after_part place max message under_way queue).streams alike) ascend;
             beyond = part_beyond next_going refl;
             distinct = distinct_on queue.streams (after_part place max message under_way queue).streams (alike_is_shorter queue.streams (after_part place max message under_way queue).streams alike) distinct;
-            going = part_going next_going refl refl e;
+            going = part_going next_going refl refl refl refl e;
             room = part_room next_going refl;
           }
 

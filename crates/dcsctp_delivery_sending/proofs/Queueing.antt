@@ -15,6 +15,7 @@ use Rattle.dcsctp_delivery_sending.specs.Weights.{weight}
 use Rattle.dcsctp_delivery_sending.proofs.Produced.{within_streams}
 use Rattle.dcsctp_delivery_sending.proofs.Weights.{weight_added}
 use Rattle.dcsctp_delivery_sending.proofs.NewStreams.{used_hold, empty_unbegun}
+use Rattle.dcsctp_delivery_sending.proofs.Numbers.{numbers_then, numbers_used, numbers_changed, numbered_stay}
 
 -- ---- more is queued
 
@@ -210,6 +211,9 @@ queueing_hold queued log now sending queue few some cut queues =
           }) queues.next (λ n f at. at_below f.place f.message queued (cut.pieces n f at).at) (used_hold queued log queue sending.message.stream queues.queue_holds)
           (λ q below is. exactly sending.message.stream m streams q below is) (weight_added sending.message.stream m streams (used_hold queued log queue sending.message.stream queues.queue_holds).distinct);
       next = (let next = queues.next in omega (arith, next, few));
+      numbers = numbered_stay log queue (sending_queued now sending queue) refl refl
+          (numbers_then queue.under_way queue.streams streams (changed sending.message.stream (with_message m) streams) (numbers_used queue.under_way queue sending.message.stream)
+          (numbers_changed queue.under_way sending.message.stream (with_message m) (λ s. refl) (λ s. record { ordered = refl; unordered = refl }) (λ v is s here w e. front_append s.messages m w e) streams)) queues.numbers;
     }
   where
     m : Waiting

@@ -10,12 +10,12 @@ use Rattle.dcsctp_machine.specs.transfer.Sending.{Fragment}
 use Rattle.dcsctp_delivery_sending.specs.Places.{at_place}
 use Rattle.dcsctp_delivery_sending.specs.Log.{Message, Piece, Slot, IsPiece, HasBefore, Cut}
 use Rattle.dcsctp_delivery_sending.specs.Pieces.{HandsOutPiece}
-use Rattle.dcsctp_delivery_sending.specs.Stages.{SaysSlot, SaysAt, Bears}
+use Rattle.dcsctp_delivery_sending.specs.Stages.{SaysSlot, SaysAt, IsNamed, Bears}
 use Rattle.dcsctp_delivery_sending.proofs.Places.{at_new, at_cases, at_below, at_stays}
 
 -- ---- logs
 
-with_none : (log : List Slot) (n : ℕ) (f : Piece) → at_place n (None ∷ log) ≡ Some (Some f) → at_place n log ≡ Some (Some f)
+pub with_none : (log : List Slot) (n : ℕ) (f : Piece) → at_place n (None ∷ log) ≡ Some (Some f) → at_place n log ≡ Some (Some f)
 with_none log n f at =
     elim (at_cases n None (Some f) log at) [
       | inl e ↦ absurd (cc)
@@ -24,7 +24,7 @@ with_none log n f at =
 
 before_stays : (slot : Slot) (log : List Slot) (n : ℕ) (f : Piece) → HasBefore log n f → HasBefore (slot ∷ log) n f
 before_stays slot log n f b =
-    record { earlier = b.earlier; is = b.is; before = b.before; at = at_stays b.earlier slot (Some b.before) log b.at; start = b.start; place = b.place; message = b.message }
+    record { earlier = b.earlier; is = b.is; before = b.before; at = at_stays b.earlier slot (Some b.before) log b.at; start = b.start; place = b.place; message = b.message; mid = b.mid; fsn = b.fsn }
 
 pub cut_none : (queued : List Message) (log : List Slot) → Cut queued log → Cut queued (None ∷ log)
 cut_none queued log cut =
@@ -113,20 +113,24 @@ at_last [] last (suc k) item at = absurd (cc)
 at_last (i ∷ items) last zero item at = inl at
 at_last (i ∷ items) last (suc k) item at = elim (at_last items last k item at) [ inl e ↦ inl e | inr e ↦ inr (ap suc e.0, e.1) ]
 
-pub bears_grown : (log : List Slot) (first acknowledged : ℕ) (slot : Slot) (item : Item) (outstanding : OutstandingState) → Bears log first acknowledged outstanding → SaysSlot item.fragment slot
+pub named_stays : (slot : Slot) (log : List Slot) (part : Fragment) → IsNamed log part → IsNamed (slot ∷ log) part
+named_stays slot log part n = record { number = n.number; piece = n.piece; at = at_stays n.number slot (Some n.piece) log n.at; stream = n.stream; unordered = n.unordered; mid = n.mid }
+
+pub bears_grown : (log : List Slot) (first acknowledged : ℕ) (slot : Slot) (item : Item) (outstanding : OutstandingState) → Bears log first acknowledged outstanding → SaysSlot item.fragment slot → IsNamed (slot ∷ log) item.fragment
     → Bears (slot ∷ log) first acknowledged (record outstanding { items = outstanding.items ++ item ∷ [] })
-bears_grown log first acknowledged slot item outstanding b says =
+bears_grown log first acknowledged slot item outstanding b says named =
     record {
       tsn = b.tsn;
       count = omega (arith, b.count, length-append outstanding.items (item ∷ []));
       items = λ k found at. elim (at_last outstanding.items item k found at) [
-        | inl old ↦ (let there = b.items k found old in record { slot = there.slot; at = at_stays (acknowledged + k) slot there.slot log there.at; says = there.says })
+        | inl old ↦ (let there = b.items k found old in record { slot = there.slot; at = at_stays (acknowledged + k) slot there.slot log there.at; says = there.says; named = named_stays slot log found.fragment there.named })
         | inr e ↦
             (let here : acknowledged + k ≡ length log = (let last : k ≡ length outstanding.items = e.0 in omega (arith, b.count)) in
             record {
               slot = slot;
               at = subst (λ (n : ℕ). at_place n (slot ∷ log) ≡ Some slot) (sym here) (at_new slot log);
               says = subst (λ (x : Item). SaysSlot x.fragment slot) e.1 says;
+              named = subst (λ (x : Item). IsNamed (slot ∷ log) x.fragment) e.1 named;
             })
       ];
     }

@@ -1,14 +1,18 @@
 -- A flush sends pieces of what was queued, and nothing else as data (RFC 9260, section 6.1).
-use Rattle.std.specs.Prelude.{◌≡◌, ◌≤◌, ◌+◌, ◌-◌, ◌%◌, ◌^◌, ℕ, Option, None, Some, List, [], ◌∷◌, ◌++◌, length}
+use Rattle.std.specs.Prelude.{◌≡◌, ◌≤◌, ◌+◌, ◌-◌, ◌%◌, ◌^◌, ℕ, Bool, true, false, Option, None, Some, List, [], ◌∷◌, ◌++◌, length}
 use Rattle.dcsctp_wire.specs.Content.{DataContent, IDataContent, data_chunk, i_data_chunk, forward_tsn_chunk, i_forward_tsn_chunk}
 use Rattle.dcsctp_machine.specs.Event.{Event, packets_in}
 use Rattle.dcsctp_machine.specs.Packet.{Plain, unworked, plain, Content, Emission}
 use Rattle.dcsctp_machine.specs.Endpoint.{Endpoint}
 use Rattle.dcsctp_machine.specs.transfer.Chunks.{data_said, i_data_said}
 use Rattle.dcsctp_machine.specs.transfer.Sending.{Fragment}
+use Rattle.dcsctp_machine.specs.transfer.Skipping.{entry_bytes}
+use Rattle.std.specs.List.{flat_map}
 use Rattle.dcsctp_machine.specs.transfer.Transfer.{Transfer, Below}
 use Rattle.dcsctp_machine.specs.turns.FlushOutcomes.{Answer, FlushAnswers, flush_of}
-use Rattle.dcsctp_delivery_sending.specs.Log.{Message, Slot, Cut}
+use Rattle.dcsctp_delivery_sending.specs.Log.{Message, Piece, Slot, Cut}
+use Rattle.dcsctp_delivery_sending.specs.Places.{at_place}
+use Rattle.dcsctp_delivery_sending.specs.Numbers.{Numbered, KindAt, IsOfKind}
 use Rattle.dcsctp_delivery_sending.specs.Pieces.{HoldsQueued}
 use Rattle.dcsctp_delivery_sending.specs.Stages.{SaysAt, Bears}
 
@@ -20,6 +24,7 @@ pub record IsData (log : List Slot) (first : ℕ) (chunk : DataContent) : Type 0
   pub part : Fragment
   pub says : SaysAt log number part
   pub is : chunk ≡ data_said ((first + number) % 2 ^ 32) part
+  pub kind : KindAt false log number
 
 -- So does the I-DATA chunk.
 pub record IsInterleaved (log : List Slot) (first : ℕ) (chunk : IDataContent) : Type 0 where
@@ -27,6 +32,7 @@ pub record IsInterleaved (log : List Slot) (first : ℕ) (chunk : IDataContent) 
   pub part : Fragment
   pub says : SaysAt log number part
   pub is : chunk ≡ i_data_said ((first + number) % 2 ^ 32) part
+  pub kind : KindAt true log number
 
 -- The TSN was assigned, or is the one before the first: so many are passed.
 pub record IsPassed (log : List Slot) (first tsn : ℕ) : Type 0 where
@@ -34,12 +40,34 @@ pub record IsPassed (log : List Slot) (first tsn : ℕ) : Type 0 where
   pub below : passed ≤ length log
   pub is : tsn ≡ (first + passed + (2 ^ 32 - 1)) % 2 ^ 32
 
+-- The entry names the stream of a piece of the log, which was sent as the chunk's kind is; with interleaving also its message.
+pub record IsEntry (is_interleaved : Bool) (log : List Slot) (entry : (ℕ × Bool) × ℕ) : Type 0 where
+  pub number : ℕ
+  pub piece : Piece
+  pub at : at_place number log ≡ Some (Some piece)
+  pub kind : piece.is_interleaved ≡ is_interleaved
+  pub stream : entry.0.0 ≡ piece.message.stream
+  pub unordered : entry.0.1 ≡ piece.message.is_unordered
+  pub mid : is_interleaved ≡ true → entry.1 % 2 ^ 32 ≡ piece.mid % 2 ^ 32
+
+-- Each does.
+abbrev pub AreEntries : Bool → List Slot → List ((ℕ × Bool) × ℕ) → Type 0
+AreEntries is_interleaved log [] = Unit {0}
+AreEntries is_interleaved log (entry ∷ entries) = IsEntry is_interleaved log entry × AreEntries is_interleaved log entries
+
+-- A FORWARD-TSN or I-FORWARD-TSN passes assigned TSNs, and names messages of the log.
+pub record IsForward (is_interleaved : Bool) (log : List Slot) (first tsn : ℕ) (streams : List ℕ) : Type 0 where
+  pub passed : IsPassed log first tsn
+  pub entries : List ((ℕ × Bool) × ℕ)
+  pub is : streams ≡ flat_map (entry_bytes is_interleaved) entries
+  pub names : AreEntries is_interleaved log entries
+
 -- A chunk of data carries what its TSN bears, and one that passes TSNs passes assigned ones.
 abbrev pub SaysPlain : List Slot → ℕ → Plain → Type 0
 SaysPlain log first (unworked (data_chunk chunk)) = IsData log first chunk
 SaysPlain log first (unworked (i_data_chunk chunk)) = IsInterleaved log first chunk
-SaysPlain log first (unworked (forward_tsn_chunk tsn streams)) = IsPassed log first tsn
-SaysPlain log first (unworked (i_forward_tsn_chunk tsn streams)) = IsPassed log first tsn
+SaysPlain log first (unworked (forward_tsn_chunk tsn streams)) = IsForward false log first tsn streams
+SaysPlain log first (unworked (i_forward_tsn_chunk tsn streams)) = IsForward true log first tsn streams
 SaysPlain log first chunk = Unit {0}
 
 -- So does any chunk of a packet,
@@ -87,6 +115,8 @@ pub record StandsBelow (queued : List Message) (log : List Slot) (first acknowle
   pub queue_holds : HoldsQueued queued log below.queue.streams below.queue.under_way
   pub cut : Cut queued log
   pub flight : InFlight log first acknowledged below.transfer
+  pub numbers : Numbered log below.queue
+  pub kind : IsOfKind below.queue.is_interleaved below.transfer
 
 -- More TSNs may have been assigned, and all data that was sent is of the log.
 pub record Sends (queued : List Message) (log : List Slot) (first acknowledged : ℕ) (after : Below) (events : List (Event Emission)) : Type 0 where

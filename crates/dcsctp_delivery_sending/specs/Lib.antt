@@ -1,6 +1,7 @@
 pub mod Places
 pub mod Log
 pub mod Weights
+pub mod Numbers
 pub mod Pieces
 pub mod Stages
 pub mod Acknowledged

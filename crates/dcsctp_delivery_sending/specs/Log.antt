@@ -1,6 +1,6 @@
 -- The log of an association: which piece of which message each TSN bears that its sender has assigned (RFC 9260, section 6.9). Lists have
 -- the newest first.
-use Rattle.std.specs.Prelude.{◌≡◌, ◌==◌, ◌<◌, ◌≤◌, ◌+◌, ℕ, Bool, false, Option, None, Some, List, [], ◌∷◌, length, take, drop, ◌^◌}
+use Rattle.std.specs.Prelude.{◌≡◌, ◌==◌, ◌<◌, ◌≤◌, ◌+◌, ◌%◌, ℕ, Bool, false, Option, None, Some, List, [], ◌∷◌, length, take, drop, ◌^◌}
 use Rattle.dcsctp_delivery_sending.specs.Places.{at_place}
 use Rattle.std.specs.List.{AllByRecursion}
 
@@ -21,6 +21,12 @@ pub record Piece : Type 0 where
   -- how many bytes of its message come before it
   pub start : ℕ
   pub size : ℕ
+  -- the number of its message on its stream, without wrap: ordered and unordered messages are counted apart
+  pub mid : ℕ
+  -- how many fragments of its message come before it
+  pub fsn : ℕ
+  -- Was it sent as I-DATA (RFC 8260)?
+  pub is_interleaved : Bool
 
 -- What a TSN bears. The end of a message that is abandoned takes a TSN too, and is never sent.
 abbrev pub Slot : Type 0
@@ -47,6 +53,7 @@ pub record IsPiece (queued : List Message) (piece : Piece) : Type 0 where
   pub fresh : piece.message.is_spent ≡ false
   pub some : 0 < piece.size
   pub within : piece.start + piece.size ≤ length piece.message.payload
+  pub first : piece.start ≡ 0 → piece.fsn ≡ 0
 
 -- The TSN before this one bears what comes before the piece in its message.
 pub record HasBefore (log : List Slot) (number : ℕ) (piece : Piece) : Type 0 where
@@ -57,6 +64,8 @@ pub record HasBefore (log : List Slot) (number : ℕ) (piece : Piece) : Type 0 w
   pub start : before.start + before.size ≡ piece.start
   pub place : before.place ≡ piece.place
   pub message : before.message ≡ piece.message
+  pub mid : before.mid ≡ piece.mid
+  pub fsn : (before.fsn + 1) % 2 ^ 32 ≡ piece.fsn % 2 ^ 32
 
 -- The log is one of messages that were queued. The pieces of a message follow one another; only the first TSN of an association may bear
 -- the rest of a message whose beginning was sent in an earlier one. Of two messages of a stream the one that is begun later was queued later.

@@ -1,5 +1,5 @@
 -- What the send queue hands out are the pieces of the messages that its user queued, one after another (RFC 9260, section 6.9).
-use Rattle.std.specs.Prelude.{◌≡◌, ◌⊎◌, ◌==◌, ◌<◌, ◌+◌, ℕ, false, Option, None, Some, List, [], ◌∷◌, length, drop, if◌then◌else◌}
+use Rattle.std.specs.Prelude.{◌≡◌, ◌⊎◌, ◌==◌, ◌<◌, ◌+◌, ◌%◌, ◌^◌, ℕ, false, Option, None, Some, List, [], ◌∷◌, length, drop, if◌then◌else◌}
 use Rattle.dcsctp_machine.specs.Event.{Event}
 use Rattle.dcsctp_machine.specs.declared.sending.UnderWay.{UnderWay}
 use Rattle.dcsctp_machine.specs.transfer.SendStreams.{Waiting, Stream, front_of, stream_at}
@@ -7,6 +7,7 @@ use Rattle.dcsctp_machine.specs.transfer.SendQueue.{SendQueueState}
 use Rattle.dcsctp_machine.specs.transfer.Sending.{Fragment, Takes}
 use Rattle.dcsctp_delivery_sending.specs.Places.{at_place}
 use Rattle.dcsctp_delivery_sending.specs.Weights.{HasRoom}
+use Rattle.dcsctp_delivery_sending.specs.Numbers.{Numbered}
 use Rattle.dcsctp_delivery_sending.specs.Log.{Message, Piece, Slot, newest, is_beginning, is_end, bytes_of, IsPiece, HasBefore}
 
 -- The message that waits on the stream is this one.
@@ -44,13 +45,15 @@ abbrev pub unbegun : Option UnderWay → Stream → List Waiting
 unbegun None stream = stream.messages
 unbegun (Some under_way) stream = if stream.id == under_way.stream_id.0 then drop 1 stream.messages else stream.messages
 
--- The newest piece is of this message, and ends there.
-pub record ComesTo (log : List Slot) (place sent : ℕ) (message : Message) : Type 0 where
+-- The newest piece is of the message under way, and ends where that has come to.
+pub record ComesTo (log : List Slot) (place : ℕ) (under_way : UnderWay) (message : Message) : Type 0 where
   pub piece : Piece
   pub at : newest log ≡ Some (Some piece)
   pub is : piece.place ≡ place
   pub says : piece.message ≡ message
-  pub end : piece.start + piece.size ≡ sent
+  pub end : piece.start + piece.size ≡ under_way.sent
+  pub mid : under_way.mid % 2 ^ 32 ≡ piece.mid % 2 ^ 32
+  pub fsn : under_way.next_fsn % 2 ^ 32 ≡ (piece.fsn + 1) % 2 ^ 32
 
 -- The stream of the message under way has a message.
 pub record IsThere (streams : List Stream) (under_way : UnderWay) : Type 0 where
@@ -68,7 +71,7 @@ pub record IsGoing (queued : List Message) (log : List Slot) (streams : List Str
   pub unfinished : under_way.sent < length message.payload
   pub begun : 0 < under_way.sent
   pub there : IsThere streams under_way
-  pub came : (log ≡ []) ⊎ ComesTo log place under_way.sent message
+  pub came : (log ≡ []) ⊎ ComesTo log place under_way message
   pub front : (q : ℕ) (waiting : Waiting) → (stream_at streams q).id ≡ under_way.stream_id.0 → front_of (stream_at streams q).messages ≡ Some waiting
       → waiting.message_id ≡ place
 
@@ -97,6 +100,8 @@ pub record Says (part : Fragment) (piece : Piece) : Type 0 where
   pub beginning : part.is_beginning ≡ is_beginning piece
   pub end : part.is_end ≡ is_end piece
   pub payload : part.payload ≡ bytes_of piece
+  pub mid : part.mid % 2 ^ 32 ≡ piece.mid % 2 ^ 32
+  pub fsn : part.fsn ≡ piece.fsn
 
 -- What is handed out is the next piece, and the queue holds the rest.
 pub record HandsOutPiece (queued : List Message) (log : List Slot) (part : Fragment) (new : SendQueueState) : Type 0 where
@@ -106,10 +111,11 @@ pub record HandsOutPiece (queued : List Message) (log : List Slot) (part : Fragm
   pub ascends : (n : ℕ) (f : Piece) → at_place n log ≡ Some (Some f) → piece.start ≡ 0 → f.message.stream ≡ piece.message.stream → f.place < piece.place
   pub says : Says part piece
   pub queue_holds : HoldsQueued queued (Some piece ∷ log) new.streams new.under_way
+  pub numbers : Numbered (Some piece ∷ log) new
 
 -- So it is whenever the queue hands out a fragment.
 abbrev pub PiecesFollow : Type 0
 PiecesFollow =
     (queued : List Message) (log : List Slot) (now max : ℕ) (old new : SendQueueState) (told_before told_after : List (Event (List ℕ))) (part : Fragment)
-    → 0 < max → HoldsQueued queued log old.streams old.under_way → Takes now max old told_before part new told_after
+    → 0 < max → HoldsQueued queued log old.streams old.under_way → Numbered log old → Takes now max old told_before part new told_after
     → HandsOutPiece queued log part new

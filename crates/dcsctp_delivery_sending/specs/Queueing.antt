@@ -5,6 +5,7 @@ use Rattle.dcsctp_machine.specs.transfer.OwnResets.{prepared_all, queue_committe
 use Rattle.dcsctp_machine.specs.turns.SettingOutcomes.{Setting, set_in_queue}
 use Rattle.dcsctp_machine.specs.turns.MessageOutcomes.{Sending, sending_queued}
 use Rattle.dcsctp_delivery_sending.specs.Log.{Message, Slot, Cut}
+use Rattle.dcsctp_delivery_sending.specs.Numbers.{Numbered}
 use Rattle.dcsctp_delivery_sending.specs.Pieces.{HoldsQueued}
 
 -- the message of a call
@@ -16,6 +17,7 @@ message_of sending =
 pub record QueueHolds (queued : List Message) (log : List Slot) (queue : SendQueueState) : Type 0 where
   pub queue_holds : HoldsQueued queued log queue.streams queue.under_way
   pub next : queue.next_message_id ≡ length queued
+  pub numbers : Numbered log queue
 
 -- A message that is queued is one more.
 abbrev pub QueueingKeeps : Type 0
@@ -39,9 +41,13 @@ SettingKeeps = (queued : List Message) (log : List Slot) (setting : Setting) (qu
 abbrev pub PreparingKeeps : Type 0
 PreparingKeeps = (queued : List Message) (log : List Slot) (ids : List ℕ) (queue : SendQueueState) → QueueHolds queued log queue → QueueHolds queued log (prepared_all ids queue)
 
+-- A reset of own streams may be performed: no numbers that tell messages apart begin at 0 again. So far without interleaving alone.
+abbrev pub NumbersGoOn : SendQueueState → Type 0
+NumbersGoOn queue = queue.is_interleaved ≡ false
+
 -- a reset that was performed,
 abbrev pub CommittingKeeps : Type 0
-CommittingKeeps = (queued : List Message) (log : List Slot) (queue : SendQueueState) → QueueHolds queued log queue → QueueHolds queued log (queue_committed queue)
+CommittingKeeps = (queued : List Message) (log : List Slot) (queue : SendQueueState) → NumbersGoOn queue → QueueHolds queued log queue → QueueHolds queued log (queue_committed queue)
 
 -- and one that was not.
 abbrev pub RollingBackKeeps : Type 0

@@ -8,7 +8,8 @@ use Rattle.dcsctp_machine.specs.transfer.Items.{Item}
 use Rattle.dcsctp_machine.specs.transfer.Outstanding.{OutstandingState}
 use Rattle.dcsctp_machine.specs.transfer.Sending.{Fragment}
 use Rattle.dcsctp_delivery_sending.specs.Places.{at_place}
-use Rattle.dcsctp_delivery_sending.specs.Log.{Message, Slot, Cut}
+use Rattle.dcsctp_delivery_sending.specs.Log.{Message, Piece, Slot, Cut}
+use Rattle.dcsctp_delivery_sending.specs.Numbers.{Numbered, KindAt}
 use Rattle.dcsctp_delivery_sending.specs.Pieces.{Says, HoldsQueued}
 
 -- The fragment says what the slot does. The end of an abandoned message has no payload.
@@ -16,11 +17,21 @@ abbrev pub SaysSlot : Fragment → Slot → Type 0
 SaysSlot part None = part.payload ≡ []
 SaysSlot part (Some piece) = Says part piece
 
+-- The fragment is of the message of a piece of the log, and has its number.
+pub record IsNamed (log : List Slot) (part : Fragment) : Type 0 where
+  pub number : ℕ
+  pub piece : Piece
+  pub at : at_place number log ≡ Some (Some piece)
+  pub stream : part.stream ≡ piece.message.stream
+  pub unordered : part.is_unordered ≡ piece.message.is_unordered
+  pub mid : part.mid % 2 ^ 32 ≡ piece.mid % 2 ^ 32
+
 -- The fragment says what the TSN bears that is so many after the first.
 pub record SaysAt (log : List Slot) (number : ℕ) (part : Fragment) : Type 0 where
   pub slot : Slot
   pub at : at_place number log ≡ Some slot
   pub says : SaysSlot part slot
+  pub named : IsNamed log part
 
 -- The items in flight are those of the newest TSNs. `first` is the first TSN of the association, and `acknowledged` how many were
 -- acknowledged cumulatively.
@@ -34,6 +45,8 @@ pub record Stands (queued : List Message) (log : List Slot) (first acknowledged 
   pub queue_holds : HoldsQueued queued log stage.waiting.streams stage.waiting.under_way
   pub cut : Cut queued log
   pub bears : Bears log first acknowledged stage.queue.outstanding
+  pub numbers : Numbered log stage.waiting
+  pub kind : stage.queue.outstanding.is_interleaved ≡ stage.waiting.is_interleaved
 
 -- So it is again; more TSNs may have been assigned.
 pub record Stays (queued : List Message) (log : List Slot) (first acknowledged : ℕ) (new : Stage) : Type 0 where
@@ -46,6 +59,7 @@ pub record IsOfLog (log : List Slot) (first : ℕ) (is_interleaved : Bool) (chun
   pub part : Fragment
   pub says : SaysAt log number part
   pub is : chunk ≡ unworked (chunk_said is_interleaved ((first + number) % 2 ^ 32) part)
+  pub kind : KindAt is_interleaved log number
 
 -- Each does.
 abbrev pub AreOfLog : List Slot → ℕ → Bool → List Plain → Type 0

@@ -3,6 +3,7 @@
 ghost use Rattle.dcsctp_delivery_sending.specs.Acknowledged.{AcknowledgingKeeps, LosingKeeps};
 ghost use Rattle.dcsctp_delivery_sending.specs.Flushes.{FlushesSendPieces};
 ghost use Rattle.dcsctp_delivery_sending.specs.Marking.{AllAreMarked, AllMarkedFit, AllMarkedKeep, GoneAreMarked, MarkedIsSpent, MarkingFits, MarkingKeeps};
+ghost use Rattle.dcsctp_delivery_sending.specs.Numbers.{LogsAreTold};
 ghost use Rattle.dcsctp_delivery_sending.specs.Pieces.{PiecesFollow};
 ghost use Rattle.dcsctp_delivery_sending.specs.Queueing.{QueueingKeeps, KeptQueuesHold, RestartedQueuesHold, SettingKeeps, PreparingKeeps, CommittingKeeps, RollingBackKeeps};
 ghost use Rattle.dcsctp_delivery_sending.specs.Stages.{PacketsBearPieces, GivingUpKeeps};
@@ -33,6 +34,11 @@ pub fn acknowledging_keeps()
 /// assigned.
 pub fn flushes_send_pieces()
     ensures { FlushesSendPieces }
+{}
+
+/// With interleaving no two messages of a stream have one number in an association (RFC 8260, section 2.1).
+pub fn numbers_tell_apart()
+    ensures { LogsAreTold }
 {}
 
 /// A message that is queued waits after the others of its stream, under the next identifier. What waits outlasts

@@ -29,7 +29,7 @@ use Rattle.dcsctp_delivery_associations.proofs.SenderTurns.{sender_turns}
 use Rattle.dcsctp_delivery_associations.proofs.ReceiverTurns.{receiver_turns}
 use Rattle.dcsctp_delivery_sockets.specs.Acts.{queued_through, AreTurns, AreNewPeers}
 use Rattle.dcsctp_delivery_sockets.specs.Echoes.{GoesToMaker}
-use Rattle.dcsctp_delivery_sockets.specs.Packets.{reads_through, IsNotInterleaved, AreNewTags}
+use Rattle.dcsctp_delivery_sockets.specs.Packets.{reads_through, AreNewTags}
 use Rattle.dcsctp_delivery_sockets.proofs.Calls.{NoChunk, NoChunks}
 use Rattle.dcsctp_delivery_sockets.proofs.PacketTurns.{packet_goes}
 
@@ -49,8 +49,8 @@ module _ (options : Options) (d : Endpoint) (their_past : List Effect) (reads : 
   senders_act [] e queued past packets h taken new few = subst (λ (l : List Emission). AreEnds options e queued past l d their_past reads) (sym (append-nil packets)) h
   senders_act (t ∷ turns) e queued past packets h taken new few =
       let grows = queued_grows t.outcome.after turns (queued_after e t.input queued) in
-      let first = sender_turns options h.ends e queued past packets d their_past reads h.between t.input t.outcome new.1 (omega (arith, few, grows)) new.0 taken.0 in
-      let rest = senders_act turns t.outcome.after (queued_after e t.input queued) (after_effects t.outcome.effects past) (packets ++ packets_in t.outcome.events) first taken.1 new.2 few in
+      let first = sender_turns options h.ends e queued past packets d their_past reads h.between t.input t.outcome new.1 (omega (arith, few, grows)) new.0 new.2 taken.0 in
+      let rest = senders_act turns t.outcome.after (queued_after e t.input queued) (after_effects t.outcome.effects past) (packets ++ packets_in t.outcome.events) first taken.1 new.3 few in
       subst (λ (l : List Effect). AreEnds options (after_all t.outcome.after turns) (queued_through t.outcome.after turns (queued_after e t.input queued)) l (packets ++ packets_in (t.outcome.events ++ events_of turns)) d their_past reads)
       (sym (after_effects-append t.outcome.effects (effects_of turns) past))
       (subst (λ (l : List Emission). AreEnds options (after_all t.outcome.after turns) (queued_through t.outcome.after turns (queued_after e t.input queued)) (after_effects (effects_of turns) (after_effects t.outcome.effects past)) l d their_past reads)
@@ -80,8 +80,8 @@ module _ (options : Options) (e : Endpoint) (queued : List Message) (past : List
       → AreEnds options e queued past packets (after_all d turns) (after_effects (effects_of turns) their_past) (reads_through d turns reads)
   receivers_act [] d their_past reads h none taken may new = h
   receivers_act (t ∷ turns) d their_past reads h none taken may new =
-      let first = receiver_turns options h.ends e queued past packets d their_past reads h.between few new.0 t.input t.outcome new.1 (λ transfer link there linked. none_sent (h.ends.sends link.my.tag).sent t.input none.0) may.0 taken.0 in
-      let rest = receivers_act turns t.outcome.after (after_effects t.outcome.effects their_past) (reads_after d t.input reads) first none.1 taken.1 may.1 new.2 in
+      let first = receiver_turns options h.ends e queued past packets d their_past reads h.between few new.0 t.input t.outcome new.1 (λ transfer link there linked. none_sent (h.ends.sends link.my.tag).sent t.input none.0) may.0 new.2 taken.0 in
+      let rest = receivers_act turns t.outcome.after (after_effects t.outcome.effects their_past) (reads_after d t.input reads) first none.1 taken.1 may.1 new.3 in
       subst (λ (l : List Effect). AreEnds options e queued past packets (after_all t.outcome.after turns) l (reads_through t.outcome.after turns (reads_after d t.input reads)))
       (sym (after_effects-append t.outcome.effects (effects_of turns) their_past)) rest
 
@@ -90,10 +90,10 @@ module _ (options : Options) (e : Endpoint) (queued : List Message) (past : List
       (subst NoChunk (sym turn.is) none, subst IsCall (sym turn.is) may, subst (λ (i : Input). Turn d i t.outcome) (sym turn.is) turn.comes)
 
   pub receivers_handle : (d : Endpoint) (their_past : List Effect) (reads : List Read) (emission : Emission) (bytes : List ℕ) (turns : List Turned) → AreEnds options e queued past packets d their_past reads → places.Has emission packets
-      → GoesToMaker emission → AllByRecursion IsNotInterleaved emission.packet.contents → ((packet : PacketContent) → IsPacket (wire_options d.options) packet bytes → packet_in packet ≡ emission.packet)
+      → GoesToMaker emission → ((packet : PacketContent) → IsPacket (wire_options d.options) packet bytes → packet_in packet ≡ emission.packet)
       → AreNewTags options their_past past d turns → HandleInput d bytes turns
       → AreEnds options e queued past packets (after_all d turns) (after_effects (effects_of turns) their_past) (reads_through d turns reads)
-  receivers_handle d their_past reads emission bytes turns h has go not is new (unreadable ts unread taken) = two ts new taken
+  receivers_handle d their_past reads emission bytes turns h has go is new (unreadable ts unread taken) = two ts new taken
     where
       two : (turns : List Turned) → AreNewTags options their_past past d turns → Turns d (arrival ∷ refusal unreadable_text ∷ []) turns
           → AreEnds options e queued past packets (after_all d turns) (after_effects (effects_of turns) their_past) (reads_through d turns reads)
@@ -104,9 +104,9 @@ module _ (options : Options) (e : Endpoint) (queued : List Message) (past : List
           let b = one_turn t.outcome.after their_past reads (refusal unreadable_text) u tt tt taken.1.0 in
           receivers_act (t ∷ u ∷ []) d their_past reads h (a.0, (b.0, tt)) (a.2, (b.2, tt)) (a.1, (b.1, tt)) new
       two (t ∷ u ∷ v ∷ turns) new taken = absurd taken.1.1
-  receivers_handle d their_past reads emission bytes turns h has go not is new (readable packet counted ts is_packet counting admitted) =
+  receivers_handle d their_past reads emission bytes turns h has go is new (readable packet counted ts is_packet counting admitted) =
       let a = one_turn d their_past reads arrival counted tt tt counting in
-      let first = receivers_act (counted ∷ []) d their_past reads h (a.0, tt) (a.2, tt) (a.1, tt) (new.0, new.1, tt) in
+      let first = receivers_act (counted ∷ []) d their_past reads h (a.0, tt) (a.2, tt) (a.1, tt) (new.0, new.1, new.2, tt) in
       let core : counted.outcome.after.core ≡ d.core = ap (λ (x : Outcome). x.after.core) counting.comes in
       let same : AdmittedTurns counted.outcome.after emission.packet (admits counted.outcome.after.core emission.packet) ts =
       subst (λ (c : Core). AdmittedTurns counted.outcome.after emission.packet (admits c emission.packet) ts) (sym core)
@@ -114,5 +114,5 @@ module _ (options : Options) (e : Endpoint) (queued : List Message) (past : List
       subst (λ (l : List Effect). AreEnds options e queued past packets (after_all counted.outcome.after ts) l (reads_through counted.outcome.after ts (reads_after d counted.input reads)))
       (sym (after_effects-append counted.outcome.effects (effects_of ts) their_past))
       (packet_goes options e queued past packets few emission has counted.outcome.after (after_effects counted.outcome.effects their_past) (reads_after d counted.input reads) ts
-      (subst (λ (l : List Effect). AreEnds options e queued past packets counted.outcome.after (after_effects l their_past) (reads_after d counted.input reads)) (append-nil counted.outcome.effects) first) new.2 not go
+      (subst (λ (l : List Effect). AreEnds options e queued past packets counted.outcome.after (after_effects l their_past) (reads_after d counted.input reads)) (append-nil counted.outcome.effects) first) new.3 go
       (admits counted.outcome.after.core emission.packet) refl same)

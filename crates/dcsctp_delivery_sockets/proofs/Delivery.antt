@@ -30,7 +30,7 @@ use Rattle.dcsctp_delivery_associations.proofs.Delivers.{ends_begin, ends_delive
 use Rattle.dcsctp_delivery_directions.specs.Directions.{Delivered}
 use Rattle.dcsctp_delivery_sockets.specs.Echoes.{GoesToMaker}
 use Rattle.dcsctp_delivery_sockets.specs.UserMessages.{sent_of, read_of, IsDelivered}
-use Rattle.dcsctp_delivery_sockets.specs.Delivery.{FitsStep, AreInMemory, MatchByTags, SendsLittle, HasNoInterleaved, AllowsDelivery, Delivers, SocketsDeliver}
+use Rattle.dcsctp_delivery_sockets.specs.Delivery.{FitsStep, AreInMemory, MatchByTags, SendsLittle, AllowsDelivery, Delivers, SocketsDeliver}
 use Rattle.dcsctp_delivery_sockets.proofs.Calls.{AreCalls, call_without, call_is, input_is}
 use Rattle.dcsctp_delivery_sockets.proofs.Echoes.{echoes_go_to_makers}
 use Rattle.dcsctp_delivery_sockets.proofs.NewLinks.{KeepsOptions, AllOpenFitting, none_open, matched_swapped, packet_opens}
@@ -139,13 +139,13 @@ keeps_options : (e : Endpoint) (t : Turned) → Moves e t.outcome → KeepsOptio
 keeps_options e t (it_rests core options effects told) = options
 keeps_options e t (it_moves change turn is) = is.options
 
-good_one : (event : Event Emission) → OfSent IsSendable event → OfSent GoesToMaker event → OfSent HasNoInterleaved event → OfSent GoodPacket event
-good_one (sent emission) sendable goes plain = record { sendable = sendable; goes = goes; plain = plain }
-good_one event sendable goes plain = tt
+good_one : (event : Event Emission) → OfSent IsSendable event → OfSent GoesToMaker event → OfSent GoodPacket event
+good_one (sent emission) sendable goes = record { sendable = sendable; goes = goes }
+good_one event sendable goes = tt
 
-good_all : (events : List (Event Emission)) → AllSent IsSendable events → AllSent GoesToMaker events → AllSent HasNoInterleaved events → AllSent GoodPacket events
-good_all [] sendable goes plain = tt
-good_all (event ∷ events) sendable goes plain = (good_one event sendable.0 goes.0 plain.0, good_all events sendable.1 goes.1 plain.1)
+good_all : (events : List (Event Emission)) → AllSent IsSendable events → AllSent GoesToMaker events → AllSent GoodPacket events
+good_all [] sendable goes = tt
+good_all (event ∷ events) sendable goes = (good_one event sendable.0 goes.0, good_all events sendable.1 goes.1)
 
 both_known : DeliveryLaws → (options : Both Options) (run : List Worked) → AreUsable options → SocketRun options run → AreHonest (acts_of run) → AreFresh (turns_after run) → AllowsDelivery options (turns_after run)
     → BothKnown options (turns_after run)
@@ -156,7 +156,8 @@ both_known law options run are runs honest fresh allows =
         own = run_along IsOwn own_turn options run runs sides.A;
         keeps = of_moves law.moves KeepsOptions keeps_options options run are runs sides.A;
         packets = good_all (events_of (turns_after run).a) (all_sent_map (λ emission went. went.sendable) (events_of (turns_after run).a) j.a.went)
-            (echoes_go_to_makers law.below law.answers options run are runs honest fresh sides.A) (allows.without_interleaving sides.A);
+            (echoes_go_to_makers law.below law.answers options run are runs honest fresh sides.A);
+        numbers = allows.numbers sides.A;
         tags = allows.tags.a;
         little = allows.little sides.A;
       };
@@ -164,7 +165,8 @@ both_known law options run are runs honest fresh allows =
         own = run_along IsOwn own_turn options run runs sides.B;
         keeps = of_moves law.moves KeepsOptions keeps_options options run are runs sides.B;
         packets = good_all (events_of (turns_after run).b) (all_sent_map (λ emission went. went.sendable) (events_of (turns_after run).b) j.b.went)
-            (echoes_go_to_makers law.below law.answers options run are runs honest fresh sides.B) (allows.without_interleaving sides.B);
+            (echoes_go_to_makers law.below law.answers options run are runs honest fresh sides.B);
+        numbers = allows.numbers sides.B;
         tags = allows.tags.b;
         little = allows.little sides.B;
       };

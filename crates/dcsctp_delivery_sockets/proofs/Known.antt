@@ -20,7 +20,7 @@ use Rattle.dcsctp_machine_refinement.specs.Agreement.{noted_past}
 use Rattle.dcsctp_delivery_sockets.specs.Acts.{AreTurns}
 use Rattle.dcsctp_delivery_sockets.specs.Echoes.{GoesToMaker}
 use Rattle.dcsctp_delivery_sockets.specs.UserMessages.{sent_in, sent_of}
-use Rattle.dcsctp_delivery_sockets.specs.Delivery.{IsOfNewTags, MatchByTags, weight_of, SendsLittle, HasNoInterleaved}
+use Rattle.dcsctp_delivery_sockets.specs.Delivery.{IsOfNewTags, MatchByTags, weight_of, SendsLittle, KeepsNumbers}
 use Rattle.dcsctp_delivery_sockets.proofs.NewLinks.{KeepsOptions, each_earlier, matched_earlier}
 use Rattle.dcsctp_delivery_sockets.proofs.UserMessages.{weight_append}
 
@@ -63,11 +63,11 @@ sent_more e (t ∷ turns) more =
 pub record GoodPacket (emission : Emission) : Type 0 where
   pub sendable : IsSendable emission
   pub goes : GoesToMaker emission
-  pub plain : HasNoInterleaved emission
 
 pub record SideKnown (options : Options) (turns : List Turned) : Type 0 where
   pub own : AlongTurns IsOwn (fresh_endpoint options) turns
   pub keeps : AlongTurns KeepsOptions (fresh_endpoint options) turns
+  pub numbers : AlongTurns KeepsNumbers (fresh_endpoint options) turns
   pub packets : AllSent GoodPacket (events_of turns)
   pub tags : Each IsOfNewTags (noted_past turns)
   pub little : SendsLittle options turns
@@ -77,6 +77,7 @@ side_front options turns more h =
     record {
       own = along_front IsOwn (fresh_endpoint options) turns more h.own;
       keeps = along_front KeepsOptions (fresh_endpoint options) turns more h.keeps;
+      numbers = along_front KeepsNumbers (fresh_endpoint options) turns more h.numbers;
       packets = sent_front GoodPacket (events_of turns) (events_of more) (subst (AllSent GoodPacket) (events_of-append turns more) h.packets);
       tags = each_earlier IsOfNewTags (effects_of more) (noted_past turns) (subst (Each IsOfNewTags) (past_more turns more) h.tags);
       little =
@@ -91,6 +92,9 @@ rest_turns options turns more h = are_turns (endpoint_after options turns) more 
 
 pub rest_keeps : (options : Options) (turns more : List Turned) → SideKnown options (turns ++ more) → AlongTurns KeepsOptions (endpoint_after options turns) more
 rest_keeps options turns more h = along_rest KeepsOptions (fresh_endpoint options) turns more h.keeps
+
+pub rest_numbers : (options : Options) (turns more : List Turned) → SideKnown options (turns ++ more) → AlongTurns KeepsNumbers (endpoint_after options turns) more
+rest_numbers options turns more h = along_rest KeepsNumbers (fresh_endpoint options) turns more h.numbers
 
 -- ---- both sides
 

@@ -24,7 +24,7 @@ use Rattle.dcsctp_delivery_turns.specs.Actions.{came_by, IsOpening, Begun}
 use Rattle.dcsctp_delivery_associations.specs.Ends.{NewPeer, NewTag}
 use Rattle.dcsctp_delivery_sockets.specs.Acts.{AreNewPeers}
 use Rattle.dcsctp_delivery_sockets.specs.Packets.{AreNewTags}
-use Rattle.dcsctp_delivery_sockets.specs.Delivery.{IsOfNewTags, MatchByTags}
+use Rattle.dcsctp_delivery_sockets.specs.Delivery.{KeepsNumbers, IsOfNewTags, MatchByTags}
 use Rattle.dcsctp_delivery_sockets.proofs.Calls.{NoChunk, NoChunks, AreCalls}
 
 -- ---- where an association begins, its numbers fit
@@ -182,14 +182,15 @@ module _ (e : Endpoint) (o : Outcome) (begun : Begun e o) (rest past their_past 
 after_first : (first rest past : List Effect) → after_effects (first ++ rest) past ≡ after_effects rest (after_effects first past)
 after_first first rest past = after_effects-append first rest past
 
-pub new_peers : (their_past : List Effect) (turns : List Turned) (past : List Effect) (e : Endpoint) → AreCalls turns → AllOpenFitting turns → Each IsOfNewTags (after_effects (effects_of turns) past)
+pub new_peers : (their_past : List Effect) (turns : List Turned) (past : List Effect) (e : Endpoint) → AreCalls turns → AlongTurns KeepsNumbers e turns → AllOpenFitting turns → Each IsOfNewTags (after_effects (effects_of turns) past)
     → MatchByTags (after_effects (effects_of turns) past) their_past → AreNewPeers past their_past e turns
-new_peers their_past [] past e calls opens each matched = tt
-new_peers their_past (t ∷ turns) past e calls opens each matched =
+new_peers their_past [] past e calls numbers opens each matched = tt
+new_peers their_past (t ∷ turns) past e calls numbers opens each matched =
     let split = after_first t.outcome.effects (effects_of turns) past in (
       calls.0,
       (λ begun opening linked. new_peer e t.outcome begun (effects_of turns) past their_past (opens.0 opening) linked each matched),
-      new_peers their_past turns (after_effects t.outcome.effects past) t.outcome.after calls.1 opens.1 (subst (Each IsOfNewTags) split each)
+      numbers.0,
+      new_peers their_past turns (after_effects t.outcome.effects past) t.outcome.after calls.1 numbers.1 opens.1 (subst (Each IsOfNewTags) split each)
           (subst (λ (p : List Effect). MatchByTags p their_past) split matched),
     )
 
@@ -197,13 +198,14 @@ new_peers their_past (t ∷ turns) past e calls opens each matched =
 abbrev pub KeepsOptions : Endpoint → Turned → Type 0
 KeepsOptions e turn = SameOptions e.options turn.outcome.after.options
 
-pub new_tags : (options : Options) (past : List Effect) (turns : List Turned) (their_past : List Effect) (e : Endpoint) → SameOptions options e.options → AlongTurns KeepsOptions e turns → AllOpenFitting turns
+pub new_tags : (options : Options) (past : List Effect) (turns : List Turned) (their_past : List Effect) (e : Endpoint) → SameOptions options e.options → AlongTurns KeepsOptions e turns → AlongTurns KeepsNumbers e turns → AllOpenFitting turns
     → Each IsOfNewTags (after_effects (effects_of turns) their_past) → MatchByTags (after_effects (effects_of turns) their_past) past → AreNewTags options their_past past e turns
-new_tags options past [] their_past e own along opens each matched = tt
-new_tags options past (t ∷ turns) their_past e own along opens each matched =
+new_tags options past [] their_past e own along numbers opens each matched = tt
+new_tags options past (t ∷ turns) their_past e own along numbers opens each matched =
     let split = after_first t.outcome.effects (effects_of turns) their_past in (
       own,
       (λ begun opening linked. new_tag e t.outcome begun (effects_of turns) their_past past (opens.0 opening) linked each matched),
-      new_tags options past turns (after_effects t.outcome.effects their_past) t.outcome.after (same_after options e.options t.outcome.after.options own along.0) along.1 opens.1 (subst (Each IsOfNewTags) split each)
+      numbers.0,
+      new_tags options past turns (after_effects t.outcome.effects their_past) t.outcome.after (same_after options e.options t.outcome.after.options own along.0) along.1 numbers.1 opens.1 (subst (Each IsOfNewTags) split each)
           (subst (λ (p : List Effect). MatchByTags p past) split matched),
     )

@@ -13,13 +13,12 @@ use Rattle.dcsctp_machine.specs.turns.HandshakeOutcomes.{echo_emission, EchoAnsw
 use Rattle.dcsctp_machine.specs.Turn.{Input, Turn}
 use Rattle.dcsctp_delivery_sending.specs.Places as places
 use Rattle.dcsctp_delivery_sending.specs.Flushes.{NoContent, NoData}
-use Rattle.dcsctp_delivery_turns.specs.Actions.{came_by, IsOpening, Becomes, goes_on, ends, begins, IsCall}
+use Rattle.dcsctp_delivery_turns.specs.Actions.{came_by, IsOpening, Becomes, goes_on, ends, begins, IsCall, ResetsNone}
 use Rattle.dcsctp_delivery_turns.specs.Sides.{WasIn, WasSent}
 use Rattle.dcsctp_delivery_turns.proofs.Tags.{flush_link}
 use Rattle.dcsctp_delivery_turns.proofs.Turns.{turns_are_actions}
 use Rattle.dcsctp_delivery_associations.specs.Ends.{Ends, IsOfEnds, AreOfEnds}
 use Rattle.dcsctp_delivery_sockets.specs.Echoes.{MayFollow}
-use Rattle.dcsctp_delivery_sockets.specs.Packets.{IsNotInterleaved}
 
 -- ---- what was sent
 
@@ -51,37 +50,37 @@ module _ (table : Ends) (emission : Emission) (is : IsOfEnds table emission) (e 
       go (inr (free, inl zero)) = absurd (some (tag link linked ∙ zero))
       go (inr (free, inr was)) = record { emission = emission; was = subst (λ (t : ℕ). places.Has emission (table.sends t).sent) (sym (tag link linked)) was; holds = has }
 
-  pub was_sent : (content : Content) → IsNotInterleaved content → MayHandle emission e content → WasSent (table.sends link.my.tag).sent (Some content)
-  was_sent (plain (unworked (data_chunk chunk))) not may = was_in (data_chunk chunk) (λ none. none) may
-  was_sent (plain (unworked (forward_tsn_chunk tsn streams))) not may = was_in (forward_tsn_chunk tsn streams) (λ none. none) may
-  was_sent (plain (unworked (i_data_chunk chunk))) not may = absurd not
-  was_sent (plain (unworked (i_forward_tsn_chunk tsn streams))) not may = absurd not
-  was_sent (plain (unworked (init_chunk c))) not may = tt
-  was_sent (plain (unworked (init_ack_chunk c))) not may = tt
-  was_sent (plain (unworked (sack_chunk c))) not may = tt
-  was_sent (plain (unworked (heartbeat_chunk c))) not may = tt
-  was_sent (plain (unworked (heartbeat_ack_chunk c))) not may = tt
-  was_sent (plain (unworked (abort_chunk t c))) not may = tt
-  was_sent (plain (unworked (shutdown_chunk c))) not may = tt
-  was_sent (plain (unworked shutdown_ack_chunk)) not may = tt
-  was_sent (plain (unworked (error_chunk c))) not may = tt
-  was_sent (plain (unworked (cookie_echo_chunk c))) not may = tt
-  was_sent (plain (unworked cookie_ack_chunk)) not may = tt
-  was_sent (plain (unworked (shutdown_complete_chunk c))) not may = tt
-  was_sent (plain (unworked (re_config_chunk c))) not may = tt
-  was_sent (plain (unworked (unknown_chunk t f v))) not may = tt
-  was_sent (plain (unknown t f v)) not may = tt
-  was_sent (plain (heartbeat c)) not may = tt
-  was_sent (plain (heartbeat_ack c)) not may = tt
-  was_sent (init c) not may = tt
-  was_sent (init_ack c k) not may = tt
-  was_sent (cookie_echo c) not may = tt
-  was_sent cookie_ack not may = tt
-  was_sent (re_config c) not may = tt
-  was_sent (abort t c) not may = tt
-  was_sent (shutdown c) not may = tt
-  was_sent shutdown_ack not may = tt
-  was_sent (shutdown_complete t) not may = tt
+  pub was_sent : (content : Content) → MayHandle emission e content → WasSent (table.sends link.my.tag).sent (Some content)
+  was_sent (plain (unworked (data_chunk chunk))) may = was_in (data_chunk chunk) (λ none. none) may
+  was_sent (plain (unworked (forward_tsn_chunk tsn streams))) may = was_in (forward_tsn_chunk tsn streams) (λ none. none) may
+  was_sent (plain (unworked (i_data_chunk chunk))) may = was_in (i_data_chunk chunk) (λ none. none) may
+  was_sent (plain (unworked (i_forward_tsn_chunk tsn streams))) may = was_in (i_forward_tsn_chunk tsn streams) (λ none. none) may
+  was_sent (plain (unworked (init_chunk c))) may = tt
+  was_sent (plain (unworked (init_ack_chunk c))) may = tt
+  was_sent (plain (unworked (sack_chunk c))) may = tt
+  was_sent (plain (unworked (heartbeat_chunk c))) may = tt
+  was_sent (plain (unworked (heartbeat_ack_chunk c))) may = tt
+  was_sent (plain (unworked (abort_chunk t c))) may = tt
+  was_sent (plain (unworked (shutdown_chunk c))) may = tt
+  was_sent (plain (unworked shutdown_ack_chunk)) may = tt
+  was_sent (plain (unworked (error_chunk c))) may = tt
+  was_sent (plain (unworked (cookie_echo_chunk c))) may = tt
+  was_sent (plain (unworked cookie_ack_chunk)) may = tt
+  was_sent (plain (unworked (shutdown_complete_chunk c))) may = tt
+  was_sent (plain (unworked (re_config_chunk c))) may = tt
+  was_sent (plain (unworked (unknown_chunk t f v))) may = tt
+  was_sent (plain (unknown t f v)) may = tt
+  was_sent (plain (heartbeat c)) may = tt
+  was_sent (plain (heartbeat_ack c)) may = tt
+  was_sent (init c) may = tt
+  was_sent (init_ack c k) may = tt
+  was_sent (cookie_echo c) may = tt
+  was_sent cookie_ack may = tt
+  was_sent (re_config c) may = tt
+  was_sent (abort t c) may = tt
+  was_sent (shutdown c) may = tt
+  was_sent shutdown_ack may = tt
+  was_sent (shutdown_complete t) may = tt
 
 -- ---- the tag of the association, chunk by chunk
 
@@ -91,8 +90,8 @@ by_becomes tag e came o not is (ends none unread last makes below) = λ link the
 by_becomes tag e came o not is (begins begun opening linked alike unread makes) = absurd (not opening)
 
 -- A chunk that begins no association leaves its tag.
-pub tag_stays : (tag : ℕ) (e : Endpoint) (input : Input) (o : Outcome) → (IsOpening (came_by input) → ⊥) → IsCall input → TagIs tag e → Turn e input o → TagIs tag o.after
-tag_stays tag e input o not may is turn = by_becomes tag e (came_by input) o not is (turns_are_actions e input o may turn)
+pub tag_stays : (tag : ℕ) (e : Endpoint) (input : Input) (o : Outcome) → (IsOpening (came_by input) → ⊥) → IsCall input → ResetsNone e o → TagIs tag e → Turn e input o → TagIs tag o.after
+tag_stays tag e input o not may none is turn = by_becomes tag e (came_by input) o not is (turns_are_actions e input o may none turn)
 
 pub not_opening : (content : Content) → MayFollow content → IsOpening (Some content) → ⊥
 not_opening (init introduction) may opening = opening

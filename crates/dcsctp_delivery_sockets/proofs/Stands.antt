@@ -29,7 +29,7 @@ use Rattle.dcsctp_delivery_sockets.specs.Delivery.{IsOfNewTags, MatchByTags, wei
 use Rattle.dcsctp_delivery_sockets.proofs.Acts.{senders_act, receivers_act, receivers_handle}
 use Rattle.dcsctp_delivery_sockets.proofs.Calls.{NoChunks, AreCalls, call_without}
 use Rattle.dcsctp_delivery_sockets.proofs.NewLinks.{AllOpenFitting, none_open, matched_swapped, new_peers, new_tags}
-use Rattle.dcsctp_delivery_sockets.proofs.Known.{past_more, GoodPacket, SideKnown, rest_turns, rest_keeps}
+use Rattle.dcsctp_delivery_sockets.proofs.Known.{past_more, GoodPacket, SideKnown, rest_turns, rest_keeps, rest_numbers}
 use Rattle.dcsctp_delivery_sockets.proofs.UserMessages.{SaysSame, nothing_same, turns_same}
 
 -- ---- what two sockets have done
@@ -91,7 +91,7 @@ sender_more mine theirs turns others more h known matched calls opens =
     let e : Endpoint = endpoint_after mine turns in
     let past : List Effect = noted_past turns in
     let new : AreNewPeers past (noted_past others) e more =
-    new_peers (noted_past others) more past e calls opens (subst (Each IsOfNewTags) (past_more turns more) known.tags)
+    new_peers (noted_past others) more past e calls (rest_numbers mine turns more known) opens (subst (Each IsOfNewTags) (past_more turns more) known.tags)
     (subst (λ (p : List Effect). MatchByTags p (noted_past others)) (past_more turns more) matched) in
     let few : length (queued_through e more (queued_of mine turns)) < 2 ^ 64 =
     subst (λ (q : List Message). length q < 2 ^ 64) (queued_more (fresh_endpoint mine) turns more []) (few_queued mine (turns ++ more) known.little) in
@@ -114,7 +114,7 @@ module _ (mine theirs : Options) (turns others more : List Turned) (h : Stand mi
     (own : SameOptions theirs (endpoint_after theirs others).options) (little : SendsLittle mine turns) where
   their_tags : AllOpenFitting more → AreNewTags theirs (noted_past others) (noted_past turns) (endpoint_after theirs others) more
   their_tags opens =
-      new_tags theirs (noted_past turns) more (noted_past others) (endpoint_after theirs others) own (rest_keeps theirs others more known) opens (subst (Each IsOfNewTags) (past_more others more) known.tags)
+      new_tags theirs (noted_past turns) more (noted_past others) (endpoint_after theirs others) own (rest_keeps theirs others more known) (rest_numbers theirs others more known) opens (subst (Each IsOfNewTags) (past_more others more) known.tags)
       (subst (λ (p : List Effect). MatchByTags p (noted_past turns)) (past_more others more) (matched_swapped (noted_past turns) (noted_past (others ++ more)) matched))
 
   now_stands : AreEnds theirs (endpoint_after mine turns) (queued_of mine turns) (noted_past turns) (packets_of turns) (after_all (endpoint_after theirs others) more) (after_effects (effects_of more) (noted_past others))
@@ -135,4 +135,4 @@ module _ (mine theirs : Options) (turns others more : List Turned) (h : Stand mi
       → Stand mine theirs turns (others ++ more)
   receiver_handles bytes emission has good is taken opens =
       now_stands (receivers_handle theirs (endpoint_after mine turns) (queued_of mine turns) (noted_past turns) (packets_of turns) (few_queued mine turns little) (endpoint_after theirs others) (noted_past others)
-      (reads_of theirs others) emission bytes more h has good.goes good.plain is (their_tags opens) taken)
+      (reads_of theirs others) emission bytes more h has good.goes is (their_tags opens) taken)

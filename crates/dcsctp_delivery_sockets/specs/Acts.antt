@@ -1,4 +1,4 @@
--- What two sockets do one after another, and all their associations. So far without interleaving.
+-- What two sockets do one after another, and all their associations.
 use Rattle.std.specs.Prelude.{◌≡◌, ◌<◌, ◌^◌, ℕ, Some, List, [], ◌∷◌, ◌++◌, length}
 use Rattle.std.specs.List.{AllByRecursion}
 use Rattle.dcsctp_wire.specs.Content.{PacketContent}
@@ -16,12 +16,12 @@ use Rattle.dcsctp_machine.specs.World.{after_effects}
 use Rattle.dcsctp_machine.specs.control.Effect.{Effect, link_of, link_in}
 use Rattle.dcsctp_delivery_sending.specs.Log.{Message}
 use Rattle.dcsctp_delivery_sending.specs.Places as places
-use Rattle.dcsctp_delivery_turns.specs.Actions.{came_by, queued_after, IsOpening, Begun, IsCall}
+use Rattle.dcsctp_delivery_turns.specs.Actions.{came_by, queued_after, IsOpening, Begun, IsCall, ResetsNone}
 use Rattle.dcsctp_delivery_associations.specs.Ends.{Ends, NewPeer, Between}
 use Rattle.dcsctp_delivery_associations.specs.Laws.{AreEnds}
 use Rattle.dcsctp_delivery_associations.specs.Reads.{Read}
 use Rattle.dcsctp_delivery_sockets.specs.Echoes.{GoesToMaker}
-use Rattle.dcsctp_delivery_sockets.specs.Packets.{reads_through, IsNotInterleaved, AreNewTags}
+use Rattle.dcsctp_delivery_sockets.specs.Packets.{reads_through, AreNewTags}
 
 -- the messages that were queued, newest first, with those that these turns queue
 abbrev pub queued_through : Endpoint → List Turned → List Message → List Message
@@ -34,11 +34,13 @@ AreTurns e [] = Unit {0}
 AreTurns e (turn ∷ turns) = Turn e turn.input turn.outcome × AreTurns turn.outcome.after turns
 
 -- Each input is a call, a timer or a chunk; and an association that begins has a peer of a new tag, and the matching one at the other side.
+-- With interleaving no own reset is performed.
 abbrev pub AreNewPeers : List Effect → List Effect → Endpoint → List Turned → Type 0
 AreNewPeers past their_past e [] = Unit {0}
 AreNewPeers past their_past e (turn ∷ turns) =
     IsCall turn.input
     × ((begun : Begun e turn.outcome) → IsOpening (came_by turn.input) → link_in turn.outcome.after.core ≡ Some (link_of begun.my begun.held) → NewPeer past their_past (link_of begun.my begun.held))
+    × ResetsNone e turn.outcome
     × AreNewPeers (after_effects turn.outcome.effects past) their_past turn.outcome.after turns
 
 -- Turns of the sender leave what is known of all associations.
@@ -60,6 +62,6 @@ abbrev pub ReceiversHandle : Type 0
 ReceiversHandle =
     (options : Options) (ends : Ends) (e : Endpoint) (queued : List Message) (past : List Effect) (packets : List Emission) (other : Endpoint) (their_past : List Effect) (reads : List Read) (emission : Emission)
     (bytes : List ℕ) (turns : List Turned) → Between options ends e queued past packets other their_past reads → length queued < 2 ^ 64 → places.Has emission packets → GoesToMaker emission
-    → AllByRecursion IsNotInterleaved emission.packet.contents → ((packet : PacketContent) → IsPacket (wire_options other.options) packet bytes → packet_in packet ≡ emission.packet)
+    → ((packet : PacketContent) → IsPacket (wire_options other.options) packet bytes → packet_in packet ≡ emission.packet)
     → AreNewTags options their_past past other turns → HandleInput other bytes turns
     → AreEnds options e queued past packets (after_all other turns) (after_effects (effects_of turns) their_past) (reads_through other turns reads)

@@ -1,19 +1,17 @@
--- What a user reads is what its peer's user sent, over every list of honest acts of two sockets. So far without interleaving.
+-- What a user reads is what its peer's user sent, over every list of honest acts of two sockets, with interleaving or without.
 use Rattle.std.specs.Prelude.{◌≡◌, ◌≢◌, ◌⊎◌, ◌<◌, ◌+◌, ◌^◌, ℕ, suc, List, [], ◌∷◌, length}
 use Rattle.std.specs.List.{AllByRecursion}
 use Rattle.dcsctp_machine.specs.declared.options.Options.{Options}
 use Rattle.dcsctp_machine.specs.declared.schedule.Side.{Side}
 use Rattle.dcsctp_machine.specs.Schedule.{CallContent, send_call, send_many_call, StepContent, call_step, ActContent, step_act, AreHonest}
-use Rattle.dcsctp_machine.specs.CallTurns.{Turned, events_of}
-use Rattle.dcsctp_machine.specs.Endpoint.{fresh_endpoint}
-use Rattle.dcsctp_machine.specs.Fitting.{AllSent}
-use Rattle.dcsctp_machine.specs.Packet.{Emission}
+use Rattle.dcsctp_machine.specs.CallTurns.{Turned, AlongTurns}
+use Rattle.dcsctp_machine.specs.Endpoint.{Endpoint, fresh_endpoint}
 use Rattle.dcsctp_machine.specs.Past.{Has, Each}
 use Rattle.dcsctp_machine.specs.Sockets.{Worked, Both, of_side, of_other, turns_after, SocketRun, acts_of}
 use Rattle.dcsctp_machine.specs.control.Effect.{Link, Effect, holds}
 use Rattle.dcsctp_machine.specs.transfer.Messages.{MessageContent}
 use Rattle.dcsctp_machine_refinement.specs.Agreement.{AreUsable, AreFresh, noted_past}
-use Rattle.dcsctp_delivery_sockets.specs.Packets.{IsNotInterleaved}
+use Rattle.dcsctp_delivery_turns.specs.Actions.{ResetsNone}
 use Rattle.dcsctp_delivery_sockets.specs.UserMessages.{sent_of, read_of, IsDelivered}
 
 -- ---- messages in memory
@@ -68,10 +66,12 @@ weight_of (message ∷ messages) = suc (length message.payload) + weight_of mess
 abbrev pub SendsLittle : Options → List Turned → Type 0
 SendsLittle options turns = weight_of (sent_of (fresh_endpoint options) turns) < 2 ^ 31
 
--- ---- without interleaving
+-- ---- with interleaving
 
-abbrev pub HasNoInterleaved : Emission → Type 0
-HasNoInterleaved emission = AllByRecursion IsNotInterleaved emission.packet.contents
+-- In an association with interleaving no reset of own streams is performed in this turn: their messages would be numbered from 0 again, as
+-- earlier ones of the association.
+abbrev pub KeepsNumbers : Endpoint → Turned → Type 0
+KeepsNumbers e turn = ResetsNone e turn.outcome
 
 -- ---- the theorem
 
@@ -79,7 +79,7 @@ HasNoInterleaved emission = AllByRecursion IsNotInterleaved emission.packet.cont
 pub record AllowsDelivery (options : Both Options) (turns : Both (List Turned)) : Type 0 where
   pub tags : TagsServeOnce turns
   pub little : (side : Side) → SendsLittle (of_side side options) (of_side side turns)
-  pub without_interleaving : (side : Side) → AllSent HasNoInterleaved (events_of (of_side side turns))
+  pub numbers : (side : Side) → AlongTurns KeepsNumbers (fresh_endpoint (of_side side options)) (of_side side turns)
 
 -- What this side's user read is what the other's user sent, and no message was read twice, in any association.
 abbrev pub Delivers : Both Options → Both (List Turned) → Side → Type 0

@@ -1,18 +1,16 @@
--- A packet that a sender sent, handled by the receiver: what is handled in an association was sent in it. So far without interleaving.
+-- A packet that a sender sent, handled by the receiver: what is handled in an association was sent in it.
 use Rattle.std.specs.Prelude.{◌<◌, ◌^◌, List, [], ◌∷◌, length, ◌≡◌, Some}
-use Rattle.std.specs.List.{AllByRecursion}
-use Rattle.dcsctp_wire.specs.Content.{i_data_chunk, i_forward_tsn_chunk}
 use Rattle.dcsctp_machine.specs.declared.options.Options.{Options}
 use Rattle.dcsctp_machine.specs.Settings.{SameOptions}
 use Rattle.dcsctp_machine.specs.Admission.{admits}
 use Rattle.dcsctp_machine.specs.CallTurns.{Turned, AdmittedTurns, after_all, effects_of}
 use Rattle.dcsctp_machine.specs.Endpoint.{Endpoint}
-use Rattle.dcsctp_machine.specs.Packet.{Content, unworked, plain, Emission}
+use Rattle.dcsctp_machine.specs.Packet.{Emission}
 use Rattle.dcsctp_machine.specs.World.{after_effects}
 use Rattle.dcsctp_machine.specs.control.Effect.{Effect, link_of, link_in}
 use Rattle.dcsctp_delivery_sending.specs.Log.{Message}
 use Rattle.dcsctp_delivery_sending.specs.Places as places
-use Rattle.dcsctp_delivery_turns.specs.Actions.{came_by, IsOpening, Begun}
+use Rattle.dcsctp_delivery_turns.specs.Actions.{came_by, IsOpening, Begun, ResetsNone}
 use Rattle.dcsctp_delivery_associations.specs.Ends.{Ends, NewTag, Between}
 use Rattle.dcsctp_delivery_associations.specs.Laws.{AreEnds}
 use Rattle.dcsctp_delivery_associations.specs.Reads.{Read, reads_after}
@@ -23,17 +21,13 @@ abbrev pub reads_through : Endpoint → List Turned → List Read → List Read
 reads_through e [] reads = reads
 reads_through e (turn ∷ turns) reads = reads_through turn.outcome.after turns (reads_after e turn.input reads)
 
--- The chunk is neither I-DATA nor I-FORWARD-TSN.
-abbrev pub IsNotInterleaved : Content → Type 0
-IsNotInterleaved (plain (unworked (i_data_chunk chunk))) = ⊥
-IsNotInterleaved (plain (unworked (i_forward_tsn_chunk tsn streams))) = ⊥
-IsNotInterleaved content = Unit {0}
-
 -- Each turn starts with these options, and an association that begins in it is of a new tag, and of the matching one at the other side.
+-- With interleaving no own reset is performed in it.
 abbrev pub AreNewTags : Options → List Effect → List Effect → Endpoint → List Turned → Type 0
 AreNewTags options their_past past e [] = Unit {0}
 AreNewTags options their_past past e (turn ∷ turns) =
     SameOptions options e.options × ((begun : Begun e turn.outcome) → IsOpening (came_by turn.input) → link_in turn.outcome.after.core ≡ Some (link_of begun.my begun.held) → NewTag their_past past (link_of begun.my begun.held))
+    × ResetsNone e turn.outcome
     × AreNewTags options (after_effects turn.outcome.effects their_past) past turn.outcome.after turns
 
 -- The chunks of a packet that the sender sent leave what is known of all associations.
@@ -41,5 +35,5 @@ abbrev pub PacketsKeepEnds : Type 0
 PacketsKeepEnds =
     (options : Options) (ends : Ends) (e : Endpoint) (queued : List Message) (past : List Effect) (packets : List Emission) (other : Endpoint) (their_past : List Effect) (reads : List Read) (emission : Emission)
     (turns : List Turned) → Between options ends e queued past packets other their_past reads → length queued < 2 ^ 64 → places.Has emission packets → GoesToMaker emission
-    → AllByRecursion IsNotInterleaved emission.packet.contents → AreNewTags options their_past past other turns → AdmittedTurns other emission.packet (admits other.core emission.packet) turns
+    → AreNewTags options their_past past other turns → AdmittedTurns other emission.packet (admits other.core emission.packet) turns
     → AreEnds options e queued past packets (after_all other turns) (after_effects (effects_of turns) their_past) (reads_through other turns reads)

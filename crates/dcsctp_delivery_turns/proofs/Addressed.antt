@@ -94,7 +94,7 @@ action_addressed : (came : Option Content) (to : ℕ) (old new : Ledger) → Are
 action_addressed came to old _ addressed (queues now sending fits some) = addressed
 action_addressed came to old _ addressed (sets setting) = addressed
 action_addressed came to old _ addressed (prepares ids) = addressed
-action_addressed came to old _ addressed commits = addressed
+action_addressed came to old _ addressed (commits go_on) = addressed
 action_addressed came to old _ addressed rolls_back = addressed
 action_addressed came to old _ addressed (flushes e draft answers same at tag no_data no_end allowed) =
     both_addressed to old.sent (packets_in (flush_of e draft answers).events) addressed
@@ -108,7 +108,7 @@ action_addressed came to old _ addressed (speaks emission no_data) = both_addres
 action_addressed came to old _ addressed (acknowledges now sack transfer new known valid does) = addressed
 action_addressed came to old _ addressed (loses now transfer known) = addressed
 action_addressed came to old _ addressed (receives chunk transfer new is some known does) = addressed
-action_addressed came to old _ addressed (receives_interleaved chunk transfer new is known does) = addressed
+action_addressed came to old _ addressed (receives_interleaved chunk transfer new is some known does) = addressed
 action_addressed came to old _ addressed (forwards tsn streams transfer new is known does) = addressed
 action_addressed came to old _ addressed (forwards_interleaved tsn streams transfer new is known does) = addressed
 action_addressed came to old _ addressed (tracks transfer tracked known cumulative ranges) = addressed

@@ -74,7 +74,7 @@ module _ (came : Option Content) (to : ℕ) where
   pub i_data_goes : (e : Endpoint) (chunk : IDataContent) (o : Outcome) → came ≡ Some (plain (unworked (i_data_chunk chunk))) → DataTurn e (i_data_arrival chunk) o → Goes came to e o
   i_data_goes e chunk o is turn =
       data_where_goes e (i_data_arrival chunk) (i_data_arrival chunk).chunk.payload o
-      (λ old new some known does. action_of came to e.below (with_transfer e new).below (λ queued sent read. actions.receives_interleaved chunk old new is known does)) turn
+      (λ old new some known does. action_of came to e.below (with_transfer e new).below (λ queued sent read. actions.receives_interleaved chunk old new is some known does)) turn
 
   forward_where_goes : (e : Endpoint) (transfer : Option Transfer) (tsn : ℕ) (entries : List SkippedTo) (o : Outcome)
       → ((old new : Transfer) → transfer ≡ Some old → MovesForward tsn entries old new → Makes came to e.below [] (with_transfer e new).below)

@@ -31,7 +31,7 @@ action_none : (came : Option Content) (to : ℕ) (old new : Ledger) → Action c
 action_none came to old _ (queues now sending fit some) none = none
 action_none came to old _ (sets setting) none = none
 action_none came to old _ (prepares ids) none = none
-action_none came to old _ commits none = none
+action_none came to old _ (commits go_on) none = none
 action_none came to old _ rolls_back none = none
 action_none came to old _ (flushes e draft answers same at tag no_data no_end allowed) none = flush_none first_ask (packets_allowed e.options.max_burst e.core) e draft answers (ap (λ (b : Below). b.transfer) same ∙ none) allowed
 action_none came to old _ (resends now room transfer left tsns chunks emission tag known does are contents) none = absurd (cc)
@@ -40,7 +40,7 @@ action_none came to old _ (speaks emission no_data) none = none
 action_none came to old _ (acknowledges now sack transfer new known valid does) none = absurd (cc)
 action_none came to old _ (loses now transfer known) none = absurd (cc)
 action_none came to old _ (receives chunk transfer new is some known does) none = absurd (cc)
-action_none came to old _ (receives_interleaved chunk transfer new is known does) none = absurd (cc)
+action_none came to old _ (receives_interleaved chunk transfer new is some known does) none = absurd (cc)
 action_none came to old _ (forwards tsn streams transfer new is known does) none = absurd (cc)
 action_none came to old _ (forwards_interleaved tsn streams transfer new is known does) none = absurd (cc)
 action_none came to old _ (tracks transfer tracked known cumulative ranges) none = absurd (cc)

@@ -5,6 +5,7 @@ pub mod Shutdown
 pub mod Fixed
 pub mod Data
 pub mod Messages
+pub mod Performed
 pub mod Resets
 pub mod Turns
 pub mod Sides

@@ -25,7 +25,8 @@ use Rattle.dcsctp_machine.specs.turns.ReconfigurationOutcomes.{reset_again, requ
 use Rattle.dcsctp_machine.specs.turns.ResetOutcomes.{requested_in, worked_in, has_reset, answers_in_progress, ResetsBelow, OwnAnswer, unanswered, retried, was_performed, has_failed, answered_in, own_streams, their_streams, reset_events, told_of, resets_worked, reset_refusal_text, responses_outcome, responses_by, ResponseAnswers, WorksResets, ResetTurn, is_reached, core_with}
 use Rattle.dcsctp_wire.specs.Content.{ParameterContent, data_chunk, sack_chunk, error_chunk, i_data_chunk, forward_tsn_chunk, i_forward_tsn_chunk}
 use Rattle.dcsctp_machine_refinement.proofs.Bursts.{packets_in-append, emits_core}
-use Rattle.dcsctp_delivery_turns.specs.Actions.{Makes, goes_on}
+use Rattle.dcsctp_delivery_turns.specs.Actions.{Makes, goes_on, ResetsNone}
+use Rattle.dcsctp_delivery_sending.specs.Queueing.{NumbersGoOn}
 use Rattle.dcsctp_machine.proofs.ResetLemmas.{KeepsPeer, chunk_brings, worked_keeps}
 use Rattle.dcsctp_machine.specs.declared.capabilities.Capabilities.{Capabilities}
 use Rattle.dcsctp_machine.specs.control.Effect.{Link, link_of, link_in}
@@ -34,6 +35,7 @@ use Rattle.dcsctp_delivery_turns.specs.Tags.{IsPeerTag}
 use Rattle.dcsctp_delivery_turns.proofs.Actions.{emits_link, Goes, MakesTo, both, action_of, rests, silent, spoken, emitted, flushed}
 use Rattle.dcsctp_delivery_turns.proofs.Handshake.{aborting_goes}
 use Rattle.dcsctp_delivery_turns.proofs.Data.{data_goes, i_data_goes, sack_goes, forward_goes, i_forward_goes, delay_goes, loss_goes}
+use Rattle.dcsctp_delivery_turns.proofs.Performed.{numbers_go_on}
 
 events_none : (theirs own : List ℕ) (happened : List Effect) → packets_in (reset_events theirs own happened) ≡ []
 events_none theirs own [] = refl
@@ -88,11 +90,11 @@ module _ (came : Option Content) (to : ℕ) where
   left_makes false false None (Some transfer) left old known below = same_left old left (below ∙ sym known)
   left_makes false false None None left old known below = same_left old left (below ∙ sym known)
 
-  worked_makes : (e : Endpoint) (answer : OwnAnswer) (held : Held) (left : Option Transfer) → Makes came to (with_left left e.below) [] (resets_worked e answer held left).below
-  worked_makes e unanswered held left = rests came to _
-  worked_makes e retried held left = rests came to _
-  worked_makes e was_performed held left = action_of came to _ _ (λ queued sent read. actions.commits)
-  worked_makes e has_failed held left = action_of came to _ _ (λ queued sent read. actions.rolls_back)
+  worked_makes : (e : Endpoint) (answer : OwnAnswer) (held : Held) (left : Option Transfer) → (answer ≡ was_performed → NumbersGoOn e.below.queue) → Makes came to (with_left left e.below) [] (resets_worked e answer held left).below
+  worked_makes e unanswered held left may = rests came to _
+  worked_makes e retried held left may = rests came to _
+  worked_makes e was_performed held left may = action_of came to _ _ (λ queued sent read. actions.commits (may refl))
+  worked_makes e has_failed held left may = action_of came to _ _ (λ queued sent read. actions.rolls_back)
 
   responses_make : (e : Endpoint) (held : Held) (responses : List ResetParameter) → MakesTo came to e.below (responses_outcome e held responses)
   responses_make e held [] = rests came to e.below
@@ -137,8 +139,8 @@ module _ (came : Option Content) (to : ℕ) where
   with_link (cookie_echoed own before cookie) my old held is keeps = with_peer_link own my before old held is keeps
   with_link (open_in phase own before) my old held is keeps = with_peer_link own my before old held is keeps
 
-  works_goes : (e : Endpoint) (my : Pair) (held : Held) (parameters : List ResetParameter) (o : Outcome) → link_in e.core ≡ Some (link_of my held) → IsPeerTag e.core to → held.peer.tag ≡ to → WorksResets e my held parameters o → Goes came to e o
-  works_goes e my held parameters o linked at is turn =
+  works_goes : (e : Endpoint) (my : Pair) (held : Held) (parameters : List ResetParameter) (o : Outcome) → link_in e.core ≡ Some (link_of my held) → IsPeerTag e.core to → held.peer.tag ≡ to → ResetsNone e o → WorksResets e my held parameters o → Goes came to e o
+  works_goes e my held parameters o linked at is none turn =
       let w : WorkedParameters = worked_in e my held parameters in
       let brought = chunk_brings my (is_reached e.below.transfer (requested_in parameters)) held parameters in
       let tag : w.held.peer.tag ≡ to = ap (λ (p : Pair). p.tag) brought.keeps.peer ∙ is in
@@ -151,15 +153,15 @@ module _ (came : Option Content) (to : ℕ) where
       (both came to e.below base.below last.after.below [] (packets_in last.events)
       (both came to e.below (with_left turn.left e.below) base.below [] []
       (left_makes (has_reset w.effects) (answers_in_progress w.answers) (requested_in parameters) e.below.transfer turn.left e.below refl turn.below)
-      (worked_makes e (answered_in held w parameters) w.held turn.left))
+      (worked_makes e (answered_in held w parameters) w.held turn.left (numbers_go_on e my held parameters o none turn)))
       (sent_makes w.is_refused base (told_of e parameters w.effects) w.held parameters w.answers turn.answers
       (subst (λ (c : Core). IsPeerTag c to) (sym (worked_keeps e (answered_in held w parameters) w.held turn.left).core) (with_peer e.core w.held at tag)) tag (events_none (their_streams (requested_in parameters)) (own_streams e.outstanding) w.effects) turn.allowed)))
 
-  pub reset_goes : (e : Endpoint) (core : Core) (parameters : List ResetParameter) (o : Outcome) → e.core ≡ core → IsPeerTag e.core to → IsPeerTag core to → ResetTurn e core parameters o → Goes came to e o
-  reset_goes e closed parameters o same at is turn = subst (Goes came to e) (sym turn) (goes_on refl (rests came to e.below))
-  reset_goes e (cookie_wait my) parameters o same at is turn = subst (Goes came to e) (sym turn) (goes_on refl (rests came to e.below))
-  reset_goes e (cookie_echoed my held cookie) parameters o same at is turn = works_goes e my held parameters o (ap link_in same) at is turn
-  reset_goes e (open_in phase my held) parameters o same at is turn = works_goes e my held parameters o (ap link_in same) at is turn
+  pub reset_goes : (e : Endpoint) (core : Core) (parameters : List ResetParameter) (o : Outcome) → e.core ≡ core → IsPeerTag e.core to → IsPeerTag core to → ResetsNone e o → ResetTurn e core parameters o → Goes came to e o
+  reset_goes e closed parameters o same at is none turn = subst (Goes came to e) (sym turn) (goes_on refl (rests came to e.below))
+  reset_goes e (cookie_wait my) parameters o same at is none turn = subst (Goes came to e) (sym turn) (goes_on refl (rests came to e.below))
+  reset_goes e (cookie_echoed my held cookie) parameters o same at is none turn = works_goes e my held parameters o (ap link_in same) at is none turn
+  reset_goes e (open_in phase my held) parameters o same at is none turn = works_goes e my held parameters o (ap link_in same) at is none turn
 
   -- ---- chunks that speak of no association
 

@@ -1,6 +1,6 @@
 -- A turn, as what it does to runs of two directions.
 use Rattle.dcsctp_delivery_directions.specs.Directions as directions
-use Rattle.std.proofs.Common.{◌≡◌, ◌<◌, ◌≤◌, ◌^◌, ℕ, zero, suc, Option, None, Some, List, [], ◌∷◌, ◌++◌, length, refl, sym, ap, subst, inl, inr, arith}
+use Rattle.std.proofs.Common.{◌≡◌, ◌<◌, ◌≤◌, ◌^◌, ℕ, zero, suc, Option, None, Some, List, [], ◌∷◌, ◌++◌, length, refl, sym, ◌∙◌, ap, subst, inl, inr, arith}
 use Rattle.std.specs.List.{AllByRecursion}
 use Rattle.dcsctp_machine.specs.declared.options.Options.{Options}
 use Rattle.dcsctp_machine.specs.Endpoint.{Endpoint}
@@ -12,7 +12,7 @@ use Rattle.dcsctp_machine.specs.transfer.SendQueue.{SendQueueState, restarted, e
 use Rattle.dcsctp_machine.specs.transfer.Transfer.{Transfer, Below}
 use Rattle.dcsctp_machine.specs.turns.MessageOutcomes.{MessageRefusal, Sending, sending_refusal, queue_one}
 use Rattle.dcsctp_delivery_sending.specs.Log.{Fits, Message}
-use Rattle.dcsctp_delivery_turns.specs.Actions.{Ledger, ledger_of, Makes, Actions, IsOpening, begun_transfer, came_by, queued_where, queued_together, queued_after, read_after, peer_tag, Begun, begun_below, Becomes, goes_on, ends, begins, IsCall}
+use Rattle.dcsctp_delivery_turns.specs.Actions.{Ledger, ledger_of, Makes, Actions, IsOpening, begun_transfer, came_by, queued_where, queued_together, queued_after, read_after, peer_tag, Begun, begun_below, Becomes, goes_on, ends, begins, IsCall, ResetsNone}
 use Rattle.dcsctp_machine.specs.transfer.SendStreams.{stream_at}
 use Rattle.dcsctp_delivery_sending.specs.Pieces.{AllQueued, Ascend}
 use Rattle.dcsctp_delivery_sending.specs.Queueing.{QueueHolds}
@@ -23,7 +23,8 @@ use Rattle.dcsctp_machine.specs.control.Effect.{link_of, link_in}
 use Rattle.dcsctp_machine.specs.transfer.Messages.{MessageContent}
 use Rattle.dcsctp_delivery_turns.specs.Runs.{sender_at, new_direction, SenderTurns, run_goes_on, run_ends, run_begins, ReceiverTurns, receiver_goes_on, receiver_ends, receiver_begins, Opens, IdleTurns, idle_stays, idle_begins}
 use Rattle.dcsctp_delivery_directions.specs.Directions.{Direction, Run, IsAwaited}
-use Rattle.dcsctp_delivery_sending.proofs.KeptQueues.{restarted_hold, numbered_hold}
+use Rattle.dcsctp_delivery_sending.proofs.KeptQueues.{numbered_idle, restarted_hold}
+use Rattle.dcsctp_delivery_sending.proofs.Renumbered.{numbered_kind, numbered_hold}
 use Rattle.dcsctp_delivery_turns.proofs.Sides.{steps_go_on, actions_send, actions_receive}
 use Rattle.dcsctp_delivery_turns.proofs.Idle.{actions_none, read_none, opening_sent}
 use Rattle.dcsctp_delivery_turns.proofs.Turns.{turns_are_actions}
@@ -59,7 +60,7 @@ input_more e (restores state) queued = omega arith
 
 -- ---- directions that begin
 
-anew_runs : (options : Options) (first size : ℕ) (queued : List Message) (below : Below) → AllByRecursion Fits queued → QueueHolds queued [] below.queue → directions.NoneInFlight first below.transfer
+anew_runs : (options : Options) (first size : ℕ) (queued : List Message) (below : Below) → AllByRecursion Fits queued → QueueHolds queued [] below.queue → directions.NoneInFlight first below.queue.is_interleaved below.transfer
     → Run options first size (new_direction options first size queued below 0 [])
 anew_runs options first size queued below fit queues none =
     directions.begins (new_direction options first size queued below 0 [])
@@ -78,6 +79,7 @@ senders_begin mine options first size =
         room = record { whole = omega arith; count = omega arith };
       };
       next = refl;
+      numbers = numbered_idle (empty_queue mine) refl;
     }) tt
   where
     none_waits : (q : ℕ) → AllQueued [] (stream_at [] q).id (stream_at [] q).messages
@@ -98,9 +100,17 @@ begun_queues e o begun queued queues =
           (numbered_hold queued begun.held.capabilities.message_interleaving (restarted e.below.queue) (restarted_hold queued [] e.below.queue queues))
     ]
 
+-- it numbers messages as what is in flight will be sent
+begun_kind : (e : Endpoint) (o : Outcome) (begun : Begun e o) → begun.queue.is_interleaved ≡ begun.held.capabilities.message_interleaving
+begun_kind e o begun =
+    elim begun.keeps [
+      | inl is ↦ ap (λ (q : SendQueueState). q.is_interleaved) is ∙ numbered_kind begun.held.capabilities.message_interleaving e.below.queue
+      | inr is ↦ ap (λ (q : SendQueueState). q.is_interleaved) is ∙ numbered_kind begun.held.capabilities.message_interleaving (restarted e.below.queue)
+    ]
+
 pub begins_anew : (options : Options) (first size : ℕ) (queued : List Message) (below : Below) → AllByRecursion Fits queued → QueueHolds queued [] below.queue → below.transfer ≡ None
     → Run options first size (new_direction options first size queued below 0 [])
-begins_anew options first size queued below fit queues none = anew_runs options first size queued below fit queues (subst (directions.NoneInFlight first) (sym none) tt)
+begins_anew options first size queued below fit queues none = anew_runs options first size queued below fit queues (subst (directions.NoneInFlight first below.queue.is_interleaved) (sym none) tt)
 
 -- ---- the side that sends
 
@@ -137,7 +147,7 @@ module _ (options : Options) (first size : ℕ) (direction : Direction) (e : End
           → (acknowledged : ℕ) × Run other begun.my.first_tsn room (sender_at awaiting queued o.after.below acknowledged (packets_in o.events))
       later other room awaiting queued shown fit waits awaited =
           let start : Run other begun.my.first_tsn room (sender_at awaiting queued (begun_below e o begun) awaiting.acknowledged awaiting.sent) =
-          directions.starts awaiting queued (begun_below e o begun) waits awaited fit (begun_queues e o begun queued shown) (refl, refl) in
+          directions.starts awaiting queued (begun_below e o begun) waits awaited fit (begun_queues e o begun queued shown) (refl, refl, sym (begun_kind e o begun)) in
           let here : Run other begun.my.first_tsn room (sender_at awaiting queued (begun_below e o begun) 0 []) =
           subst (λ (g : ℕ). Run other begun.my.first_tsn room (sender_at awaiting queued (begun_below e o begun) g [])) awaited.acknowledged
           (subst (λ (l : List Emission). Run other begun.my.first_tsn room (sender_at awaiting queued (begun_below e o begun) awaiting.acknowledged l)) awaited.sent start) in
@@ -148,9 +158,9 @@ module _ (options : Options) (first size : ℕ) (direction : Direction) (e : End
           )
 
 pub senders_go_on : (options : Options) (first size : ℕ) (direction : Direction) (e : Endpoint) (input : Input) (o : Outcome) → Run options first size direction → first < 2 ^ 32 → direction.below ≡ e.below
-    → length (queued_after e input direction.queued) < 2 ^ 64 → IsCall input → Turn e input o → SenderTurns options first size direction e input o
-senders_go_on options first size direction e input o run small same few may turn =
-    sender_becomes options first size direction e input o run small same few (turns_are_actions e input o may turn)
+    → length (queued_after e input direction.queued) < 2 ^ 64 → IsCall input → ResetsNone e o → Turn e input o → SenderTurns options first size direction e input o
+senders_go_on options first size direction e input o run small same few may none turn =
+    sender_becomes options first size direction e input o run small same few (turns_are_actions e input o may none turn)
 
 -- ---- the side that receives
 
@@ -188,8 +198,8 @@ module _ (e : Endpoint) (input : Input) (o : Outcome) where
   idle_becomes none (ends gone unread last makes is) = idle_stays (ap (λ (b : Below). b.transfer) is) (λ read. read_none e input read none)
   idle_becomes none (begins begun opening linked alike unread makes) = idle_begins (opens begun opening linked unread makes)
 
-pub receivers_begin : (e : Endpoint) (input : Input) (o : Outcome) → e.below.transfer ≡ None → IsCall input → Turn e input o → IdleTurns e input o
-receivers_begin e input o none may turn = idle_becomes e input o none (turns_are_actions e input o may turn)
+pub receivers_begin : (e : Endpoint) (input : Input) (o : Outcome) → e.below.transfer ≡ None → IsCall input → ResetsNone e o → Turn e input o → IdleTurns e input o
+receivers_begin e input o nowhere may none turn = idle_becomes e input o nowhere (turns_are_actions e input o may none turn)
 
 module _ (options : Options) (first size : ℕ) (direction : Direction) (transfer : Transfer) (e : Endpoint) (input : Input) (o : Outcome) (run : Run options first size (receiving direction transfer direction.read))
     (known : e.below.transfer ≡ Some transfer) (was : WasSent direction.sent (came_by input)) where
@@ -201,6 +211,6 @@ module _ (options : Options) (first size : ℕ) (direction : Direction) (transfe
   receiver_becomes (begins begun opening linked alike unread makes) = receiver_begins (opens e input o begun opening linked unread makes)
 
 pub receivers_go_on : (options : Options) (first size : ℕ) (direction : Direction) (transfer : Transfer) (e : Endpoint) (input : Input) (o : Outcome) → Run options first size (receiving direction transfer direction.read)
-    → e.below.transfer ≡ Some transfer → WasSent direction.sent (came_by input) → IsCall input → Turn e input o → ReceiverTurns options first size direction transfer e input o
-receivers_go_on options first size direction transfer e input o run known was may turn =
-    receiver_becomes options first size direction transfer e input o run known was (turns_are_actions e input o may turn)
+    → e.below.transfer ≡ Some transfer → WasSent direction.sent (came_by input) → IsCall input → ResetsNone e o → Turn e input o → ReceiverTurns options first size direction transfer e input o
+receivers_go_on options first size direction transfer e input o run known was may none turn =
+    receiver_becomes options first size direction transfer e input o run known was (turns_are_actions e input o may none turn)

@@ -1,7 +1,7 @@
 -- The actions of a socket, as steps of its two directions.
 use Rattle.dcsctp_delivery_directions.specs.Directions as directions
 use Rattle.std.proofs.Common.{◌≡◌, ℕ, ◌+◌, Bool, true, false, Option, None, Some, List, [], ◌∷◌, refl, sym, ◌∙◌, ap, subst}
-use Rattle.dcsctp_wire.specs.Content.{data_chunk, forward_tsn_chunk}
+use Rattle.dcsctp_wire.specs.Content.{data_chunk, i_data_chunk, forward_tsn_chunk, i_forward_tsn_chunk}
 use Rattle.dcsctp_machine.specs.declared.options.Options.{Options}
 use Rattle.dcsctp_machine.specs.Endpoint.{Endpoint}
 use Rattle.dcsctp_machine.specs.Event.{Event}
@@ -120,7 +120,7 @@ module _ (came : Option Content) (to : ℕ) (tracker : TrackerState) (reassembly
   action_sends old _ acknowledged (queues now message fits some) = by old _ acknowledged acknowledged (directions.queues now message fits some)
   action_sends old _ acknowledged (sets setting) = by old _ acknowledged acknowledged (directions.sets setting)
   action_sends old _ acknowledged (prepares ids) = by old _ acknowledged acknowledged (directions.prepares ids)
-  action_sends old _ acknowledged commits = by old _ acknowledged acknowledged directions.commits
+  action_sends old _ acknowledged (commits go_on) = by old _ acknowledged acknowledged (directions.commits go_on)
   action_sends old _ acknowledged rolls_back = by old _ acknowledged acknowledged directions.rolls_back
   action_sends old _ acknowledged (flushes e draft answers same at tag no_data no_end allowed) = by old _ acknowledged acknowledged (directions.flushes e draft answers same no_data allowed)
   action_sends old _ acknowledged (resends now room transfer left tsns chunks emission tag known sends are contents) =
@@ -131,7 +131,7 @@ module _ (came : Option Content) (to : ℕ) (tracker : TrackerState) (reassembly
       by old _ acknowledged (acknowledged + acknowledged_by transfer.retransmission.outstanding sack.cumulative_tsn_ack) (directions.acknowledges now sack transfer new known valid does)
   action_sends old _ acknowledged (loses now transfer known) = by old _ acknowledged acknowledged (directions.loses now transfer known)
   action_sends old _ acknowledged (receives chunk transfer new is some known does) = by old _ acknowledged acknowledged (directions.turns_aside transfer new known (data_where _ _ transfer new does))
-  action_sends old _ acknowledged (receives_interleaved chunk transfer new is known does) = by old _ acknowledged acknowledged (directions.turns_aside transfer new known (data_where _ _ transfer new does))
+  action_sends old _ acknowledged (receives_interleaved chunk transfer new is some known does) = by old _ acknowledged acknowledged (directions.turns_aside transfer new known (data_where _ _ transfer new does))
   action_sends old _ acknowledged (forwards tsn streams transfer new is known does) = by old _ acknowledged acknowledged (directions.turns_aside transfer new known (forward_where _ tsn _ transfer new does))
   action_sends old _ acknowledged (forwards_interleaved tsn streams transfer new is known does) = by old _ acknowledged acknowledged (directions.turns_aside transfer new known (forward_where _ tsn _ transfer new does))
   action_sends old _ acknowledged (tracks transfer tracked known cumulative ranges) = by old _ acknowledged acknowledged (directions.turns_aside transfer _ known refl)
@@ -177,7 +177,7 @@ module _ (came : Option Content) (to : ℕ) (direction : Direction) (was : WasSe
   action_receives old _ transfer is (queues now message fits some) = alike_receives old _ transfer transfer is refl (alike transfer)
   action_receives old _ transfer is (sets setting) = alike_receives old _ transfer transfer is refl (alike transfer)
   action_receives old _ transfer is (prepares ids) = alike_receives old _ transfer transfer is refl (alike transfer)
-  action_receives old _ transfer is commits = alike_receives old _ transfer transfer is refl (alike transfer)
+  action_receives old _ transfer is (commits go_on) = alike_receives old _ transfer transfer is refl (alike transfer)
   action_receives old _ transfer is rolls_back = alike_receives old _ transfer transfer is refl (alike transfer)
   action_receives old _ transfer is (speaks emission no_data) = alike_receives old _ transfer transfer is refl (alike transfer)
   action_receives old _ transfer is (flushes e draft answers same at tag no_data no_end allowed) =
@@ -212,13 +212,21 @@ module _ (came : Option Content) (to : ℕ) (direction : Direction) (was : WasSe
       let sent : WasIn direction.sent (data_chunk chunk) = subst (λ (c : Option Content). WasSent direction.sent c) came_is was in
       by_step old _ transfer new refl
       (directions.receives sent.emission chunk found new sent.was sent.holds some (ap (λ (t : Transfer). t.tracker) same) (ap (λ (t : Transfer). t.reassembly) same) does)
-  action_receives old _ transfer is (receives_interleaved chunk found new came_is known does) = absurd (subst (λ (c : Option Content). WasSent direction.sent c) came_is was)
+  action_receives old _ transfer is (receives_interleaved chunk found new came_is some known does) =
+      let same : found ≡ transfer = same_transfer old.below.transfer found transfer known is in
+      let sent : WasIn direction.sent (i_data_chunk chunk) = subst (λ (c : Option Content). WasSent direction.sent c) came_is was in
+      by_step old _ transfer new refl
+      (directions.receives_interleaved sent.emission chunk found new sent.was sent.holds some (ap (λ (t : Transfer). t.tracker) same) (ap (λ (t : Transfer). t.reassembly) same) does)
   action_receives old _ transfer is (forwards tsn streams found new came_is known does) =
       let same : found ≡ transfer = same_transfer old.below.transfer found transfer known is in
       let sent : WasIn direction.sent (forward_tsn_chunk tsn streams) = subst (λ (c : Option Content). WasSent direction.sent c) came_is was in
       by_step old _ transfer new refl
       (directions.forwards sent.emission tsn streams found new sent.was sent.holds (ap (λ (t : Transfer). t.tracker) same) (ap (λ (t : Transfer). t.reassembly) same) does)
-  action_receives old _ transfer is (forwards_interleaved tsn streams found new came_is known does) = absurd (subst (λ (c : Option Content). WasSent direction.sent c) came_is was)
+  action_receives old _ transfer is (forwards_interleaved tsn streams found new came_is known does) =
+      let same : found ≡ transfer = same_transfer old.below.transfer found transfer known is in
+      let sent : WasIn direction.sent (i_forward_tsn_chunk tsn streams) = subst (λ (c : Option Content). WasSent direction.sent c) came_is was in
+      by_step old _ transfer new refl
+      (directions.forwards_interleaved sent.emission tsn streams found new sent.was sent.holds (ap (λ (t : Transfer). t.tracker) same) (ap (λ (t : Transfer). t.reassembly) same) does)
   action_receives old _ transfer is (tracks found tracked known cumulative ranges) =
       alike_receives old _ transfer _ refl refl (like (same_transfer old.below.transfer found transfer known is))
     where

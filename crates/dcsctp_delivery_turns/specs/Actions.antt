@@ -1,6 +1,6 @@
 -- What a turn of a socket does to its queues, action by action. Each action is a step of the direction on which the socket sends, and of the
 -- one on which it receives (specs/Sides).
-use Rattle.std.specs.Prelude.{◌≡◌, ◌≢◌, ◌<◌, ◌⊎◌, ℕ, true, Option, None, Some, List, [], ◌∷◌, ◌++◌, length}
+use Rattle.std.specs.Prelude.{◌≡◌, ◌≢◌, ◌<◌, ◌⊎◌, ℕ, true, false, Option, None, Some, List, [], ◌∷◌, ◌++◌, length}
 use Rattle.std.specs.List.{AllByRecursion}
 use Rattle.dcsctp_wire.specs.Content.{DataContent, IDataContent, SackContent, data_chunk, i_data_chunk, forward_tsn_chunk, i_forward_tsn_chunk}
 use Rattle.dcsctp_machine.specs.declared.association.Held.{Held}
@@ -26,11 +26,12 @@ use Rattle.dcsctp_machine.specs.transfer.Tracker.{TrackerState}
 use Rattle.dcsctp_machine.specs.transfer.Transfer.{Transfer, Below, new_transfer}
 use Rattle.dcsctp_machine.specs.turns.FlushOutcomes.{Answer, FlushAnswers, flush_of}
 use Rattle.dcsctp_machine.specs.turns.MessageOutcomes.{MessageRefusal, Sending, sending_queued, sending_refusal, queue_one}
+use Rattle.dcsctp_machine.specs.turns.ResetOutcomes.{has_completed}
 use Rattle.dcsctp_machine.specs.turns.SettingOutcomes.{Setting, set_in_queue}
 use Rattle.dcsctp_machine.specs.turns.TransferMoves.{ReceivesData, MovesForward, TakesSack, lost_all}
 use Rattle.dcsctp_delivery_sending.specs.Log.{Fits, Message}
 use Rattle.dcsctp_delivery_sending.specs.Flushes.{NoData}
-use Rattle.dcsctp_delivery_sending.specs.Queueing.{message_of}
+use Rattle.dcsctp_delivery_sending.specs.Queueing.{message_of, NumbersGoOn}
 use Rattle.dcsctp_delivery_turns.specs.Tags.{IsPeerTag}
 
 -- What a socket has queued since it was made, newest first; its queues and trackers; what it has sent in its association, and what its user
@@ -62,7 +63,7 @@ pub data Action (came : Option Content) (to : ℕ) (old : Ledger) : Ledger → T
       → Action came to old (record old { queued = message_of sending ∷ old.queued; below = record old.below { queue = sending_queued now sending old.below.queue } })
   sets : (setting : Setting) → Action came to old (record old { below = record old.below { queue = set_in_queue setting old.below.queue } })
   prepares : (ids : List ℕ) → Action came to old (record old { below = record old.below { queue = prepared_all ids old.below.queue } })
-  commits : Action came to old (record old { below = record old.below { queue = queue_committed old.below.queue } })
+  commits : NumbersGoOn old.below.queue → Action came to old (record old { below = record old.below { queue = queue_committed old.below.queue } })
   rolls_back : Action came to old (record old { below = record old.below { queue = queue_rolled_back old.below.queue } })
   flushes : (e : Endpoint) (draft : Emission) (answers : List Answer) → e.below ≡ old.below → IsPeerTag e.core to → draft.packet.tag ≡ to → NoData draft.packet.contents → NoEnd draft.packet.contents → FlushAnswers e draft answers
       → Action came to old (record old { below = (flush_of e draft answers).after.below; sent = old.sent ++ packets_in (flush_of e draft answers).events })
@@ -77,7 +78,7 @@ pub data Action (came : Option Content) (to : ℕ) (old : Ledger) : Ledger → T
   loses : (now : ℕ) (transfer : Transfer) → old.below.transfer ≡ Some transfer → Action came to old (record old { below = with_below (lost_all now transfer) old.below })
   receives : (chunk : DataContent) (transfer new : Transfer) → came ≡ Some (plain (unworked (data_chunk chunk))) → chunk.payload ≢ [] → old.below.transfer ≡ Some transfer
       → ReceivesData (data_arrival chunk) transfer new → Action came to old (record old { below = with_below new old.below })
-  receives_interleaved : (chunk : IDataContent) (transfer new : Transfer) → came ≡ Some (plain (unworked (i_data_chunk chunk))) → old.below.transfer ≡ Some transfer
+  receives_interleaved : (chunk : IDataContent) (transfer new : Transfer) → came ≡ Some (plain (unworked (i_data_chunk chunk))) → chunk.payload ≢ [] → old.below.transfer ≡ Some transfer
       → ReceivesData (i_data_arrival chunk) transfer new → Action came to old (record old { below = with_below new old.below })
   forwards : (tsn : ℕ) (streams : List ℕ) (transfer new : Transfer) → came ≡ Some (plain (unworked (forward_tsn_chunk tsn streams))) → old.below.transfer ≡ Some transfer
       → MovesForward tsn (skipped_in streams) transfer new → Action came to old (record old { below = with_below new old.below })
@@ -187,6 +188,10 @@ IsCall (act_input (request_again reset)) = ⊥
 IsCall (restores state) = ⊥
 IsCall input = Unit {0}
 
+-- In an association with interleaving no reset of own streams is performed: the numbers of their messages would begin at 0 again.
+abbrev pub ResetsNone : Endpoint → Outcome → Type 0
+ResetsNone e o = e.below.queue.is_interleaved ≡ true → has_completed o.effects ≡ false
+
 -- So it is of each turn.
 abbrev pub TurnsAreActions : Type 0
-TurnsAreActions = (e : Endpoint) (input : Input) (o : Outcome) → IsCall input → Turn e input o → Becomes (came_by input) (peer_tag e.core) (queued_after e input) (read_after e input) e o
+TurnsAreActions = (e : Endpoint) (input : Input) (o : Outcome) → IsCall input → ResetsNone e o → Turn e input o → Becomes (came_by input) (peer_tag e.core) (queued_after e input) (read_after e input) e o

@@ -14,7 +14,7 @@ use Rattle.dcsctp_machine.specs.transfer.Tracker.{new_tracker}
 use Rattle.dcsctp_machine.specs.transfer.Transfer.{Transfer, Below}
 use Rattle.std.specs.List.{AllByRecursion}
 use Rattle.dcsctp_delivery_sending.specs.Log.{Fits, Message}
-use Rattle.dcsctp_delivery_turns.specs.Actions.{peer_tag, came_by, queued_after, read_after, Begun, begun_transfer, IsOpening, IsCall}
+use Rattle.dcsctp_delivery_turns.specs.Actions.{peer_tag, came_by, queued_after, read_after, Begun, begun_transfer, IsOpening, IsCall, ResetsNone}
 use Rattle.dcsctp_delivery_turns.specs.Addressed.{AreAddressed}
 use Rattle.dcsctp_delivery_sending.specs.Queueing.{QueueHolds}
 use Rattle.dcsctp_delivery_turns.specs.Sides.{WasSent, receiving}
@@ -57,7 +57,7 @@ pub data SenderTurns (options : Options) (first size : ℕ) (direction : Directi
 abbrev pub SendersGoOn : Type 0
 SendersGoOn =
     (options : Options) (first size : ℕ) (direction : Direction) (e : Endpoint) (input : Input) (o : Outcome) → Run options first size direction → first < 2 ^ 32 → direction.below ≡ e.below
-    → length (queued_after e input direction.queued) < 2 ^ 64 → IsCall input → Turn e input o → SenderTurns options first size direction e input o
+    → length (queued_after e input direction.queued) < 2 ^ 64 → IsCall input → ResetsNone e o → Turn e input o → SenderTurns options first size direction e input o
 
 -- A run begins where the socket was just made,
 abbrev pub SendersBegin : Type 0
@@ -93,7 +93,7 @@ pub data ReceiverTurns (options : Options) (first size : ℕ) (direction : Direc
 abbrev pub ReceiversGoOn : Type 0
 ReceiversGoOn =
     (options : Options) (first size : ℕ) (direction : Direction) (transfer : Transfer) (e : Endpoint) (input : Input) (o : Outcome) → Run options first size (receiving direction transfer direction.read)
-    → e.below.transfer ≡ Some transfer → WasSent direction.sent (came_by input) → IsCall input → Turn e input o → ReceiverTurns options first size direction transfer e input o
+    → e.below.transfer ≡ Some transfer → WasSent direction.sent (came_by input) → IsCall input → ResetsNone e o → Turn e input o → ReceiverTurns options first size direction transfer e input o
 
 -- Where there is no association, none is there after the turn, and nothing is read; or one begins.
 pub data IdleTurns (e : Endpoint) (input : Input) (o : Outcome) : Type 0 where
@@ -101,4 +101,4 @@ pub data IdleTurns (e : Endpoint) (input : Input) (o : Outcome) : Type 0 where
   idle_begins : Opens e input o → IdleTurns e input o
 
 abbrev pub ReceiversBegin : Type 0
-ReceiversBegin = (e : Endpoint) (input : Input) (o : Outcome) → e.below.transfer ≡ None → IsCall input → Turn e input o → IdleTurns e input o
+ReceiversBegin = (e : Endpoint) (input : Input) (o : Outcome) → e.below.transfer ≡ None → IsCall input → ResetsNone e o → Turn e input o → IdleTurns e input o

@@ -46,12 +46,12 @@ pub record WasIn (sent : List Emission) (chunk : ChunkContent) : Type 0 where
   pub was : Has emission sent
   pub holds : Has (plain (unworked chunk)) emission.packet.contents
 
--- The chunk that is handled, if it has data or passes TSNs, was sent by the other side. Without interleaving.
+-- The chunk that is handled, if it has data or passes TSNs, was sent by the other side.
 abbrev pub WasSent : List Emission → Option Content → Type 0
 WasSent sent (Some (plain (unworked (data_chunk chunk)))) = WasIn sent (data_chunk chunk)
 WasSent sent (Some (plain (unworked (forward_tsn_chunk tsn streams)))) = WasIn sent (forward_tsn_chunk tsn streams)
-WasSent sent (Some (plain (unworked (i_data_chunk chunk)))) = ⊥
-WasSent sent (Some (plain (unworked (i_forward_tsn_chunk tsn streams)))) = ⊥
+WasSent sent (Some (plain (unworked (i_data_chunk chunk)))) = WasIn sent (i_data_chunk chunk)
+WasSent sent (Some (plain (unworked (i_forward_tsn_chunk tsn streams)))) = WasIn sent (i_forward_tsn_chunk tsn streams)
 WasSent sent came = Unit {0}
 
 -- the direction, with what its receiver has received and read

@@ -5,13 +5,13 @@ use Rattle.dcsctp_delivery_receiving.proofs.Taking.{nothing_received, reads_on}
 use Rattle.dcsctp_delivery_receiving.proofs.laws.receiving_keeps.Goals as goal
 
 pub returns-clause-data : goal.returns-clause-data
-returns-clause-data c = λ queued log first read offset arrival old new cut f. receiving_keeps queued log first cut f read offset arrival old new
+returns-clause-data c = λ queued log first read offset arrival old new cut told f. receiving_keeps queued log first cut told f read offset arrival old new
 
 pub returns-clause-forward : goal.returns-clause-forward
-returns-clause-forward c = λ queued log first read tsn entries old new cut f. forwarding_keeps queued log first cut f read tsn entries old new
+returns-clause-forward c = λ queued log first read tsn entries old new cut told f. forwarding_keeps queued log first cut told f read tsn entries old new
 
 pub returns-clause-reset : goal.returns-clause-reset
-returns-clause-reset c = λ queued log first read streams tracker old new cut f. left_keeps queued log first cut f read streams tracker old new
+returns-clause-reset c = λ queued log first read streams tracker old new cut told f. left_keeps queued log first cut told f read streams tracker old new
 
 pub returns-clause-more : goal.returns-clause-more
 returns-clause-more c = λ queued more log later. received_more queued more log later

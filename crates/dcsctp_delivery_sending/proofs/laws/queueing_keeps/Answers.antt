@@ -1,6 +1,7 @@
 use Rattle.dcsctp_delivery_sending.proofs.Queueing.{queueing_hold}
 use Rattle.dcsctp_delivery_sending.proofs.KeptQueues.{kept_hold, restarted_hold}
-use Rattle.dcsctp_delivery_sending.proofs.Settings.{setting_hold, preparing_hold, committing_hold, rolling_back_hold}
+use Rattle.dcsctp_delivery_sending.proofs.Settings.{setting_hold, committing_hold, rolling_back_hold}
+use Rattle.dcsctp_delivery_sending.proofs.Prepared.{preparing_hold}
 use Rattle.dcsctp_delivery_sending.proofs.laws.queueing_keeps.Goals as goal
 
 pub returns-clause-added : goal.returns-clause-added

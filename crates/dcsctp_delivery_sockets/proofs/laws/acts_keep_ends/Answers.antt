@@ -11,5 +11,5 @@ returns-clause-calls c = λ options ends e queued past packets other their_past 
     receivers_act options e queued past packets few turns other their_past reads (record { ends = ends; between = between }) (call_without other call turns user) taken may new
 
 pub returns-clause-handles : goal.returns-clause-handles
-returns-clause-handles c = λ options ends e queued past packets other their_past reads emission bytes turns between few has go not is new taken.
-    receivers_handle options e queued past packets few other their_past reads emission bytes turns (record { ends = ends; between = between }) has go not is new taken
+returns-clause-handles c = λ options ends e queued past packets other their_past reads emission bytes turns between few has go is new taken.
+    receivers_handle options e queued past packets few other their_past reads emission bytes turns (record { ends = ends; between = between }) has go is new taken

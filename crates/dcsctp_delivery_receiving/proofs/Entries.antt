@@ -1,0 +1,87 @@
+-- What a FORWARD-TSN or I-FORWARD-TSN names, as it is received.
+use Rattle.std.proofs.Common.{◌≡◌, ℕ, zero, suc, Bool, true, false, ◌<◌, ◌≤◌, ◌+◌, ◌*◌, ◌/◌, ◌%◌, ◌^◌, List, [], ◌∷◌, ◌++◌, length, take, drop, refl, sym, ◌∙◌, ap, arith, subst}
+use Rattle.std.specs.Prelude.{Some}
+use Rattle.std.specs.Int.{w16, w32, to_be_bytes, from_be_bytes}
+use Rattle.std.specs.List.{AllByRecursion, flat_map}
+use Rattle.std.proofs.lemmas.List.{length-append}
+use Rattle.std.proofs.lemmas.Nat.{from_be_bytes-to_be_bytes_2}
+use Rattle.dcsctp_wire.specs.Fields.{skipped_stream_at, skipped_messages_at, lowest_bit, u16_at, u32_at}
+use Rattle.dcsctp_wire.specs.Spelling.{t_bit}
+use Rattle.dcsctp_machine.specs.declared.arrivals.SkippedTo.{SkippedTo}
+use Rattle.dcsctp_machine.specs.transfer.Arrivals.{skipped_to, messages_skipped_to, first_skipped, first_messages_skipped, skipped_in, messages_skipped_in}
+use Rattle.dcsctp_machine.specs.transfer.Skipping.{entry_bytes}
+use Rattle.dcsctp_delivery_sending.specs.Places.{at_place}
+use Rattle.dcsctp_delivery_sending.specs.Log.{Message, Piece, Slot, Cut, Fits}
+use Rattle.dcsctp_delivery_sending.specs.Flushes.{IsEntry, AreEntries, IsForward}
+use Rattle.dcsctp_delivery_receiving.specs.Ready.{Names, NameAll}
+use Rattle.dcsctp_delivery_receiving.proofs.Arriving.{fits_at}
+
+names_append : (log : List Slot) (entries others : List SkippedTo) → NameAll log entries → NameAll log others → NameAll log (entries ++ others)
+names_append log [] others names names' = names'
+names_append log (entry ∷ entries) others names names' = (names.0, names_append log entries others names.1 names')
+
+-- ---- FORWARD-TSN
+
+plain_named : (log : List Slot) (number : ℕ) (piece : Piece) → at_place number log ≡ Some (Some piece) → piece.is_interleaved ≡ false → (count : ℕ) (streams : List ℕ) → NameAll log (first_skipped count streams)
+plain_named log number piece at kind zero streams = tt
+plain_named log number piece at kind (suc count) streams =
+    names_append log (first_skipped count streams) (skipped_to (skipped_stream_at count streams) ∷ []) (plain_named log number piece at kind count streams) ((number, piece, at, kind), tt)
+
+pub forward_names : (log : List Slot) (first tsn : ℕ) (streams : List ℕ) → IsForward false log first tsn streams → NameAll log (skipped_in streams)
+forward_names log first tsn streams f = go f.entries f.is f.names
+  where
+    go : (entries : List ((ℕ × Bool) × ℕ)) → streams ≡ flat_map (entry_bytes false) entries → AreEntries false log entries → NameAll log (skipped_in streams)
+    go [] is names = subst (λ (l : List ℕ). NameAll log (skipped_in l)) (sym is) tt
+    go (entry ∷ entries) is names = plain_named log names.0.number names.0.piece names.0.at names.0.kind (length streams / 4) streams
+
+-- ---- I-FORWARD-TSN
+
+four_read : (n : ℕ) → from_be_bytes w32 (to_be_bytes w32 n) ≡ n % 2 ^ 32
+four_read n = omega arith
+
+bit_read : (b : Bool) → lowest_bit (from_be_bytes w16 (to_be_bytes w16 (t_bit b))) ≡ b
+bit_read true = refl
+bit_read false = refl
+
+eight_on : (n k j : ℕ) (entry : (ℕ × Bool) × ℕ) (rest : List ℕ) → n ≡ 8 * suc k + j → drop n (entry_bytes true entry ++ rest) ≡ drop (8 * k + j) rest
+eight_on n k j entry rest is =
+    let same : n ≡ suc (suc (suc (suc (suc (suc (suc (suc (8 * k + j)))))))) = omega arith in
+    ap (λ (m : ℕ). drop m (entry_bytes true entry ++ rest)) same
+
+-- an entry is read where it stands
+entry_read : (log : List Slot) (queued : List Message) → Cut queued log → AllByRecursion Fits queued → (entries : List ((ℕ × Bool) × ℕ)) → AreEntries true log entries → (k : ℕ) → k < length entries
+    → Names log (messages_skipped_to (skipped_messages_at k (flat_map (entry_bytes true) entries)))
+entry_read log queued cut fit [] names k below = absurd (omega arith)
+entry_read log queued cut fit (entry ∷ entries) names zero below =
+    let e : IsEntry true log entry = names.0 in
+    let fits = fits_at queued e.piece.place e.piece.message fit (cut.pieces e.number e.piece e.at).at in
+    let small : entry.0.0 < 2 ^ 16 = (let of = e.stream in let stream = fits.stream in omega (arith, of, stream)) in (
+      e.number,
+      e.piece,
+      e.at,
+      from_be_bytes-to_be_bytes_2 entry.0.0 small ∙ e.stream,
+      bit_read entry.0.1 ∙ e.unordered,
+      four_read entry.1 ∙ e.mid refl,
+    )
+entry_read log queued cut fit (entry ∷ entries) names (suc k) below =
+    let rest : List ℕ = flat_map (entry_bytes true) entries in
+    subst (λ (l : List ℕ). Names log (messages_skipped_to (record { stream_id = from_be_bytes w16 (take 2 l); is_unordered = lowest_bit (u16_at (8 * suc k + 2) (entry_bytes true entry ++ rest)); mid = u32_at (8 * suc k + 4) (entry_bytes true entry ++ rest) }))) (sym (eight_on (8 * suc k) k 0 entry rest (omega arith) ∙ ap (λ (m : ℕ). drop m rest) (omega arith)))
+    (subst (λ (l : List ℕ). Names log (messages_skipped_to (record { stream_id = u16_at (8 * k) rest; is_unordered = lowest_bit (from_be_bytes w16 (take 2 l)); mid = u32_at (8 * suc k + 4) (entry_bytes true entry ++ rest) }))) (sym (eight_on (8 * suc k + 2) k 2 entry rest refl))
+    (subst (λ (l : List ℕ). Names log (messages_skipped_to (record { stream_id = u16_at (8 * k) rest; is_unordered = lowest_bit (u16_at (8 * k + 2) rest); mid = from_be_bytes w32 (take 4 l) }))) (sym (eight_on (8 * suc k + 4) k 4 entry rest refl))
+    (entry_read log queued cut fit entries names.1 k (omega arith))))
+
+entries_long : (entries : List ((ℕ × Bool) × ℕ)) → length (flat_map (entry_bytes true) entries) ≡ 8 * length entries
+entries_long [] = refl
+entries_long (entry ∷ entries) = omega (arith, length-append (entry_bytes true entry) (flat_map (entry_bytes true) entries), entries_long entries)
+
+firsts_read : (log : List Slot) (queued : List Message) → Cut queued log → AllByRecursion Fits queued → (entries : List ((ℕ × Bool) × ℕ)) → AreEntries true log entries → (count : ℕ) → count ≤ length entries
+    → NameAll log (first_messages_skipped count (flat_map (entry_bytes true) entries))
+firsts_read log queued cut fit entries names zero within = tt
+firsts_read log queued cut fit entries names (suc count) within =
+    names_append log (first_messages_skipped count (flat_map (entry_bytes true) entries)) (messages_skipped_to (skipped_messages_at count (flat_map (entry_bytes true) entries)) ∷ [])
+    (firsts_read log queued cut fit entries names count (omega arith)) (entry_read log queued cut fit entries names count (omega arith), tt)
+
+pub messages_named : (queued : List Message) (log : List Slot) (first tsn : ℕ) (streams : List ℕ) → Cut queued log → AllByRecursion Fits queued → IsForward true log first tsn streams → NameAll log (messages_skipped_in streams)
+messages_named queued log first tsn streams cut fit f =
+    subst (λ (l : List ℕ). NameAll log (messages_skipped_in l)) (sym f.is)
+    (firsts_read log queued cut fit f.entries f.names (length (flat_map (entry_bytes true) f.entries) / 8) (let long = entries_long f.entries in omega (arith, long)))

@@ -1,0 +1,138 @@
+-- The entries of a FORWARD-TSN or I-FORWARD-TSN name messages of the log.
+use Rattle.std.proofs.Common.{◌≡◌, ◌==◌, ℕ, zero, suc, Bool, true, false, ◌%◌, ◌^◌, List, [], ◌∷◌, take, refl, sym, ◌∙◌, ap, subst, inl, inr}
+use Rattle.std.specs.Prelude.{◌&&◌, ◌||◌, not, Option, None, Some, slice_get, if◌then◌else◌}
+use Rattle.std.specs.Option.{option_map, option_or}
+use Rattle.std.proofs.lemmas.Bool.{eqb-true, eq-eqb}
+use Rattle.dcsctp_machine.specs.transfer.Outstanding.{OutstandingState}
+use Rattle.dcsctp_machine.specs.transfer.Items.{Item}
+use Rattle.dcsctp_machine.specs.transfer.Skipping.{is_same, last_on, last_listed, entry_for, NoneTwice, number_of}
+use Rattle.dcsctp_delivery_sending.specs.Places.{Has}
+use Rattle.dcsctp_delivery_sending.specs.Log.{Slot}
+use Rattle.dcsctp_delivery_sending.specs.Numbers.{AreOfKind}
+use Rattle.dcsctp_delivery_sending.specs.Stages.{IsNamed, Bears}
+use Rattle.dcsctp_delivery_sending.specs.Flushes.{IsEntry, AreEntries}
+
+same_kind : (a b : Bool) → (if a then b else not b) ≡ true → a ≡ b
+same_kind true b e = sym e
+same_kind false true e = absurd (cc)
+same_kind false false e = refl
+
+both : (x y : Bool) → (x && y) ≡ true → (x ≡ true) × (y ≡ true)
+both true true e = (refl, refl)
+both true false e = absurd (cc)
+both false y e = absurd (cc)
+
+module _ (log : List Slot) (first : ℕ) where
+  -- an item that is skipped names the message of its entry
+  record OfItem (outstanding : OutstandingState) (entry : (ℕ × Bool) × ℕ) : Type 0 where
+    place : ℕ
+    item : Item
+    at : slice_get outstanding.items place ≡ Some item
+    stream : entry.0.0 ≡ item.fragment.stream
+    unordered : entry.0.1 ≡ item.fragment.is_unordered
+    number : entry.1 ≡ number_of outstanding.is_interleaved item
+
+  of_item : (acknowledged : ℕ) (outstanding : OutstandingState) (entry : (ℕ × Bool) × ℕ) → AreOfKind outstanding.is_interleaved log → Bears log first acknowledged outstanding → OfItem outstanding entry → IsEntry outstanding.is_interleaved log entry
+  of_item acknowledged outstanding entry kinds b of =
+      let named : IsNamed log of.item.fragment = (b.items of.place of.item of.at).named in
+      record {
+        number = named.number;
+        piece = named.piece;
+        at = named.at;
+        kind = kinds named.number named.piece named.at;
+        stream = of.stream ∙ named.stream;
+        unordered = of.unordered ∙ named.unordered;
+        mid = λ interleaved. ap (λ (k : ℕ). k % 2 ^ 32) (of.number ∙ ap (λ (b' : Bool). number_of b' of.item) interleaved) ∙ named.mid;
+      }
+
+  -- the last item of a stream is one of the row
+  found_last : (stream : ℕ) (unordered : Bool) (items : List Item) (item : Item) → last_on stream unordered items ≡ Some item → (place : ℕ) × (slice_get items place ≡ Some item) × (stream ≡ item.fragment.stream) × (unordered ≡ item.fragment.is_unordered)
+  found_last stream unordered [] item is = absurd (cc)
+  found_last stream unordered (first_item ∷ items) item is = go (last_on stream unordered items) refl (λ found. found_last stream unordered items item found) is
+    where
+      here : (b : Bool) → is_same stream unordered first_item.fragment.stream first_item.fragment.is_unordered ≡ b → (if b then Some first_item else None) ≡ Some item
+          → (place : ℕ) × (slice_get (first_item ∷ items) place ≡ Some item) × (stream ≡ item.fragment.stream) × (unordered ≡ item.fragment.is_unordered)
+      here true same e =
+          let one : first_item ≡ item = cc in
+          let (streams, kinds) = both (stream == first_item.fragment.stream) (if unordered then first_item.fragment.is_unordered else not first_item.fragment.is_unordered) same in
+          (0, e, eqb-true stream first_item.fragment.stream streams ∙ ap (λ (x : Item). x.fragment.stream) one, same_kind unordered first_item.fragment.is_unordered kinds ∙ ap (λ (x : Item). x.fragment.is_unordered) one)
+      here false same e = absurd (cc)
+
+      go : (found : Option Item) → last_on stream unordered items ≡ found
+          → (last_on stream unordered items ≡ Some item → (place : ℕ) × (slice_get items place ≡ Some item) × (stream ≡ item.fragment.stream) × (unordered ≡ item.fragment.is_unordered))
+          → option_or found (if is_same stream unordered first_item.fragment.stream first_item.fragment.is_unordered then Some first_item else None) ≡ Some item
+          → (place : ℕ) × (slice_get (first_item ∷ items) place ≡ Some item) × (stream ≡ item.fragment.stream) × (unordered ≡ item.fragment.is_unordered)
+      go None is rest e = here (is_same stream unordered first_item.fragment.stream first_item.fragment.is_unordered) refl e
+      go (Some last) is rest e = (let (place, at, same, kind) = rest (is ∙ e) in (suc place, at, same, kind))
+
+  listed_item : (outstanding : OutstandingState) (count : ℕ) (entry : (ℕ × Bool) × ℕ) → Some entry.1 ≡ option_map (number_of outstanding.is_interleaved) (last_listed outstanding.is_interleaved entry.0.0 entry.0.1 (take count outstanding.items))
+      → OfItem outstanding entry
+  listed_item outstanding count entry is = go (outstanding.is_interleaved || not entry.0.1) is
+    where
+      among : (k place : ℕ) (items : List Item) (item : Item) → slice_get (take k items) place ≡ Some item → slice_get items place ≡ Some item
+      among zero zero items item at = absurd (cc)
+      among zero (suc place) items item at = absurd (cc)
+      among (suc k) place [] item at = at
+      among (suc k) zero (i ∷ items) item at = at
+      among (suc k) (suc place) (i ∷ items) item at = among k place items item at
+
+      found : (o : Option Item) → last_on entry.0.0 entry.0.1 (take count outstanding.items) ≡ o → Some entry.1 ≡ option_map (number_of outstanding.is_interleaved) o → OfItem outstanding entry
+      found None e same = absurd (cc)
+      found (Some item) e same =
+          let (place, at, stream, unordered) = found_last entry.0.0 entry.0.1 (take count outstanding.items) item e in
+          record { place = place; item = item; at = among count place outstanding.items item at; stream = stream; unordered = unordered; number = cc }
+
+      go : (b : Bool) → Some entry.1 ≡ option_map (number_of outstanding.is_interleaved) (if b then last_on entry.0.0 entry.0.1 (take count outstanding.items) else None) → OfItem outstanding entry
+      go false same = absurd (cc)
+      go true same = found (last_on entry.0.0 entry.0.1 (take count outstanding.items)) refl same
+
+  -- so each entry does
+  pub listed_entries : (acknowledged count : ℕ) (outstanding : OutstandingState) → AreOfKind outstanding.is_interleaved log → Bears log first acknowledged outstanding → (all entries : List ((ℕ × Bool) × ℕ))
+      → ((stream : ℕ) (unordered : Bool) → entry_for stream unordered all ≡ option_map (number_of outstanding.is_interleaved) (last_listed outstanding.is_interleaved stream unordered (take count outstanding.items)))
+      → ((entry : (ℕ × Bool) × ℕ) → Has entry entries → entry_for entry.0.0 entry.0.1 all ≡ Some entry.1) → AreEntries outstanding.is_interleaved log entries
+  listed_entries acknowledged count outstanding kinds b all [] lists found = tt
+  listed_entries acknowledged count outstanding kinds b all (entry ∷ entries) lists found = (
+    of_item acknowledged outstanding entry kinds b (listed_item outstanding count entry (sym (found entry (inl refl)) ∙ lists entry.0.0 entry.0.1)),
+    listed_entries acknowledged count outstanding kinds b all entries lists (λ other has. found other (inr has)),
+  )
+
+-- an entry of a list in which no stream has two is the one that is found
+pub entry_found : (entries : List ((ℕ × Bool) × ℕ)) → NoneTwice entries → (entry : (ℕ × Bool) × ℕ) → Has entry entries → entry_for entry.0.0 entry.0.1 entries ≡ Some entry.1
+entry_found [] once entry has = absurd has
+entry_found (e ∷ entries) once entry has = go (is_same entry.0.0 entry.0.1 e.0.0 e.0.1) refl has (λ later. entry_found entries once.1 entry later)
+  where
+    itself : (stream : ℕ) (unordered : Bool) → is_same stream unordered stream unordered ≡ true
+    itself stream true = rw (eq-eqb stream stream refl) refl
+    itself stream false = rw (eq-eqb stream stream refl) refl
+
+    same_kind : (a b : Bool) → (if a then b else not b) ≡ true → a ≡ b
+    same_kind true b e' = sym e'
+    same_kind false true e' = absurd (cc)
+    same_kind false false e' = refl
+
+    both : (x y : Bool) → (x && y) ≡ true → (x ≡ true) × (y ≡ true)
+    both true true e' = (refl, refl)
+    both true false e' = absurd (cc)
+    both false y e' = absurd (cc)
+
+    go : (b : Bool) → is_same entry.0.0 entry.0.1 e.0.0 e.0.1 ≡ b → Has entry (e ∷ entries) → (Has entry entries → entry_for entry.0.0 entry.0.1 entries ≡ Some entry.1)
+        → (if b then Some e.1 else entry_for entry.0.0 entry.0.1 entries) ≡ Some entry.1
+    go true same has rest =
+        elim has [
+          | inl is ↦ ap (λ (x : (ℕ × Bool) × ℕ). Some x.1) (sym is)
+          | inr later ↦
+              (let (streams, kinds) = both (entry.0.0 == e.0.0) (if entry.0.1 then e.0.1 else not e.0.1) same in
+              let stream_is : entry.0.0 ≡ e.0.0 = eqb-true entry.0.0 e.0.0 streams in
+              let kind_is : entry.0.1 ≡ e.0.1 = same_kind entry.0.1 e.0.1 kinds in
+              let nothing : entry_for entry.0.0 entry.0.1 entries ≡ None = ap (λ (k : ℕ). entry_for k entry.0.1 entries) stream_is ∙ ap (λ (c : Bool). entry_for e.0.0 c entries) kind_is ∙ once.0 in
+              let clash : ◌≡◌ {A = Option ℕ} None (Some entry.1) = sym nothing ∙ rest later in
+              absurd (cc))
+        ]
+    go false same has rest =
+        elim has [
+          | inl is ↦
+              (let own : is_same entry.0.0 entry.0.1 e.0.0 e.0.1 ≡ true = subst (λ (x : (ℕ × Bool) × ℕ). is_same entry.0.0 entry.0.1 x.0.0 x.0.1 ≡ true) is (itself entry.0.0 entry.0.1) in
+              let clash : true ≡ false = sym own ∙ same in
+              absurd (cc))
+          | inr later ↦ rest later
+        ]

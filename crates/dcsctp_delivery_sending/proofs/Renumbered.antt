@@ -1,0 +1,159 @@
+-- What waits, once messages are interleaved otherwise than before.
+use Rattle.std.proofs.Common.{◌≡◌, ◌==◌, ℕ, zero, suc, Bool, true, false, ◌<◌, ◌+◌, ◌%◌, ◌^◌, List, [], ◌∷◌, length, refl, sym, ◌∙◌, ap, arith, subst, inl, inr}
+use Rattle.std.specs.Prelude.{Option, None, Some}
+use Rattle.dcsctp_machine.specs.declared.sending.UnderWay.{UnderWay}
+use Rattle.dcsctp_machine.specs.transfer.SendStreams.{counted, Waiting, Stream, front_of, next_numbers, stream_at, unused}
+use Rattle.dcsctp_machine.specs.transfer.SendQueue.{found_in, stream_of, renumbered, numbered_for, numbered_where, is_other, front_counted, is_front_unordered, SendQueueState, changed}
+use Rattle.dcsctp_delivery_sending.specs.Log.{Message}
+use Rattle.dcsctp_delivery_sending.specs.Pieces.{IsGoing, HoldsQueued}
+use Rattle.dcsctp_delivery_sending.specs.Queueing.{QueueHolds}
+use Rattle.dcsctp_delivery_sending.proofs.Streams.{alike_hold}
+use Rattle.dcsctp_delivery_sending.specs.Numbers.{stream_named, next_mid, CountsWhere}
+use Rattle.dcsctp_delivery_sending.proofs.StreamsNamed.{found_at}
+use Rattle.dcsctp_delivery_sending.proofs.Counting.{counts_rest}
+use Rattle.std.proofs.lemmas.Bool.Decides.{eqb_tells}
+use Rattle.dcsctp_delivery_sending.proofs.KeptQueues.{numbered_idle, one_set}
+
+numbered_again : (queued : List Message) (u : UnderWay) (ssn mid : ℕ) (streams : List Stream) → HoldsQueued queued [] streams (Some u) → HoldsQueued queued [] streams (Some (record u { ssn = ssn; mid = mid }))
+numbered_again queued u ssn mid streams queue_holds =
+    let g : IsGoing queued [] streams u = queue_holds.going in
+    record {
+      wait = queue_holds.wait;
+      ascend = queue_holds.ascend;
+      beyond = λ q n f at of. absurd (cc);
+      distinct = queue_holds.distinct;
+      going = record { place = g.place; message = g.message; at = g.at; unfinished = g.unfinished; begun = g.begun; there = record { q = g.there.q; within = g.there.within; is = g.there.is; waiting = g.there.waiting; front = g.there.front }; came = inl refl; front = g.front };
+      room = (let room = queue_holds.room in record { whole = room.whole; count = room.count });
+    }
+
+is_same : (a b : Bool) → is_other a b ≡ false → a ≡ b
+is_same true true e = refl
+is_same true false e = absurd (cc)
+is_same false true e = absurd (cc)
+is_same false false e = refl
+
+-- the stream of a number that stands somewhere, whatever is else
+found_default : (d e : Stream) (id q : ℕ) (streams : List Stream) → q < length streams → (stream_at streams q).id ≡ id → found_in d id streams ≡ found_in e id streams
+found_default d e id q [] within is = absurd (omega arith)
+found_default d e id zero (s ∷ streams) within is = elim (eqb_tells s.id id) [ inl t ↦ rw t.0 refl | inr t ↦ absurd (t.1 is) ]
+found_default d e id (suc q) (s ∷ streams) within is =
+    elim (eqb_tells s.id id) [
+      | inl t ↦ rw t.0 refl
+      | inr t ↦ rw t.0 (found_default d e id q streams (omega arith) is)
+    ]
+
+found_changed : (d : Stream) (f : Stream → Stream) → ((s : Stream) → (f s).id ≡ s.id) → (id q : ℕ) (streams : List Stream) → q < length streams → (stream_at streams q).id ≡ id → found_in d id (changed id f streams) ≡ f (found_in d id streams)
+found_changed d f same id q [] within is = absurd (omega arith)
+found_changed d f same id zero (s ∷ streams) within is =
+    elim (eqb_tells s.id id) [
+      | inl t ↦ rw t.0 (rw (ap (λ (k : ℕ). k == id) (same s) ∙ t.0) refl)
+      | inr t ↦ absurd (t.1 is)
+    ]
+found_changed d f same id (suc q) (s ∷ streams) within is =
+    elim (eqb_tells s.id id) [
+      | inl t ↦ rw t.0 (rw (ap (λ (k : ℕ). k == id) (same s) ∙ t.0) refl)
+      | inr t ↦ rw t.0 (rw t.0 (found_changed d f same id q streams (omega arith) is))
+    ]
+
+-- the rest of a message that takes the next number of its stream
+renumbered_counts : (queued : List Message) (enabled : Bool) (u : UnderWay) (queue : SendQueueState) → HoldsQueued queued [] queue.streams (Some u)
+    → CountsWhere enabled [] (changed u.stream_id.0 (front_counted enabled) queue.streams) (Some (renumbered u (stream_of queue u.stream_id.0)))
+renumbered_counts queued false u queue queue_holds = tt
+renumbered_counts queued true u queue queue_holds =
+    counts_rest (changed id (front_counted true) queue.streams) (renumbered u (stream_of queue id)) g.there.waiting (renumbered u (stream_of queue id)).mid front refl next
+  where
+    id : ℕ
+    id = u.stream_id.0
+
+    g : IsGoing queued [] queue.streams u
+    g = queue_holds.going
+
+    named : stream_named id queue.streams ≡ stream_at queue.streams g.there.q
+    named = subst (λ (k : ℕ). stream_named k queue.streams ≡ stream_at queue.streams g.there.q) g.there.is (found_at (unused 0 0 0) g.there.q queue.streams g.there.within queue_holds.distinct)
+
+    keeps_id : (s : Stream) → (front_counted true s).id ≡ s.id
+    keeps_id s = go (is_front_unordered s.messages)
+      where
+        go : (b : Bool) → (counted true b s).id ≡ s.id
+        go true = refl
+        go false = refl
+
+    keeps_messages : (b : Bool) (s : Stream) → (counted true b s).messages ≡ s.messages
+    keeps_messages true s = refl
+    keeps_messages false s = refl
+
+    changes : stream_named id (changed id (front_counted true) queue.streams) ≡ front_counted true (stream_named id queue.streams)
+    changes = found_changed (unused 0 0 0) (front_counted true) keeps_id id g.there.q queue.streams g.there.within g.there.is
+
+    front : front_of (stream_named id (changed id (front_counted true) queue.streams)).messages ≡ Some g.there.waiting
+    front = ap (λ (s : Stream). front_of s.messages) changes ∙ ap front_of (keeps_messages (is_front_unordered (stream_named id queue.streams).messages) (stream_named id queue.streams)) ∙ ap (λ (s : Stream). front_of s.messages) named ∙ g.there.front
+
+    unordered_front : (l : List Waiting) (w : Waiting) → front_of l ≡ Some w → is_front_unordered l ≡ w.is_unordered
+    unordered_front [] w e = absurd (cc)
+    unordered_front (v ∷ l) w e = (let same : v ≡ w = cc in ap (λ (x : Waiting). x.is_unordered) same)
+
+    counts_up : (b : Bool) (s : Stream) → (next_numbers b (counted true b s)).1 ≡ ((next_numbers b s).1 + 1) % 2 ^ 32
+    counts_up true s = refl
+    counts_up false s = refl
+
+    kind : is_front_unordered (stream_named id queue.streams).messages ≡ g.there.waiting.is_unordered
+    kind = unordered_front (stream_named id queue.streams).messages g.there.waiting (ap (λ (s : Stream). front_of s.messages) named ∙ g.there.front)
+
+    mid : (renumbered u (stream_of queue id)).mid ≡ next_mid g.there.waiting.is_unordered (stream_named id queue.streams)
+    mid =
+        ap (λ (s : Stream). (next_numbers (is_front_unordered s.messages) s).1) (found_default (unused id queue.default_priority queue.default_threshold) (unused 0 0 0) id g.there.q queue.streams g.there.within g.there.is)
+        ∙ ap (λ (b : Bool). next_mid b (stream_named id queue.streams)) kind
+
+    next : next_mid g.there.waiting.is_unordered (stream_named id (changed id (front_counted true) queue.streams)) % 2 ^ 32 ≡ ((renumbered u (stream_of queue id)).mid + 1) % 2 ^ 32
+    next =
+        ap (λ (k : ℕ). k % 2 ^ 32)
+        (ap (next_mid g.there.waiting.is_unordered) changes ∙ ap (λ (b : Bool). next_mid g.there.waiting.is_unordered (counted true b (stream_named id queue.streams))) kind
+        ∙ counts_up g.there.waiting.is_unordered (stream_named id queue.streams) ∙ ap (λ (k : ℕ). (k + 1) % 2 ^ 32) (sym mid))
+        ∙ omega arith
+
+pub numbered_kind : (enabled : Bool) (queue : SendQueueState) → (numbered_for enabled queue).is_interleaved ≡ enabled
+numbered_kind enabled queue = go queue.under_way (is_other queue.is_interleaved enabled)
+  where
+    go : (u : Option UnderWay) (b : Bool) → (numbered_where u b (record queue { is_interleaved = enabled })).is_interleaved ≡ enabled
+    go None b = refl
+    go (Some u) false = refl
+    go (Some u) true = refl
+
+pub numbered_hold : (queued : List Message) (enabled : Bool) (queue : SendQueueState) → QueueHolds queued [] queue → QueueHolds queued [] (numbered_for enabled queue)
+numbered_hold queued enabled queue queues = go queue.under_way refl (is_other queue.is_interleaved enabled) refl queues.queue_holds
+  where
+    same_id : (a b : Bool) (s : Stream) → (counted a b s).id ≡ s.id
+    same_id true true s = refl
+    same_id true false s = refl
+    same_id false true s = refl
+    same_id false false s = refl
+
+    same_messages : (a b : Bool) (s : Stream) → (counted a b s).messages ≡ s.messages
+    same_messages true true s = refl
+    same_messages true false s = refl
+    same_messages false true s = refl
+    same_messages false false s = refl
+
+    start : SendQueueState
+    start = record queue { is_interleaved = enabled }
+
+    go : (u : Option UnderWay) → queue.under_way ≡ u → (b : Bool) → is_other queue.is_interleaved enabled ≡ b → HoldsQueued queued [] queue.streams u → QueueHolds queued [] (numbered_where u b (record start { under_way = u }))
+    go None is b other queue_holds = record { queue_holds = queue_holds; next = queues.next; numbers = numbered_idle (record start { under_way = None }) refl }
+    go (Some u) is false other queue_holds =
+        record {
+          queue_holds = queue_holds;
+          next = queues.next;
+          numbers = record {
+            kinds = λ n f at. absurd (cc);
+            counts = subst (λ (b : Bool). CountsWhere b [] queue.streams (Some u)) (is_same queue.is_interleaved enabled other)
+                (subst (λ (v : Option UnderWay). CountsWhere queue.is_interleaved [] queue.streams v) is queues.numbers.counts);
+          };
+        }
+    go (Some u) is true other queue_holds =
+        record {
+          queue_holds = numbered_again queued u _ _ (changed u.stream_id.0 (front_counted enabled) queue.streams)
+              (alike_hold queued [] (Some u) queue.streams (changed u.stream_id.0 (front_counted enabled) queue.streams)
+              (one_set (front_counted enabled) (λ s. same_id enabled (is_front_unordered s.messages) s) (λ s. same_messages enabled (is_front_unordered s.messages) s) u.stream_id.0 queue.streams) queue_holds);
+          next = queues.next;
+          numbers = record { kinds = λ n f at. absurd (cc); counts = renumbered_counts queued enabled u (record start { under_way = Some u }) queue_holds };
+        }
