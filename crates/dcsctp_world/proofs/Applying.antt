@@ -10,6 +10,7 @@ use Rattle.dcsctp_machine.specs.Settings.{ports_of}
 use Rattle.dcsctp_machine.specs.Endpoint.{association_of}
 use Rattle.dcsctp_machine.specs.CallTurns.{Turned, events_of, words_of, pairs_of}
 use Rattle.dcsctp_machine.specs.Sockets.{Both, of_side, of_other, side_of_act, TurnsOfAct}
+use Rattle.dcsctp_delivery_sockets.specs.UserMessages.{sent_of, read_of}
 use Rattle.dcsctp_api.specs.declared.errors.SocketFault.{SocketFault}
 use Rattle.dcsctp_api.specs.declared.errors.SocketFault.TheVariants.{OutOfMemory, Failed}
 use Rattle.dcsctp_api.specs.Calls.{user_event}
@@ -30,7 +31,15 @@ use Rattle.dcsctp_world.proofs.Running.{is_run_next}
 
 pub side_extends_itself : {R : Type 0} (side : SideShown R) → SideExtends side side
 side_extends_itself side =
-    record { events = extends_itself side.events; packets = extends_itself side.packets; words = extends_itself side.words; pairs = extends_itself side.pairs; associations = extends_itself side.associations }
+    record {
+      events = extends_itself side.events;
+      packets = extends_itself side.packets;
+      words = extends_itself side.words;
+      pairs = extends_itself side.pairs;
+      sent = extends_itself side.sent;
+      read = extends_itself side.read;
+      associations = extends_itself side.associations;
+    }
 
 pub side_extends_further : {R : Type 0} (a b c : SideShown R) → SideExtends a b → SideExtends b c → SideExtends a c
 side_extends_further a b c first second =
@@ -39,6 +48,8 @@ side_extends_further a b c first second =
       packets = extends_further a.packets b.packets c.packets first.packets second.packets;
       words = extends_further a.words b.words c.words first.words second.words;
       pairs = extends_further a.pairs b.pairs c.pairs first.pairs second.pairs;
+      sent = extends_further a.sent b.sent c.sent first.sent second.sent;
+      read = extends_further a.read b.read c.read first.read second.read;
       associations = extends_further a.associations b.associations c.associations first.associations second.associations;
     }
 
@@ -53,6 +64,8 @@ grows_extends Turns old new grows =
       packets = extends_by (packets_in told) grows.packets;
       words = extends_by (words_of grows.turns) grows.words;
       pairs = extends_by (pairs_of grows.turns) grows.pairs;
+      sent = extends_by (sent_of old.socket.view.endpoint grows.turns) grows.sent;
+      read = extends_by (read_of old.socket.view.endpoint grows.turns) grows.read;
       associations = extends_by [] (grows.associations ∙ sym (append-nil old.associations));
     }
 
@@ -91,6 +104,8 @@ noted_side_extends {R = R} side new is =
       packets = extends_itself side.packets;
       words = extends_itself side.words;
       pairs = extends_itself side.pairs;
+      sent = extends_itself side.sent;
+      read = extends_itself side.read;
       associations = extends_by (association_of side.socket.view.endpoint.core ∷ []) refl;
     })
 
@@ -187,8 +202,8 @@ copy_refused {R = R} act old runs =
       runs = runs;
       fails = refl;
       stops = record {
-        mover = record { turns = []; are = inl refl; shows = shows_nothing [] mover mover refl refl refl refl refl refl };
-        other = shows_nothing [] other other refl refl refl refl refl refl;
+        mover = record { turns = []; are = inl refl; shows = shows_nothing [] mover mover refl refl refl refl refl refl refl refl };
+        other = shows_nothing [] other other refl refl refl refl refl refl refl refl;
         other_socket = refl;
       };
       acts = refl;

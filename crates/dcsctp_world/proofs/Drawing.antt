@@ -6,6 +6,7 @@ use Rattle.dcsctp_machine.specs.declared.schedule.Side.{Side}
 use Rattle.dcsctp_machine.specs.declared.schedule.Side.TheVariants as sides
 use Rattle.dcsctp_machine.specs.declared.word.Word.{Word}
 use Rattle.dcsctp_machine.specs.Sockets.{Both, of_side, of_other}
+use Rattle.dcsctp_machine.specs.transfer.Messages.{MessageContent}
 use Rattle.dcsctp_core.specs.View.{Drawn}
 use Rattle.dcsctp_core.proofs.Moving.{Drawn-append}
 use Rattle.dcsctp_socket.specs.SocketView.{SocketView}
@@ -13,6 +14,7 @@ use Rattle.dcsctp_world.specs.Growth.{Collects}
 use Rattle.dcsctp_world.specs.Acts.{with_associations}
 use Rattle.dcsctp_world.specs.Drawing.{CallDraws, SideDraws, DrewFrom, DrawOn}
 use Rattle.dcsctp_world.specs.Shown.{SideShown}
+use Rattle.dcsctp_world.proofs.Stopping.{called_side}
 
 -- ---- a call
 
@@ -36,9 +38,9 @@ behind_nothing stream old mid new (Err error) first none second = tt
 -- ---- a side
 
 -- the socket's call, and then what it brought was kept
-pub side_draws : {R : Type 0} (stream : R → Stream) (old new : SideShown R) (socket : SocketView R) → CallDraws stream old.socket socket → Collects (record old { socket = socket }) new
-    → SideDraws stream old new
-side_draws stream old new socket draws collects =
+pub side_draws : {R : Type 0} (stream : R → Stream) (old new : SideShown R) (socket : SocketView R) (sent read : List MessageContent) → CallDraws stream old.socket socket
+    → Collects (called_side old socket sent read) new → SideDraws stream old new
+side_draws stream old new socket sent read draws collects =
     record {
       added = socket.view.words;
       behind = collects.words;

@@ -40,7 +40,7 @@ pub front_whole : {A : Type 0} {old new : List A} (all : List A) → new ≡ old
 front_whole all behind = record { added = all; rest = []; behind = behind; front = sym (append-nil all) }
 
 -- the whole of what comes first, then a front part of what comes next
-front_behind : {A : Type 0} (whole first all rest old mid new : List A) → whole ≡ first ++ (all ++ rest) → mid ≡ old ++ first → AddsFront all mid new → AddsFront whole old new
+pub front_behind : {A : Type 0} (whole first all rest old mid new : List A) → whole ≡ first ++ (all ++ rest) → mid ≡ old ++ first → AddsFront all mid new → AddsFront whole old new
 front_behind whole first all rest old mid new is before next =
     record {
       added = first ++ next.added;

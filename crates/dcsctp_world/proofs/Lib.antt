@@ -2,10 +2,14 @@ mod Agreeing
 mod Applying
 mod ComingBack
 mod Drawing
+mod Growing
 mod HandingOn
 mod Honest
 mod Keeping
+mod QuietTurns
 mod Running
+mod SaidMessages
+mod SentMessages
 mod Setting
 mod Stopping
 mod Taking

@@ -1,5 +1,5 @@
 -- What a world shows stays what a run shows, from its making on and step by step.
-use Rattle.std.proofs.Common.{◌≡◌, ℕ, false, Option, List, [], ◌∷◌, ◌++◌, map, reverse, refl, sym, ap, subst, ◌∙◌}
+use Rattle.std.proofs.Common.{◌≡◌, ℕ, false, Option, List, [], ◌∷◌, ◌++◌, map, reverse, refl, sym, ap, subst, ◌∙◌, append_assoc}
 use Rattle.std.proofs.lemmas.List.{map-append}
 use Rattle.std.proofs.lemmas.Grind.{reverse_onto}
 use Rattle.dcsctp_machine.specs.declared.association.Pair.{Pair}
@@ -16,6 +16,8 @@ use Rattle.dcsctp_machine.specs.CallTurns.{Turned, after_all, events_of, words_o
 use Rattle.dcsctp_machine.specs.Sockets.{Both, of_side, of_other, side_of_act, TurnsOfAct, NextTurns, Worked, turns_after, with_turns, endpoint_after, events_shown, packets_shown, acts_of, associations_of}
 use Rattle.dcsctp_machine.proofs.TurnLemmas.{after_all-append, words_of-append, pairs_of-append, events_of-append}
 use Rattle.dcsctp_machine.proofs.SocketLemmas.{sockets_keep_options}
+use Rattle.dcsctp_machine.specs.transfer.Messages.{MessageContent}
+use Rattle.dcsctp_delivery_sockets.specs.UserMessages.{sent_in, sent_of, read_in, read_of}
 use Rattle.dcsctp_api.specs.Calls.{user_event}
 use Rattle.dcsctp_machine.specs.declared.schedule.Act.{Act}
 use Rattle.dcsctp_machine.specs.Schedule.{ActContent, act_content}
@@ -40,7 +42,7 @@ reverse-cons x xs = reverse_onto xs x []
 -- ---- a world that was just made
 
 fresh_side_runs : {R : Type 0} (options : Options) (generator : R) → SideRuns options [] (fresh_side options generator)
-fresh_side_runs options generator = record { made_with = refl; goes_on = refl; endpoint = refl; waiting = refl; events = refl; packets = refl; words = refl; pairs = refl }
+fresh_side_runs options generator = record { made_with = refl; goes_on = refl; endpoint = refl; waiting = refl; events = refl; packets = refl; words = refl; pairs = refl; sent = refl; read = refl }
 
 fresh_world_runs : {R : Type 0} (options : Both Options) (generators : Both R) → IsUsable options.a → IsUsable options.b → IsRun options (fresh_world options generators)
 fresh_world_runs options generators a b =
@@ -83,6 +85,18 @@ events_shown-append options xs ys =
     ap (λ (l : List (Event Emission)). map (event_map (emission_bytes (ports_of options))) l) (events_of-append xs ys)
     ∙ map-append (event_map (emission_bytes (ports_of options))) (events_of xs) (events_of ys)
 
+sent_of-append : (e : Endpoint) (xs ys : List Turned) → sent_of e (xs ++ ys) ≡ sent_of e xs ++ sent_of (after_all e xs) ys
+sent_of-append e [] ys = refl
+sent_of-append e (t ∷ xs) ys =
+    ap (λ (l : List MessageContent). sent_in e t.input ++ l) (sent_of-append t.outcome.after xs ys)
+    ∙ sym (append_assoc (sent_in e t.input) (sent_of t.outcome.after xs) (sent_of (after_all t.outcome.after xs) ys))
+
+read_of-append : (e : Endpoint) (xs ys : List Turned) → read_of e (xs ++ ys) ≡ read_of e xs ++ read_of (after_all e xs) ys
+read_of-append e [] ys = refl
+read_of-append e (t ∷ xs) ys =
+    ap (λ (l : List MessageContent). read_in e t.input ++ l) (read_of-append t.outcome.after xs ys)
+    ∙ sym (append_assoc (read_in e t.input) (read_of t.outcome.after xs) (read_of (after_all t.outcome.after xs) ys))
+
 side_grows : {R : Type 0} {answer : Reply} (options : Options) (turns : List Turned) (Turns : List Turned → Type 0) (old new : SideShown R) (grows : Grows Turns answer old new)
     → SameOptions options (endpoint_after options turns).options → SideRuns options turns old → SideRuns options (turns ++ grows.turns) new
 side_grows options turns Turns old new grows kept h =
@@ -101,6 +115,10 @@ side_grows options turns Turns old new grows kept h =
           ∙ sym (packets_in-append (events_shown options turns) (events_shown options os)) ∙ ap packets_in (sym (events_shown-append options turns os));
       words = grows.words ∙ ap (λ (l : List Word). l ++ words_of os) h.words ∙ sym (words_of-append turns os);
       pairs = grows.pairs ∙ ap (λ (l : List Pair). l ++ pairs_of os) h.pairs ∙ sym (pairs_of-append turns os);
+      sent = grows.sent ∙ ap (λ (l : List MessageContent). l ++ sent_of old.socket.view.endpoint os) h.sent
+          ∙ ap (λ (e : Endpoint). sent_of (fresh_endpoint options) turns ++ sent_of e os) h.endpoint ∙ sym (sent_of-append (fresh_endpoint options) turns os);
+      read = grows.read ∙ ap (λ (l : List MessageContent). l ++ read_of old.socket.view.endpoint os) h.read
+          ∙ ap (λ (e : Endpoint). read_of (fresh_endpoint options) turns ++ read_of e os) h.endpoint ∙ sym (read_of-append (fresh_endpoint options) turns os);
     }
 
 -- ---- an act more
@@ -135,8 +153,10 @@ noted moved sides.B = refl
 
 noted_runs : {R : Type 0} (options : Both Options) (turns : Both (List Turned)) (moved : Both (SideShown R)) (side : Side) → SidesRun options turns moved side
     → SidesRun options turns (with_associations moved) side
-noted_runs options turns moved sides.A h = record { made_with = h.made_with; goes_on = h.goes_on; endpoint = h.endpoint; waiting = h.waiting; events = h.events; packets = h.packets; words = h.words; pairs = h.pairs }
-noted_runs options turns moved sides.B h = record { made_with = h.made_with; goes_on = h.goes_on; endpoint = h.endpoint; waiting = h.waiting; events = h.events; packets = h.packets; words = h.words; pairs = h.pairs }
+noted_runs options turns moved sides.A h =
+    record { made_with = h.made_with; goes_on = h.goes_on; endpoint = h.endpoint; waiting = h.waiting; events = h.events; packets = h.packets; words = h.words; pairs = h.pairs; sent = h.sent; read = h.read }
+noted_runs options turns moved sides.B h =
+    record { made_with = h.made_with; goes_on = h.goes_on; endpoint = h.endpoint; waiting = h.waiting; events = h.events; packets = h.packets; words = h.words; pairs = h.pairs; sent = h.sent; read = h.read }
 
 other_packets : {R : Type 0} (options : Both Options) (turns : Both (List Turned)) (old : Both (SideShown R)) (mover : Side) → ((side : Side) → SidesRun options turns old side)
     → (of_other mover old).packets ≡ packets_shown (of_other mover options) (of_other mover turns)

@@ -10,6 +10,8 @@ use Rattle.dcsctp_machine.specs.Event.{Event, packets_in}
 use Rattle.dcsctp_machine.specs.Endpoint.{Endpoint, association_of}
 use Rattle.dcsctp_machine.specs.CallTurns.{Turned, after_all, words_of, pairs_of}
 use Rattle.dcsctp_machine.specs.Sockets.{Both, of_side, of_other, side_of_act, TurnsOfAct}
+use Rattle.dcsctp_machine.specs.transfer.Messages.{MessageContent}
+use Rattle.dcsctp_delivery_sockets.specs.UserMessages.{sent_of, read_of}
 use Rattle.dcsctp_api.specs.declared.errors.SocketFault.{SocketFault}
 use Rattle.dcsctp_api.specs.declared.errors.SocketFault.TheVariants.{OutOfMemory, Failed}
 use Rattle.dcsctp_api.specs.Calls.{Follows, HandlesInput}
@@ -24,6 +26,10 @@ use Rattle.dcsctp_world.specs.Growth.{AddsFront, CollectsFront, told, Called, Gr
 use Rattle.dcsctp_world.specs.Acts.{ActMoves, ActStops, MovesSide, WorksAct}
 use Rattle.dcsctp_world.specs.Parts.{both, world_of}
 use Rattle.dcsctp_world.proofs.Keeping.{front_same, front_whole}
+
+-- the side once a call left its socket so, and these messages are what is kept
+abbrev pub called_side : {R : Type 0} → SideShown R → SocketView R → List MessageContent → List MessageContent → SideShown R
+called_side old socket sent read = record old { socket = socket; sent = sent; read = read }
 
 -- ---- no call was made
 
@@ -40,6 +46,8 @@ grows_by_nothing Turns side turned empty =
       packets = sym (append-nil side.packets);
       words = sym (append-nil side.words);
       pairs = sym (append-nil side.pairs);
+      sent = sym (append-nil side.sent);
+      read = sym (append-nil side.read);
       associations = refl;
       last_words = λ is. absurd is;
       last_pairs = λ is. absurd is;
@@ -50,14 +58,16 @@ grows_by_nothing Turns side turned empty =
 
 -- nothing was added yet
 pub shows_nothing : {R : Type 0} (turns : List Turned) (old new : SideShown R) → new.options ≡ old.options → new.events ≡ old.events → new.packets ≡ old.packets
-    → new.words ≡ old.words → new.pairs ≡ old.pairs → new.associations ≡ old.associations → ShowsFront turns old new
-shows_nothing turns old new options events packets words pairs associations =
+    → new.words ≡ old.words → new.pairs ≡ old.pairs → new.sent ≡ old.sent → new.read ≡ old.read → new.associations ≡ old.associations → ShowsFront turns old new
+shows_nothing turns old new options events packets words pairs sent read associations =
     record {
       options = options;
       events = front_same (told old turns) events;
       packets = front_same (packets_in (told old turns)) packets;
       words = front_same (words_of turns) words;
       pairs = front_same (pairs_of turns) pairs;
+      sent = front_same (sent_of old.socket.view.endpoint turns) sent;
+      read = front_same (read_of old.socket.view.endpoint turns) read;
       associations = front_same (association_of (after_all old.socket.view.endpoint turns).core ∷ []) associations;
     }
 
@@ -65,13 +75,14 @@ shows_nothing turns old new options events packets words pairs associations =
 stops_before : {R : Type 0} (Turns : List Turned → Type 0) (old : SideShown R) (socket : SocketView R) → Stops Turns old (record old { socket = socket })
 stops_before Turns old socket =
     let new = record old { socket = socket } in
-    record { turns = []; are = inl refl; shows = shows_nothing [] old new refl refl refl refl refl refl }
+    record { turns = []; are = inl refl; shows = shows_nothing [] old new refl refl refl refl refl refl refl refl }
 
--- the call's turns were worked, and then what they brought was taken in part
-pub stops_after : {R : Type 0} (Turns : List Turned → Type 0) (old new : SideShown R) (socket : SocketView R) (turns : List Turned) → Turns turns
-    → old.socket.view.events ≡ [] → Follows (user_view_of old.socket) turns (user_view_of socket) → CollectsFront (record old { socket = socket }) new
-    → Stops Turns old new
-stops_after Turns old new socket turns turned empty follows part =
+-- the call's turns were worked, and then what they brought was kept in part: messages first
+pub stops_after : {R : Type 0} (Turns : List Turned → Type 0) (old new : SideShown R) (socket : SocketView R) (sent read : List MessageContent) (turns : List Turned) → Turns turns
+    → old.socket.view.events ≡ [] → Follows (user_view_of old.socket) turns (user_view_of socket)
+    → AddsFront (sent_of old.socket.view.endpoint turns) old.sent sent → AddsFront (read_of old.socket.view.endpoint turns) old.read read
+    → CollectsFront (called_side old socket sent read) new → Stops Turns old new
+stops_after Turns old new socket sent read turns turned empty follows sends reads part =
     let waiting : socket.view.events ≡ told old turns = follows.events ∙ ap (λ (l : List (Event (List ℕ))). l ++ told old turns) empty in
     record {
       turns = turns;
@@ -82,6 +93,8 @@ stops_after Turns old new socket turns turned empty follows part =
         packets = subst (λ (l : List (Event (List ℕ))). AddsFront (packets_in l) old.packets new.packets) waiting part.packets;
         words = subst (λ (l : List Word). AddsFront l old.words new.words) follows.words part.words;
         pairs = subst (λ (l : List Pair). AddsFront l old.pairs new.pairs) follows.pairs part.pairs;
+        sent = subst (λ (l : List MessageContent). AddsFront (sent_of old.socket.view.endpoint turns) old.sent l) (sym part.sent) sends;
+        read = subst (λ (l : List MessageContent). AddsFront (read_of old.socket.view.endpoint turns) old.read l) (sym part.read) reads;
         associations = front_same (association_of (after_all old.socket.view.endpoint turns).core ∷ []) part.associations;
       };
     }
@@ -123,6 +136,8 @@ grows_in_part {R = R} Turns old moved new grows noted =
       packets = front_whole (packets_in (told old os)) grows.packets;
       words = front_whole (words_of os) grows.words;
       pairs = front_whole (pairs_of os) grows.pairs;
+      sent = front_whole (sent_of old.socket.view.endpoint os) grows.sent;
+      read = front_whole (read_of old.socket.view.endpoint os) grows.read;
       associations = h;
     } in
     let behind : (with_association moved).associations ≡ old.associations ++ now =
@@ -139,8 +154,8 @@ other_in_part : {R : Type 0} (old moved new : SideShown R) → moved ≡ old →
 other_in_part {R = R} old moved new stays noted =
     let now : List (Option Association) = association_of old.socket.view.endpoint.core ∷ [] in
     let same : MaybeNoted old new = subst (λ (side : SideShown R). MaybeNoted side new) stays noted in
-    at_noted old new same (λ (side : SideShown R). ShowsFront [] old side) (shows_nothing [] old old refl refl refl refl refl refl)
-    (record { options = refl; events = front_same [] refl; packets = front_same [] refl; words = front_same [] refl; pairs = front_same [] refl; associations = front_whole now refl })
+    at_noted old new same (λ (side : SideShown R). ShowsFront [] old side) (shows_nothing [] old old refl refl refl refl refl refl refl refl)
+    (record { options = refl; events = front_same [] refl; packets = front_same [] refl; words = front_same [] refl; pairs = front_same [] refl; sent = front_same [] refl; read = front_same [] refl; associations = front_whole now refl })
 
 -- ---- an act
 

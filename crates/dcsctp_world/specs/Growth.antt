@@ -17,6 +17,7 @@ use Rattle.dcsctp_api.specs.Resets.{reset_refusal_in}
 use Rattle.dcsctp_machine.specs.transfer.Messages.{MessageContent}
 use Rattle.dcsctp_machine.specs.turns.MessageOutcomes.{MessageRefusal, message_refusal, sending_of, RefusedMessage, refused_from}
 use Rattle.dcsctp_machine.specs.turns.PreparedResets.{ResetRefusal, reset_refusal}
+use Rattle.dcsctp_delivery_sockets.specs.UserMessages.{sent_of, read_of}
 use Rattle.dcsctp_world.specs.declared.act.Reply.{Reply}
 use Rattle.dcsctp_world.specs.declared.act.Reply.TheVariants.{NoCall, Done, Sent, SentMany, Reset, Taken, HandedOver, Restored}
 use Rattle.dcsctp_world.specs.Shown.{SideShown}
@@ -62,8 +63,8 @@ TakesAll old kept_before (Err error) new kept_now = KeptFront old.events kept_be
 
 -- ---- a side
 
--- What waits in the socket is taken and kept, with the words and pairs of the last call; the endpoint and the generator are
--- unchanged.
+-- What waits in the socket is taken and kept, with the words and pairs of the last call; the endpoint, the generator and the
+-- messages are unchanged.
 pub record Collects {R : Type 0} (old new : SideShown R) : Type 0 where
   pub endpoint : new.socket.view.endpoint ≡ old.socket.view.endpoint
   pub generator : new.socket.view.generator ≡ old.socket.view.generator
@@ -74,6 +75,8 @@ pub record Collects {R : Type 0} (old new : SideShown R) : Type 0 where
   pub packets : new.packets ≡ old.packets ++ packets_in old.socket.view.events
   pub words : new.words ≡ old.words ++ old.socket.view.words
   pub pairs : new.pairs ≡ old.pairs ++ old.socket.view.pairs
+  pub sent : new.sent ≡ old.sent
+  pub read : new.read ≡ old.read
   pub associations : new.associations ≡ old.associations
   pub last_words : new.socket.view.words ≡ old.socket.view.words
   pub last_pairs : new.socket.view.pairs ≡ old.socket.view.pairs
@@ -85,6 +88,8 @@ pub record CollectsFront {R : Type 0} (old new : SideShown R) : Type 0 where
   pub packets : AddsFront (packets_in old.socket.view.events) old.packets new.packets
   pub words : AddsFront old.socket.view.words old.words new.words
   pub pairs : AddsFront old.socket.view.pairs old.pairs new.pairs
+  pub sent : new.sent ≡ old.sent
+  pub read : new.read ≡ old.read
   pub associations : new.associations ≡ old.associations
 
 -- What waited was collected; or an allocation failed, and it was collected in part.
@@ -120,6 +125,8 @@ pub record Grows {R : Type 0} (Turns : List Turned → Type 0) (answer : Reply) 
   pub packets : new.packets ≡ old.packets ++ packets_in (told old turns)
   pub words : new.words ≡ old.words ++ words_of turns
   pub pairs : new.pairs ≡ old.pairs ++ pairs_of turns
+  pub sent : new.sent ≡ old.sent ++ sent_of old.socket.view.endpoint turns
+  pub read : new.read ≡ old.read ++ read_of old.socket.view.endpoint turns
   pub associations : new.associations ≡ old.associations
   pub last_words : WasCalled answer → new.socket.view.words ≡ words_of turns
   pub last_pairs : WasCalled answer → new.socket.view.pairs ≡ pairs_of turns
@@ -133,6 +140,8 @@ pub record ShowsFront {R : Type 0} (turns : List Turned) (old new : SideShown R)
   pub packets : AddsFront (packets_in (told old turns)) old.packets new.packets
   pub words : AddsFront (words_of turns) old.words new.words
   pub pairs : AddsFront (pairs_of turns) old.pairs new.pairs
+  pub sent : AddsFront (sent_of old.socket.view.endpoint turns) old.sent new.sent
+  pub read : AddsFront (read_of old.socket.view.endpoint turns) old.read new.read
   pub associations : AddsFront (association_of (after_all old.socket.view.endpoint turns).core ∷ []) old.associations new.associations
 
 -- An allocation failed while what such turns brought was kept, or before.
@@ -172,6 +181,8 @@ pub record SideExtends {R : Type 0} (old new : SideShown R) : Type 0 where
   pub packets : Extends old.packets new.packets
   pub words : Extends old.words new.words
   pub pairs : Extends old.pairs new.pairs
+  pub sent : Extends old.sent new.sent
+  pub read : Extends old.read new.read
   pub associations : Extends old.associations new.associations
 
 -- the side with its association as it is now

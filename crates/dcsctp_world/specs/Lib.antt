@@ -2,6 +2,7 @@ pub mod Acts
 pub mod Agreement
 pub mod Drawing
 pub mod Growth
+pub mod Messages
 pub mod Outside
 pub mod Parts
 pub mod Recording

@@ -6,6 +6,7 @@ use Rattle.dcsctp_api.specs.declared.events.SocketEvent.{SocketEvent}
 use Rattle.dcsctp_api.specs.Events.{event_content}
 use Rattle.dcsctp_machine.specs.Schedule.{act_content}
 use Rattle.dcsctp_machine.specs.declared.schedule.Act.{Act}
+use Rattle.dcsctp_machine.specs.transfer.Messages.{message_content}
 use Rattle.dcsctp_world.specs.declared.watched_socket.WatchedSocket.{WatchedSocket}
 use Rattle.dcsctp_world.specs.Growth.{Kept}
 use Rattle.dcsctp_world.specs.Shown.{SideShown, WorldView}
@@ -27,6 +28,8 @@ shown watched =
       packets = packet_bytes watched.packets.items;
       words = watched.words.items;
       pairs = watched.pairs.items;
+      sent = map message_content watched.sent.items;
+      read = map message_content watched.read.items;
       associations = watched.associations.items;
     }
 

@@ -3,8 +3,10 @@ use Rattle.std.specs.Prelude.{◌≡◌, false, List, [], reverse}
 use Rattle.dcsctp_machine.specs.declared.options.Options.{Options}
 use Rattle.dcsctp_machine.specs.declared.schedule.Side.{Side}
 use Rattle.dcsctp_machine.specs.CallTurns.{Turned, words_of, pairs_of}
+use Rattle.dcsctp_machine.specs.Endpoint.{fresh_endpoint}
 use Rattle.dcsctp_machine.specs.Sockets.{Both, of_side, Worked, SocketRun, turns_after, endpoint_after, events_shown, packets_shown, acts_of, associations_of}
 use Rattle.dcsctp_machine_refinement.specs.Agreement.{AreUsable}
+use Rattle.dcsctp_delivery_sockets.specs.UserMessages.{sent_of, read_of}
 use Rattle.dcsctp_world.specs.Shown.{SideShown, WorldView, options_of}
 use Rattle.dcsctp_world.specs.Recording.{Recording}
 use Rattle.dcsctp_world.specs.Drawing.{AreWhole}
@@ -19,6 +21,8 @@ pub record SideRuns {R : Type 0} (options : Options) (turns : List Turned) (side
   pub packets : side.packets ≡ packets_shown options turns
   pub words : side.words ≡ words_of turns
   pub pairs : side.pairs ≡ pairs_of turns
+  pub sent : side.sent ≡ sent_of (fresh_endpoint options) turns
+  pub read : side.read ≡ read_of (fresh_endpoint options) turns
 
 -- All that the world shows is what two sockets with these options show, along one run of what was applied.
 pub record IsRun {R : Type 0} (options : Both Options) (world : WorldView R) : Type 0 where

@@ -6,11 +6,13 @@ use Rattle.dcsctp_machine.specs.declared.options.Options.{Options}
 use Rattle.dcsctp_machine.specs.declared.word.Word.{Word}
 use Rattle.dcsctp_machine.specs.Event.{Event}
 use Rattle.dcsctp_machine.specs.Sockets.{Both}
+use Rattle.dcsctp_machine.specs.transfer.Messages.{MessageContent}
 use Rattle.dcsctp_socket.specs.SocketView.{SocketView, fresh_socket}
 use Rattle.dcsctp_machine.specs.Schedule.{ActContent}
 
 -- A socket, and all that it ever showed, oldest first: its events, the packets among them, the words that it drew, and the pairs
--- that it made of them. Also its association at the start and after each act of either side.
+-- that it made of them; the messages that its user sent and read. Also its association at the start and after each act of either
+-- side.
 pub record SideShown (R : Type 0) : Type 0 where
   pub socket : SocketView R
   -- those that the socket was made with
@@ -19,6 +21,9 @@ pub record SideShown (R : Type 0) : Type 0 where
   pub packets : List (List ℕ)
   pub words : List Word
   pub pairs : List Pair
+  -- those that `send` and `send_many` accepted, and those that `get_next_message` gave
+  pub sent : List MessageContent
+  pub read : List MessageContent
   pub associations : List (Option Association)
 
 -- two of these, what happened to them, oldest first, and whether an allocation failed
@@ -30,7 +35,7 @@ pub record WorldView (R : Type 0) : Type 0 where
 -- a side with a socket that was just made
 abbrev pub fresh_side : {R : Type 0} → Options → R → SideShown R
 fresh_side options generator =
-    record { socket = fresh_socket options generator; options = options; events = []; packets = []; words = []; pairs = []; associations = None ∷ [] }
+    record { socket = fresh_socket options generator; options = options; events = []; packets = []; words = []; pairs = []; sent = []; read = []; associations = None ∷ [] }
 
 -- a world that was just made
 abbrev pub fresh_world : {R : Type 0} → Both Options → Both R → WorldView R

@@ -11,6 +11,7 @@
 
 mod act;
 mod recorded;
+mod user_messages;
 mod watched_socket;
 mod world;
 

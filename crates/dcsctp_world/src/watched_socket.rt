@@ -19,6 +19,7 @@ ghost use Rattle.dcsctp_world.specs.Outside.{HandoverTurns, IsHandedOnBy, ValidT
 ghost use Rattle.dcsctp_world.specs.Parts.{packet_bytes, kept, shown};
 
 use crate::act::Reply;
+use crate::user_messages::keep_messages;
 use dcsctp_api::handover::SocketHandoverState;
 use dcsctp_machine::{Act, Call, Outside, Step, copied_messages};
 use dcsctp_socket::{
@@ -48,6 +49,12 @@ pub struct WatchedSocket<R> {
 
     /// The pairs that it made of them.
     pub pairs: Vec<Pair>,
+
+    /// The messages that its user sent: those that `send` and `send_many` accepted.
+    pub sent: Vec<Message>,
+
+    /// Those that its user read: what `get_next_message` gave.
+    pub read: Vec<Message>,
 
     /// Its association at the start and after each act of either side.
     pub associations: Vec<Option<Association>>,
@@ -279,6 +286,8 @@ impl<R: Rng + Drop> WatchedSocket<R> {
             packets: Vec::new(alloc),
             words: Vec::new(alloc),
             pairs: Vec::new(alloc),
+            sent: Vec::new(alloc),
+            read: Vec::new(alloc),
             associations,
         })
     }
@@ -304,6 +313,7 @@ impl<R: Rng + Drop> WatchedSocket<R> {
         ensures drawn { OnOk result (SideDraws R.stream (shown self.old) (shown self.new)) }
     {
         let reply = make_call(&mut self.socket, call)?;
+        keep_messages(&mut self.sent, &mut self.read, call, &reply)?;
         self.keep_all()?;
         Ok(reply)
     }

@@ -6,7 +6,7 @@ use crate::watched_socket::WatchedSocket;
 use dcsctp_machine::{Act, Outside, Side, Step, options_fit, sockets_stay_sound};
 use dcsctp_machine_cookies::cookie_laws;
 use dcsctp_machine_refinement::{restored_sockets_begin_nothing, socket_laws};
-use dcsctp_socket::{Association, Options, Pair, Socket, SocketEvent, SocketFault, Word};
+use dcsctp_socket::{Association, Message, Options, Pair, Socket, SocketEvent, SocketFault, Word};
 use rand_core::Rng;
 use std::alloc::Global;
 use std::marker::Model;
@@ -55,6 +55,7 @@ ghost use Rattle.std.specs.Prelude.{◌≡◌, ◌↔◌, IsTrue, [], false, map
 ghost use Rattle.dcsctp_machine.specs.Settings.{IsValid};
 ghost use Rattle.dcsctp_machine.specs.Schedule.{act_content, step_content, step_act, outside_content, outside_act, AreHonest};
 ghost use Rattle.dcsctp_machine.specs.Sockets.{of_side, side_of_outside};
+ghost use Rattle.dcsctp_machine.specs.transfer.Messages.{message_content};
 ghost use Rattle.dcsctp_api.specs.Events.{event_content};
 ghost use Rattle.dcsctp_world.specs.Shown.{fresh_world, options_of};
 ghost use Rattle.dcsctp_world.specs.Recording.{fresh_recording, recorded_stream};
@@ -322,6 +323,21 @@ impl<R: Rng + Drop> World<R> {
         ensures { result.now ≡ (of_side side self.now.sides).pairs }
     {
         &self.watched(side).pairs
+    }
+
+    /// All messages that this side's user sent, in order: those that `send` and `send_many` accepted. Allocates
+    /// nothing.
+    pub fn sent(&self, side: Side) -> &[Message]
+        ensures { map message_content result.now ≡ (of_side side self.now.sides).sent }
+    {
+        &self.watched(side).sent
+    }
+
+    /// All messages that this side's user read, in order: those that `get_next_message` gave. Allocates nothing.
+    pub fn read(&self, side: Side) -> &[Message]
+        ensures { map message_content result.now ≡ (of_side side self.now.sides).read }
+    {
+        &self.watched(side).read
     }
 
     /// What this side's association was at the start and after each act of either side. Allocates nothing.

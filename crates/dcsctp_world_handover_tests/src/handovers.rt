@@ -88,6 +88,7 @@ fn tells_in_order(rt: &impl Abort, world: &World<TwoWords>) {
     };
 }
 
+// What a snapshot has was sent by the user of another socket.
 #[test]
 fn a_snapshot_by_hand_is_restored_and_sends_what_it_has(rt: HostRuntime) {
     let mut world = restored_world(&rt, rt.alloc());
@@ -100,6 +101,7 @@ fn a_snapshot_by_hand_is_restored_and_sends_what_it_has(rt: HostRuntime) {
     same(&rt, "is it ready?", readiness, HandoverReadiness::READY);
     same(&rt, "events", world.events(Side::A).len(), 3);
     waits_for(&rt, &world, "the heartbeat interval", 30_000);
+    same(&rt, "sent", world.sent(Side::A).len(), 0);
     drop(world);
 }
 
@@ -129,6 +131,7 @@ fn takes_it(rt: &impl Abort, world: &mut World<TwoWords>) {
         message.payload.as_slice(),
         [0xdd, 0xee].as_slice(),
     );
+    same(rt, "read", world.read(Side::A), [message].as_slice());
 }
 
 // It isn't the first data of the association, so it is acknowledged after the delay.

@@ -2,7 +2,7 @@
 //! association after it.
 
 use crate::snapshot::fill;
-use dcsctp_refusal_testing::{Told, at, message};
+use dcsctp_refusal_testing::{Told, at, is_message, message};
 use dcsctp_testing::Counting;
 use dcsctp_world::socket::api::handover::SocketHandoverState;
 use dcsctp_world::socket::{Phase, SendOptions, SocketFault, StreamId};
@@ -23,6 +23,9 @@ pub enum Deed {
 
     /// Its user sends a message on this stream, of that many bytes.
     Sends(u16, u16),
+
+    /// Its user reads a message, which was sent on this stream and has that many bytes.
+    Reads(u16, u16),
 
     /// Its user resets this stream.
     Resets(u16),
@@ -93,6 +96,7 @@ pub fn act(alloc: Global, packets: &[Vec<u8>], side: Side, deed: Deed) -> Result
         Deed::Closes => Ok(called(side, Call::Close)),
         Deed::ShutsDown => Ok(called(side, Call::Shutdown)),
         Deed::Sends(stream, size) => sending(alloc, side, stream, size),
+        Deed::Reads(_, _) => Ok(called(side, Call::GetNextMessage)),
         Deed::Resets(stream) => resetting(alloc, side, stream),
         Deed::Passes(millis) => Ok(called(side, Call::AdvanceTime(at(millis)))),
         Deed::Takes(number) => Ok(Act::Step(Step::Deliver(side, number))),
@@ -114,15 +118,24 @@ pub fn steps(alloc: Global, rows: &[Row]) -> Result<Vec<Step>, AllocError> {
     Ok(steps)
 }
 
-/// What each of them answers.
-pub fn answer(deed: Deed) -> Reply {
+/// Is it what this deed answers?
+pub fn is_answer(deed: Deed, reply: &Reply) -> bool {
     match deed {
-        Deed::Connects | Deed::Closes | Deed::ShutsDown => Reply::Done,
-        Deed::Passes(_) | Deed::Takes(_) => Reply::Done,
-        Deed::IsHanded(_) | Deed::IsHandedCopy(_) => Reply::Done,
-        Deed::Sends(_, _) => Reply::Sent(Ok(())),
-        Deed::Resets(_) => Reply::Reset(Ok(())),
-        Deed::IsHandedOver | Deed::IsRestored => Reply::Restored(Ok(())),
+        Deed::Connects | Deed::Closes | Deed::ShutsDown => *reply == Reply::Done,
+        Deed::Passes(_) | Deed::Takes(_) => *reply == Reply::Done,
+        Deed::IsHanded(_) | Deed::IsHandedCopy(_) => *reply == Reply::Done,
+        Deed::Sends(_, _) => *reply == Reply::Sent(Ok(())),
+        Deed::Reads(stream, size) => is_taken(reply, stream, size),
+        Deed::Resets(_) => *reply == Reply::Reset(Ok(())),
+        Deed::IsHandedOver | Deed::IsRestored => *reply == Reply::Restored(Ok(())),
+    }
+}
+
+// Was the message of this stream and size read?
+fn is_taken(reply: &Reply, stream: u16, size: u16) -> bool {
+    match reply {
+        Reply::Taken(Some(message)) => is_message(message, Some(&(stream, size))),
+        _ => false,
     }
 }
 

@@ -1,6 +1,6 @@
 //! A new world, an act of a table that is applied to it, and what a world promises once an allocation failed in it.
 
-use crate::deeds::{Row, act, answer, apply};
+use crate::deeds::{Row, act, apply, is_answer};
 use crate::views::{Answers, Lengths, answers, lengths, other};
 use dcsctp_testing::Counting;
 use dcsctp_world::socket::api::handover::SocketHandoverState;
@@ -72,7 +72,7 @@ pub fn takes(
     );
     match outcome {
         Ok(reply) => {
-            assert_eq!(rt; reply, answer(*deed), "{side:?} {deed:?}");
+            assert!(rt; is_answer(*deed, &reply), "{side:?} {deed:?}: {reply:?}");
             is_well(rt, world);
             true
         }

@@ -12,7 +12,7 @@ use std::alloc::Global;
 use std::process::Abort;
 
 // A new world shows that there is no association, and nothing else.
-const NEW: Lengths = [[0, 0, 1, 0, 0, 0]; 2];
+const NEW: Lengths = [[0, 0, 1, 0, 0, 0, 0, 0]; 2];
 
 // What the sides draw in a handshake, and nothing else: a first TSN, a tag less 1, and a tie tag.
 const WORDS_OF_A: [Word; 3] = [Word::U32(100), Word::U32(101), Word::U64(102)];
@@ -49,11 +49,11 @@ impl Twin<'_> {
         rt: &impl Abort,
         world: &World<Counting>,
         side: Side,
-        (least, most): ([usize; 6], [usize; 6]),
+        (least, most): ([usize; 8], [usize; 8]),
     ) {
         let shown = lengths_of(world, side);
         let fronts = are_fronts(world, self.world, side);
-        for place in 0..6 {
+        for place in 0..8 {
             let (view, found) = (VIEWS[place], shown[place]);
             let (least, most) = (least[place], most[place]);
             assert!(rt;

@@ -9,17 +9,19 @@ use dcsctp_world::socket::{
 use dcsctp_world::{Side, World};
 
 /// The views of a side. The last one are the words that its generator gave.
-pub const VIEWS: [&str; 6] = [
+pub const VIEWS: [&str; 8] = [
     "packets",
     "events",
     "associations",
     "words",
     "pairs",
+    "sent",
+    "read",
     "words of the generator",
 ];
 
 /// How many entries each view of A has, and each of B.
-pub type Lengths = [[usize; 6]; 2];
+pub type Lengths = [[usize; 8]; 2];
 
 /// What a socket answers to queries: its state, the moment that it waits for, its tag, how many messages are ready,
 /// and whether it has failed.
@@ -44,13 +46,15 @@ pub fn other(side: Side) -> Side {
 }
 
 /// How many entries each view of a side has.
-pub fn lengths_of(world: &World<Counting>, side: Side) -> [usize; 6] {
+pub fn lengths_of(world: &World<Counting>, side: Side) -> [usize; 8] {
     [
         world.packets(side).len(),
         world.events(side).len(),
         world.associations(side).len(),
         world.words(side).len(),
         world.pairs(side).len(),
+        world.sent(side).len(),
+        world.read(side).len(),
         world.socket(side).generator().words().len(),
     ]
 }
@@ -155,7 +159,7 @@ fn associations_begin(all: &[Option<Association>], first: &[Option<Association>]
 }
 
 /// Is each view of this side a front part of what the other world shows there, entry by entry?
-pub fn are_fronts(world: &World<Counting>, of: &World<Counting>, side: Side) -> [bool; 6] {
+pub fn are_fronts(world: &World<Counting>, of: &World<Counting>, side: Side) -> [bool; 8] {
     let given = world.socket(side).generator().words();
     [
         of.packets(side).starts_with(world.packets(side)),
@@ -163,6 +167,8 @@ pub fn are_fronts(world: &World<Counting>, of: &World<Counting>, side: Side) -> 
         associations_begin(of.associations(side), world.associations(side)),
         of.words(side).starts_with(world.words(side)),
         of.pairs(side).starts_with(world.pairs(side)),
+        of.sent(side).starts_with(world.sent(side)),
+        of.read(side).starts_with(world.read(side)),
         of.socket(side).generator().words().starts_with(given),
     ]
 }

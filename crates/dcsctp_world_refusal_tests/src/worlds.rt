@@ -1,7 +1,7 @@
 //! A world in which an allocation fails in a step: that step says so, each view is a front part of what it would have
 //! been, and the world applies nothing from then on. Steps are applied one by one, and by one run.
 
-use crate::deeds::Deed::{Connects, Resets, Sends, ShutsDown, Takes};
+use crate::deeds::Deed::{Connects, Reads, Resets, Sends, ShutsDown, Takes};
 use crate::deeds::{Row, steps};
 use crate::taking::{has_run_out, is_well, new_world, stays_failed, takes};
 use crate::twins::{Twin, goes_first};
@@ -19,7 +19,7 @@ use dcsctp_world::socket::Phase::{
 use std::alloc::Global;
 use std::process::Abort;
 
-// The handshake, a message with its acknowledgement, a reset with its answer, and a shutdown (RFC 9260, sections 5.1, 6.2
+// The handshake, a message with its acknowledgement, which is read, a reset with its answer, and a shutdown (RFC 9260, sections 5.1, 6.2
 // and 9.2; RFC 6525, section 5).
 static STEPS: &[Row] = &[
     (A, Connects, &[Packet(&[INIT])], Some(CookieWait)),
@@ -39,6 +39,7 @@ static STEPS: &[Row] = &[
         Some(Established),
     ),
     (B, Takes(3), &[Packet(&[SACK])], Some(Established)),
+    (B, Reads(1, 10), &[], Some(Established)),
     (A, Takes(3), &[], Some(Established)),
     (A, Resets(1), &[Packet(&[RE_CONFIG])], Some(Established)),
     (

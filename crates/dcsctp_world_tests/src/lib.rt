@@ -12,6 +12,8 @@ mod messages;
 #[cfg(test)]
 mod outside;
 #[cfg(test)]
+mod user_messages;
+#[cfg(test)]
 mod words;
 #[cfg(test)]
 mod worlds;

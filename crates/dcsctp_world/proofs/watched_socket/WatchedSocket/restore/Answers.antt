@@ -7,7 +7,9 @@ use Rattle.dcsctp_world.specs.Outside.{ValidTurns, IsRestoredBy}
 use Rattle.dcsctp_world.specs.Parts.{shown}
 use Rattle.dcsctp_world.proofs.HandingOn.{not_restored_by}
 use Rattle.dcsctp_world.proofs.Drawing.{side_draws_nothing}
-use Rattle.dcsctp_world.proofs.Stopping.{call_fails, stops_after}
+use Rattle.dcsctp_world.proofs.Stopping.{call_fails}
+use Rattle.dcsctp_world.proofs.Growing.{quiet_grows, quiet_stops}
+use Rattle.dcsctp_world.proofs.QuietTurns.{restore_turns_quiet}
 use Rattle.dcsctp_world.proofs.watched_socket.WatchedSocket.restore.Goals as goal
 
 pub returns-in_err-reply-clause-call : goal.returns-in_err-reply-clause-call
@@ -25,8 +27,17 @@ returns-in_err-keep_all-clause-call g c =
     let p = err_from_is_err_and c.from_residual-in_err-keep_all.result c.from_residual-in_err-keep_all.ensures.1 in
     rw (p.1, p.2) (
       worked.follows.runs,
-      stops_after Turns (shown c.args.self.now) (shown c.keep_all.new.self) c.restore.new.socket worked.turns
-          worked.are c.requires worked.follows c.in_err-keep_all.ensures,
+      quiet_stops Turns (shown c.args.self.now) (shown c.keep_all.new.self) c.restore.new.socket worked.turns worked.are c.requires worked.follows
+          (restore_turns_quiet c.args.self.now.socket.view.endpoint (snapshot c.args.state.now) worked.turns worked.are) c.in_err-keep_all.ensures,
+    )
+
+pub returns-clause-call : goal.returns-clause-call
+returns-clause-call g c =
+    let Turns : List Turned → Type 0 = ValidTurns c.args.self.now.socket.view.endpoint (snapshot c.args.state.now) in
+    let worked = c.in_ok-reply.ensures.call in (
+      worked.reply,
+      quiet_grows Turns (shown c.args.self.now) (shown c.keep_all.new.self) c.restore.new.socket worked.turns worked.are c.requires worked.follows
+          (restore_turns_quiet c.args.self.now.socket.view.endpoint (snapshot c.args.state.now) worked.turns worked.are) c.in_ok-reply.reply worked.called c.in_ok-keep_all.ensures,
     )
 
 pub returns-then-not-is_valid-clause-call : goal.returns-then-not-is_valid-clause-call

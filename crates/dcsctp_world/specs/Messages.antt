@@ -1,0 +1,61 @@
+-- What a call's answer says of the messages that its user sends and reads, and how these are kept.
+use Rattle.std.specs.Prelude.{◌≡◌, ◌==◌, ◌+◌, ℕ, Bool, Some, Result, Ok, Err, List, [], ◌∷◌, ◌++◌, if◌then◌else◌}
+use Rattle.std.specs.List.{list_any}
+use Rattle.dcsctp_machine.specs.Schedule.{CallContent, send_call, send_many_call, take_call}
+use Rattle.dcsctp_machine.specs.transfer.Messages.{MessageContent, message_content}
+use Rattle.dcsctp_machine.specs.turns.MessageOutcomes.{RefusedMessage}
+use Rattle.dcsctp_api.specs.declared.errors.BatchSendError.{BatchSendError}
+use Rattle.dcsctp_api.specs.Messages.{refused_in}
+use Rattle.dcsctp_world.specs.declared.act.Reply.{Reply}
+use Rattle.dcsctp_world.specs.declared.act.Reply.TheVariants.{Sent, SentMany, Taken}
+use Rattle.dcsctp_world.specs.Growth.{AddsFront}
+
+-- ---- what an answer says
+
+-- those that `send_many` refuses, by what it answers
+abbrev pub refused_by : Result (Unit {0}) BatchSendError → List RefusedMessage
+refused_by (Ok done) = []
+refused_by (Err error) = refused_in error.0.items
+
+-- Is the message of this place among them?
+abbrev pub is_refused_at : ℕ → List RefusedMessage → Bool
+is_refused_at place refused = list_any (λ one. one.place == place) refused
+
+-- this message, unless that of this place is refused
+abbrev pub other_at : ℕ → List RefusedMessage → MessageContent → List MessageContent
+other_at place refused message = if is_refused_at place refused then [] else message ∷ []
+
+-- these messages without the refused ones, if the first has this place
+abbrev pub others_from : ℕ → List RefusedMessage → List MessageContent → List MessageContent
+others_from place refused [] = []
+others_from place refused (message ∷ messages) = other_at place refused message ++ others_from (place + 1) refused messages
+
+abbrev pub sent_if : MessageContent → Reply → List MessageContent
+sent_if message (Sent (Ok done)) = message ∷ []
+sent_if message reply = []
+
+abbrev pub sent_among : List MessageContent → Reply → List MessageContent
+sent_among messages (SentMany answer) = others_from 0 (refused_by answer) messages
+sent_among messages reply = []
+
+-- the messages that a call sends, by what it answers
+abbrev pub sent_by : CallContent → Reply → List MessageContent
+sent_by (send_call message options) reply = sent_if message reply
+sent_by (send_many_call messages options) reply = sent_among messages reply
+sent_by call reply = []
+
+abbrev pub taken_by : Reply → List MessageContent
+taken_by (Taken (Some message)) = message_content message ∷ []
+taken_by reply = []
+
+-- those that it reads
+abbrev pub read_by : CallContent → Reply → List MessageContent
+read_by take_call reply = taken_by reply
+read_by call reply = []
+
+-- ---- how they are kept
+
+-- All of these were added; or an allocation failed, and the first of them were.
+abbrev pub Adds : {A E : Type 0} → List A → List A → Result (Unit {0}) E → List A → Type 0
+Adds all old (Ok done) new = new ≡ old ++ all
+Adds all old (Err error) new = AddsFront all old new
