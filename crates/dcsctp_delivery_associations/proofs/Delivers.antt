@@ -1,5 +1,5 @@
 -- What was read in all associations together.
-use Rattle.std.proofs.Common.{◌≡◌, ◌≢◌, ℕ, Bool, true, false, ◌<◌, ◌≤◌, ◌^◌, None, List, [], ◌∷◌, length, refl, sym, ◌∙◌, ap, arith, subst, inl, inr}
+use Rattle.std.proofs.Common.{◌≡◌, ◌≢◌, ℕ, Bool, true, false, ◌<◌, ◌^◌, None, List, [], ◌∷◌, length, refl, sym, ◌∙◌, ap, arith, subst, inl, inr}
 use Rattle.std.specs.Prelude.{if◌then◌else◌}
 use Rattle.std.proofs.lemmas.Bool.Decides.{eqb_tells}
 use Rattle.dcsctp_machine.specs.declared.options.Options.{Options}
@@ -10,13 +10,13 @@ use Rattle.dcsctp_machine.specs.transfer.Messages.{MessageContent}
 use Rattle.dcsctp_machine.specs.transfer.SendQueue.{empty_queue}
 use Rattle.dcsctp_delivery_sending.specs.Places.{Has, set_at}
 use Rattle.dcsctp_delivery_sending.specs.Log.{Message}
-use Rattle.dcsctp_delivery_sending.specs.Weights.{total}
+use Rattle.dcsctp_delivery_sending.specs.ChunkCounts.{chunks_to}
 use Rattle.dcsctp_delivery_sending.specs.Marking.{IsMarked}
 use Rattle.dcsctp_delivery_sending.proofs.Places.{decide, set_same, at_below}
 use Rattle.dcsctp_delivery_receiving.specs.Ready.{AreDistinct, WasQueued, WereQueued}
 use Rattle.dcsctp_delivery_directions.specs.Directions.{Delivered}
 use Rattle.dcsctp_delivery_directions.specs.Marking.{IsFresh, DeliveredForGood}
-use Rattle.dcsctp_delivery_directions.proofs.Directions.{few_are_assigned}
+use Rattle.dcsctp_delivery_directions.proofs.ChunkCounts.{few_for_chunks}
 use Rattle.dcsctp_delivery_directions.proofs.Marking.{directions_deliver_for_good}
 use Rattle.dcsctp_delivery_turns.proofs.Runs.{senders_begin}
 use Rattle.dcsctp_delivery_associations.specs.Ends.{SendingEnd, joined, new_end, Ends, Leaves, Between}
@@ -96,21 +96,18 @@ were_unmarked marks queued [] (content ∷ contents) found were = absurd were
 were_unmarked marks queued (place ∷ places) [] found were = absurd were
 were_unmarked marks queued (place ∷ places) (content ∷ contents) found were = (was_unmarked marks queued place content found were.0, were_unmarked marks queued places contents found were.1)
 
-fewer_messages : (queued : List Message) → length queued ≤ total queued
-fewer_messages [] = omega arith
-fewer_messages (m ∷ queued) = (let rest = fewer_messages queued in omega (arith, rest))
-
 -- ---- all associations
 
 module _ (options : Options) (ends : Ends) (e : Endpoint) (queued : List Message) (past : List Effect) (packets : List Emission) (other : Endpoint) (their_past : List Effect) (reads : List Read)
-    (h : Between options ends e queued past packets other their_past reads) (small : total queued < 2 ^ 31) where
+    (h : Between options ends e queued past packets other their_past reads) (many : length queued < 2 ^ 64) (few : (tag : ℕ) → chunks_to tag packets < 2 ^ 30) where
   delivered : (tag : ℕ) → DeliveredForGood (joined (ends.sends tag) (ends.gets tag))
   delivered tag =
-      let light = h.sender.light tag in
-      let few = fewer_messages (ends.sends tag).queued in
-      let short : length (ends.sends tag).queued < 2 ^ 64 = omega (arith, light, few, small) in
-      let assigned = few_are_assigned options (ends.firsts tag) options.max_receiver_window_buffer_size (joined (ends.sends tag) (ends.gets tag)) (h.runs tag) (h.small tag) short in
-      directions_deliver_for_good options (ends.firsts tag) options.max_receiver_window_buffer_size (joined (ends.sends tag) (ends.gets tag)) (h.runs tag) (h.small tag) (omega (arith, light, small, assigned)) short
+      let fewer = h.sender.short tag in
+      let short : length (ends.sends tag).queued < 2 ^ 64 = omega (arith, fewer, many) in
+      let sent = h.sender.few tag in
+      let went = few tag in
+      let assigned = few_for_chunks options (ends.firsts tag) options.max_receiver_window_buffer_size (joined (ends.sends tag) (ends.gets tag)) (h.runs tag) (h.small tag) short in
+      directions_deliver_for_good options (ends.firsts tag) options.max_receiver_window_buffer_size (joined (ends.sends tag) (ends.gets tag)) (h.runs tag) (h.small tag) (omega (arith, sent, went, assigned)) short
 
   lists : ℕ → List ℕ
   lists tag = (delivered tag).delivered.places
@@ -152,7 +149,7 @@ ends_begin mine options =
           long = refl;
           marks = λ tag place mark at. absurd (cc);
           short = λ tag. omega arith;
-          light = λ tag. omega arith;
+          few = λ tag. omega arith;
           last = λ tag ne place below gone. absurd (omega arith);
           pairs = λ one other ne. inl (λ place below gone. absurd (omega arith));
           current = λ some. absurd (some refl);

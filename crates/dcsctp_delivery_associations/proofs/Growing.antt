@@ -7,7 +7,6 @@ use Rattle.dcsctp_machine.specs.Turn.{Input, arrival, refusal, packet_begins, ch
 use Rattle.dcsctp_machine.specs.turns.MessageOutcomes.{MessageRefusal, Sending, sending_refusal, queue_one}
 use Rattle.dcsctp_delivery_sending.specs.Places.{at_place, set_at}
 use Rattle.dcsctp_delivery_sending.specs.Log.{Message}
-use Rattle.dcsctp_delivery_sending.specs.Weights.{total}
 use Rattle.dcsctp_delivery_sending.specs.Marking.{IsMarkOf, FindsMarked, AreMarked, IsMarked}
 use Rattle.dcsctp_delivery_sending.proofs.Places.{decide, set_same, set_other, at_new, at_old, at_cases, at_stays}
 use Rattle.dcsctp_delivery_sending.proofs.Packets.{at_more}
@@ -53,10 +52,6 @@ input_adds e user_takes queued = refl
 input_adds e (timer_expires timer) queued = refl
 input_adds e (time_passes moment) queued = refl
 input_adds e (restores state) queued = refl
-
-pub total_append : (more queued : List Message) → total (more ++ queued) ≡ total more + total queued
-total_append [] queued = omega arith
-total_append (m ∷ more) queued = (let rest = total_append more queued in omega (arith, rest))
 
 -- ---- messages that are marked
 

@@ -1,3 +1,4 @@
+pub mod Counting
 pub mod Growing
 pub mod Senders
 pub mod SenderStays

@@ -11,14 +11,16 @@ use Rattle.dcsctp_machine_agreement.proofs.Growth.{after_within}
 use Rattle.dcsctp_delivery_sending.specs.Places as places
 use Rattle.dcsctp_delivery_sending.specs.Places.{at_place, set_at}
 use Rattle.dcsctp_delivery_sending.specs.Log.{Message}
-use Rattle.dcsctp_delivery_sending.specs.Weights.{total}
+use Rattle.dcsctp_delivery_sending.specs.ChunkCounts.{chunks_in, chunks_to}
 use Rattle.dcsctp_delivery_sending.specs.Marking.{all_marked, AreMarked}
 use Rattle.dcsctp_delivery_sending.proofs.Places.{decide, set_same, set_other}
-use Rattle.dcsctp_delivery_sending.proofs.MarkingAll.{all_are_marked, all_marked_total, gone_are_marked}
+use Rattle.dcsctp_delivery_sending.proofs.MarkingAll.{all_are_marked, gone_are_marked}
+use Rattle.dcsctp_delivery_directions.proofs.ChunkCounts.{chunks_more}
 use Rattle.dcsctp_delivery_turns.specs.Actions.{peer_tag}
 use Rattle.dcsctp_delivery_turns.specs.Addressed.{IsAddressed, AreAddressed}
 use Rattle.dcsctp_delivery_associations.specs.Ends.{SendingEnd, ReceivingEnd, Ends, Leaves, HadPeer, Awaits, IsOfEnds, AreOfEnds, Sender}
-use Rattle.dcsctp_delivery_associations.proofs.Growing.{set_all, total_append, AllFound, found_later, found_then, found_grown, marked_grown, marked_still}
+use Rattle.dcsctp_delivery_associations.proofs.Counting.{more_to, addressed_counts}
+use Rattle.dcsctp_delivery_associations.proofs.Growing.{set_all, AllFound, found_later, found_then, found_grown, marked_grown, marked_still}
 
 -- ---- the key of an association
 
@@ -140,9 +142,9 @@ module _ (ends : Ends) (key : ℕ) (below : Below) (queued : List Message) (past
         short = set_all (λ tag s. length s.queued ≤ length (more ++ queued)) key grown_end ends.sends
             (let a = length-append more (ends.sends key).queued in let b = length-append more queued in let c = h.long in omega (arith, a, b, c))
             (λ tag ne. (let b = length-append more queued in let c = h.short tag in omega (arith, b, c)));
-        light = set_all (λ tag s. total s.queued ≤ total (more ++ queued)) key grown_end ends.sends
-            (let a = total_append more (ends.sends key).queued in let b = total_append more queued in let c = h.light key in omega (arith, a, b, c))
-            (λ tag ne. (let b = total_append more queued in let c = h.light tag in omega (arith, b, c)));
+        few = set_all (λ tag s. chunks_in s.sent ≤ chunks_to tag (packets ++ ps)) key grown_end ends.sends
+            (let a = chunks_more (ends.sends key).sent ps in let b = more_to key packets ps in let c = addressed_counts key ps addressed in let d = h.few key in omega (arith, a, b, c, d))
+            (λ tag ne. (let b = more_to tag packets ps in let c = h.few tag in omega (arith, b, c)));
         last = λ tag ne. subst (λ (s : SendingEnd). Leaves s (grown_ends.sends key).queued) (sym (set_other key tag grown_end ends.sends ne))
             (subst (λ (s : SendingEnd). Leaves (ends.sends tag) s.queued) (sym (set_same key grown_end ends.sends)) (grown_last tag ne));
         pairs = grown_pairs;
@@ -227,8 +229,8 @@ module _ (ends : Ends) (key : ℕ) (below : Below) (queued : List Message) (past
         long = ap (λ (s : SendingEnd). length s.queued) (set_same to renewed_end ends.sends) ∙ are.size ∙ h.long;
         marks = set_all (λ tag s. AllFound s.queued queued) to renewed_end ends.sends (found_then marked_queue (ends.sends key).queued queued are (h.marks key)) (λ tag ne. h.marks tag);
         short = set_all (λ tag s. length s.queued ≤ length queued) to renewed_end ends.sends (let a = are.size in let b = h.long in omega (arith, a, b)) (λ tag ne. h.short tag);
-        light = set_all (λ tag s. total s.queued ≤ total queued) to renewed_end ends.sends
-            (let a = all_marked_total (length (ends.sends key).queued) (ends.sends key).below.queue.streams (ends.sends key).queued in let b = h.light key in omega (arith, a, b)) (λ tag ne. h.light tag);
+        few = set_all (λ tag s. chunks_in s.sent ≤ chunks_to tag (packets ++ ps)) to renewed_end ends.sends
+            (let b = more_to to packets ps in let c = addressed_counts to ps addressed in omega (arith, b, c)) (λ tag ne. (let b = more_to tag packets ps in let c = h.few tag in omega (arith, b, c)));
         last = λ tag ne. renewed_behind tag to refl ne;
         pairs = renewed_pairs;
         current = had;

@@ -14,7 +14,7 @@ use Rattle.dcsctp_delivery_sending.specs.Places as places
 use Rattle.dcsctp_delivery_sending.specs.Places.{at_place}
 use Rattle.dcsctp_delivery_sending.specs.Log.{Message}
 use Rattle.dcsctp_delivery_sending.specs.Flushes.{NoData}
-use Rattle.dcsctp_delivery_sending.specs.Weights.{total}
+use Rattle.dcsctp_delivery_sending.specs.ChunkCounts.{chunks_in, chunks_to}
 use Rattle.dcsctp_delivery_sending.specs.Marking.{WaitsNoLonger, FindsMarked, IsMarked}
 use Rattle.dcsctp_delivery_directions.specs.Directions.{Direction, Run}
 use Rattle.dcsctp_delivery_turns.specs.Actions.{NoEnd, peer_tag}
@@ -93,7 +93,7 @@ pub record Sender (ends : Ends) (key : ℕ) (below : Below) (queued : List Messa
   pub long : length (ends.sends key).queued ≡ length queued
   pub marks : (tag place : ℕ) (mark : Message) → at_place place (ends.sends tag).queued ≡ Some mark → FindsMarked mark queued place
   pub short : (tag : ℕ) → length (ends.sends tag).queued ≤ length queued
-  pub light : (tag : ℕ) → total (ends.sends tag).queued ≤ total queued
+  pub few : (tag : ℕ) → chunks_in (ends.sends tag).sent ≤ chunks_to tag packets
   pub last : (tag : ℕ) → tag ≢ key → Leaves (ends.sends tag) (ends.sends key).queued
   pub pairs : (one other : ℕ) → one ≢ other → Leaves (ends.sends one) (ends.sends other).queued ⊎ Leaves (ends.sends other) (ends.sends one).queued
   pub current : key ≢ 0 → HadPeer past key (ends.firsts key)

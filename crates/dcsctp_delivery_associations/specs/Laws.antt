@@ -1,5 +1,5 @@
 -- What is known of all associations of two sockets, in the direction from one to the other, turn by turn, with interleaving or without.
-use Rattle.std.specs.Prelude.{◌<◌, ◌^◌, Some, List, [], ◌++◌, length, ◌≡◌}
+use Rattle.std.specs.Prelude.{◌<◌, ◌^◌, Some, List, [], ◌++◌, length, ◌≡◌, ℕ}
 use Rattle.dcsctp_machine.specs.declared.options.Options.{Options}
 use Rattle.dcsctp_machine.specs.Settings.{SameOptions}
 use Rattle.dcsctp_machine.specs.Endpoint.{Endpoint, fresh_endpoint}
@@ -11,7 +11,7 @@ use Rattle.dcsctp_machine.specs.World.{after_effects}
 use Rattle.dcsctp_machine.specs.control.Effect.{Link, Effect, link_of, link_in}
 use Rattle.dcsctp_machine.specs.transfer.Transfer.{Transfer}
 use Rattle.dcsctp_delivery_sending.specs.Log.{Message}
-use Rattle.dcsctp_delivery_sending.specs.Weights.{total}
+use Rattle.dcsctp_delivery_sending.specs.ChunkCounts.{chunks_to}
 use Rattle.dcsctp_delivery_directions.specs.Directions.{Delivered}
 use Rattle.dcsctp_delivery_turns.specs.Actions.{IsOpening, came_by, queued_after, Begun, IsCall, ResetsNone}
 use Rattle.dcsctp_delivery_turns.specs.Sides.{WasSent}
@@ -42,8 +42,10 @@ ReceiversTurn =
     → ((transfer : Transfer) (link : Link) → other.below.transfer ≡ Some transfer → link_in other.core ≡ Some link → WasSent (ends.sends link.my.tag).sent (came_by input)) → IsCall input → ResetsNone other o → Turn other input o
     → AreEnds options e queued past packets o.after (after_effects o.effects their_past) (reads_after other input reads)
 
--- Each message that was read, in any association, was queued, and none twice, if fewer than 2^31 bytes and messages were queued.
+-- Each message that was read, in any association, was queued, and none twice, if fewer than 2^30 chunks of data went to each tag: none
+-- assigned 2^31 TSNs.
 abbrev pub EndsDeliver : Type 0
 EndsDeliver =
     (options : Options) (ends : Ends) (e : Endpoint) (queued : List Message) (past : List Effect) (packets : List Emission) (other : Endpoint) (their_past : List Effect) (reads : List Read)
-    → Between options ends e queued past packets other their_past reads → total queued < 2 ^ 31 → Delivered queued (messages_of reads)
+    → Between options ends e queued past packets other their_past reads → length queued < 2 ^ 64 → ((tag : ℕ) → chunks_to tag packets < 2 ^ 30)
+    → Delivered queued (messages_of reads)

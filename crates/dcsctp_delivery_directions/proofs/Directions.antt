@@ -33,7 +33,7 @@ use Rattle.dcsctp_delivery_directions.proofs.Steps.{stepped}
 
 -- ---- a run
 
-more_queued : (old direction : Direction) → Step old direction → length old.queued ≤ length direction.queued
+pub more_queued : (old direction : Direction) → Step old direction → length old.queued ≤ length direction.queued
 more_queued old _ (queues now sending fits some) = omega arith
 more_queued old _ (sets setting) = omega arith
 more_queued old _ (prepares ids) = omega arith

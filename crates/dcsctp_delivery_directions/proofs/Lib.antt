@@ -2,3 +2,4 @@ pub mod Standing
 pub mod Steps
 pub mod Directions
 pub mod Marking
+pub mod ChunkCounts

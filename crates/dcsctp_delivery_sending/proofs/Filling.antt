@@ -172,7 +172,7 @@ module _ (queued : List Message) (first acknowledged : ℕ) (Step : Stage → St
       let earlier = steps_stay log old between stands steps in
       stay_on queued log first acknowledged between new earlier (keeps (earlier.more ++ log) between new earlier.stands step)
 
-counted_outstanding : (size : ℕ) (state : RetransmissionState) → (counted_again size state).outstanding ≡ state.outstanding
+pub counted_outstanding : (size : ℕ) (state : RetransmissionState) → (counted_again size state).outstanding ≡ state.outstanding
 counted_outstanding size state = go (nat_lt 0 size)
   where
     go : (b : Bool) → (if b then record state {

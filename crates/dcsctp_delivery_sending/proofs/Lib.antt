@@ -26,3 +26,4 @@ pub mod Settings
 pub mod Prepared
 pub mod Marking
 pub mod MarkingAll
+pub mod ChunkCounts

@@ -8,3 +8,4 @@ pub mod Acknowledged
 pub mod Flushes
 pub mod Queueing
 pub mod Marking
+pub mod ChunkCounts

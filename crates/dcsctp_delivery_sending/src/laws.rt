@@ -1,6 +1,7 @@
 //! The laws of this crate.
 
 ghost use Rattle.dcsctp_delivery_sending.specs.Acknowledged.{AcknowledgingKeeps, LosingKeeps};
+ghost use Rattle.dcsctp_delivery_sending.specs.ChunkCounts.{FlushesAssignFew};
 ghost use Rattle.dcsctp_delivery_sending.specs.Flushes.{FlushesSendPieces};
 ghost use Rattle.dcsctp_delivery_sending.specs.Marking.{AllAreMarked, AllMarkedFit, AllMarkedKeep, GoneAreMarked, MarkedIsSpent, MarkingFits, MarkingKeeps};
 ghost use Rattle.dcsctp_delivery_sending.specs.Numbers.{LogsAreTold};
@@ -62,4 +63,10 @@ pub fn marking_keeps()
     ensures all_fit { AllMarkedFit }
     ensures same { AllAreMarked }
     ensures gone { GoneAreMarked }
+{}
+
+/// A flush assigns at most two TSNs for each chunk of data that it sends: that of the chunk, and one for the end of a
+/// message that is abandoned, which is never sent (RFC 3758, section 3.5).
+pub fn flushes_assign_few()
+    ensures { FlushesAssignFew }
 {}

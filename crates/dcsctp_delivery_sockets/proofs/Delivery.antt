@@ -1,5 +1,5 @@
 -- Over an honest run in which each tag serves one association, what a user reads is what its peer's user sent.
-use Rattle.std.proofs.Common.{◌≡◌, ℕ, zero, suc, ◌<◌, ◌^◌, List, [], ◌∷◌, ◌++◌, refl, sym, ◌∙◌, ap, subst, inl, inr}
+use Rattle.std.proofs.Common.{◌≡◌, ℕ, zero, suc, List, [], ◌∷◌, ◌++◌, refl, sym, ◌∙◌, ap, subst, inl, inr}
 use Rattle.std.specs.Prelude.{Option, None, Some}
 use Rattle.std.specs.List.{slice_get}
 use Rattle.std.proofs.lemmas.List.{append-nil}
@@ -35,7 +35,7 @@ use Rattle.dcsctp_delivery_sockets.proofs.Calls.{AreCalls, call_without, call_is
 use Rattle.dcsctp_delivery_sockets.proofs.Echoes.{echoes_go_to_makers}
 use Rattle.dcsctp_delivery_sockets.proofs.NewLinks.{KeepsOptions, AllOpenFitting, none_open, matched_swapped, packet_opens}
 use Rattle.dcsctp_delivery_sockets.proofs.Known.{own_turn, IsOwn, GoodPacket, SideKnown, BothKnown, both_front}
-use Rattle.dcsctp_delivery_sockets.proofs.Stands.{Stand, queued_of, packets_of, reads_of, queued_same, sender_more, receiver_calls, receiver_handles}
+use Rattle.dcsctp_delivery_sockets.proofs.Stands.{Stand, queued_of, packets_of, reads_of, queued_same, sender_more, receiver_calls, receiver_handles, few_queued}
 use Rattle.dcsctp_delivery_sockets.proofs.UserMessages.{turns_read, is_delivered}
 
 -- ---- a packet that is delivered
@@ -180,7 +180,7 @@ one_way mine theirs turns others little h =
     let same = queued_same mine turns in
     let all : Delivered (queued_of mine turns) (messages_of (reads_of theirs others)) =
     ends_deliver theirs h.ends (endpoint_after mine turns) (queued_of mine turns) (noted_past turns) (packets_of turns) (endpoint_after theirs others) (noted_past others) (reads_of theirs others) h.between
-    (subst (λ (n : ℕ). n < 2 ^ 31) (sym same.weighs) little) in
+    (few_queued mine turns little) little.chunks in
     subst (IsDelivered (sent_of (fresh_endpoint mine) turns)) (turns_read (fresh_endpoint theirs) others [])
     (is_delivered (queued_of mine turns) (sent_of (fresh_endpoint mine) turns) (messages_of (reads_of theirs others)) same all)
 

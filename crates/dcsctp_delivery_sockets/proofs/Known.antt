@@ -1,11 +1,12 @@
 -- What is known of each side of a run, and so of each first part of it.
-use Rattle.std.proofs.Common.{◌≡◌, List, [], ◌∷◌, ◌++◌, refl, sym, ◌∙◌, ap, arith, subst, append_assoc}
+use Rattle.std.proofs.Common.{◌≡◌, List, [], ◌∷◌, ◌++◌, length, refl, sym, ◌∙◌, ap, arith, subst, append_assoc}
 use Rattle.dcsctp_machine.specs.declared.options.Options.{Options}
 use Rattle.dcsctp_machine.specs.declared.schedule.Side.{Side}
 use Rattle.dcsctp_machine.specs.declared.schedule.Side.TheVariants as sides
 use Rattle.dcsctp_machine.specs.CallTurns.{Turned, IsTurn, AlongTurns, after_all, effects_of, events_of}
 use Rattle.dcsctp_machine.specs.Endpoint.{Endpoint, fresh_endpoint}
-use Rattle.dcsctp_machine.specs.Event.{Event}
+use Rattle.std.proofs.lemmas.List.{length-append}
+use Rattle.dcsctp_machine.specs.Event.{Event, packets_in}
 use Rattle.dcsctp_machine.specs.Fitting.{AllSent, IsSendable}
 use Rattle.dcsctp_machine.specs.Packet.{Emission}
 use Rattle.dcsctp_machine.specs.Past.{Each}
@@ -17,12 +18,14 @@ use Rattle.dcsctp_machine.specs.transfer.Messages.{MessageContent}
 use Rattle.dcsctp_machine.proofs.TurnLemmas.{effects_of-append, events_of-append}
 use Rattle.dcsctp_machine_agreement.proofs.Growth.{after_effects-append}
 use Rattle.dcsctp_machine_refinement.specs.Agreement.{noted_past}
+use Rattle.dcsctp_machine_refinement.proofs.Bursts.{packets_in-append}
+use Rattle.dcsctp_delivery_sending.specs.ChunkCounts.{chunks_to}
+use Rattle.dcsctp_delivery_associations.proofs.Counting.{more_to}
 use Rattle.dcsctp_delivery_sockets.specs.Acts.{AreTurns}
 use Rattle.dcsctp_delivery_sockets.specs.Echoes.{GoesToMaker}
 use Rattle.dcsctp_delivery_sockets.specs.UserMessages.{sent_in, sent_of}
-use Rattle.dcsctp_delivery_sockets.specs.Delivery.{IsOfNewTags, MatchByTags, weight_of, SendsLittle, KeepsNumbers}
+use Rattle.dcsctp_delivery_sockets.specs.Delivery.{IsOfNewTags, MatchByTags, SendsLittle, KeepsNumbers}
 use Rattle.dcsctp_delivery_sockets.proofs.NewLinks.{KeepsOptions, each_earlier, matched_earlier}
-use Rattle.dcsctp_delivery_sockets.proofs.UserMessages.{weight_append}
 
 -- ---- lists of turns and of events
 
@@ -81,9 +84,18 @@ side_front options turns more h =
       packets = sent_front GoodPacket (events_of turns) (events_of more) (subst (AllSent GoodPacket) (events_of-append turns more) h.packets);
       tags = each_earlier IsOfNewTags (effects_of more) (noted_past turns) (subst (Each IsOfNewTags) (past_more turns more) h.tags);
       little =
-          (let both = ap weight_of (sent_more (fresh_endpoint options) turns more) ∙ weight_append (sent_of (fresh_endpoint options) turns) (sent_of (endpoint_after options turns) more) in
-          let few = h.little in
-          omega (arith, both, few));
+          record {
+            messages =
+                (let both = ap (λ (l : List MessageContent). length l) (sent_more (fresh_endpoint options) turns more)
+                ∙ length-append (sent_of (fresh_endpoint options) turns) (sent_of (endpoint_after options turns) more) in
+                let few = h.little.messages in
+                omega (arith, both, few));
+            chunks = λ tag.
+                (let both = ap (chunks_to tag) (ap packets_in (events_of-append turns more) ∙ packets_in-append (events_of turns) (events_of more))
+                ∙ more_to tag (packets_in (events_of turns)) (packets_in (events_of more)) in
+                let few = h.little.chunks tag in
+                omega (arith, both, few));
+          };
     }
 
 -- what is known of the turns of an act

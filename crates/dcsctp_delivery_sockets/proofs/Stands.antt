@@ -1,5 +1,5 @@
 -- What is known of all associations in one direction outlasts each act of either side.
-use Rattle.std.proofs.Common.{◌≡◌, ℕ, ◌<◌, ◌≤◌, ◌^◌, List, [], ◌∷◌, ◌++◌, length, refl, sym, ◌∙◌, ap, arith, subst}
+use Rattle.std.proofs.Common.{◌≡◌, ℕ, ◌<◌, ◌^◌, List, [], ◌∷◌, ◌++◌, length, refl, sym, ◌∙◌, ap, arith, subst}
 use Rattle.dcsctp_wire.specs.Content.{PacketContent}
 use Rattle.dcsctp_wire.specs.Format.{IsPacket}
 use Rattle.dcsctp_machine.specs.declared.options.Options.{Options}
@@ -13,7 +13,6 @@ use Rattle.dcsctp_machine.specs.Past.{Each}
 use Rattle.dcsctp_machine.specs.Sockets.{UserTurns, endpoint_after}
 use Rattle.dcsctp_machine.specs.World.{after_effects}
 use Rattle.dcsctp_machine.specs.control.Effect.{Effect}
-use Rattle.dcsctp_machine.specs.transfer.Messages.{MessageContent}
 use Rattle.dcsctp_machine.proofs.TurnLemmas.{after_all-append, events_of-append}
 use Rattle.dcsctp_machine_refinement.specs.Agreement.{noted_past}
 use Rattle.dcsctp_machine_refinement.proofs.Bursts.{packets_in-append}
@@ -25,7 +24,7 @@ use Rattle.dcsctp_delivery_associations.specs.Reads.{Read, reads_after}
 use Rattle.dcsctp_delivery_sockets.specs.Acts.{queued_through, AreNewPeers}
 use Rattle.dcsctp_delivery_sockets.specs.Packets.{reads_through, AreNewTags}
 use Rattle.dcsctp_delivery_sockets.specs.UserMessages.{sent_of}
-use Rattle.dcsctp_delivery_sockets.specs.Delivery.{IsOfNewTags, MatchByTags, weight_of, SendsLittle}
+use Rattle.dcsctp_delivery_sockets.specs.Delivery.{IsOfNewTags, MatchByTags, SendsLittle}
 use Rattle.dcsctp_delivery_sockets.proofs.Acts.{senders_act, receivers_act, receivers_handle}
 use Rattle.dcsctp_delivery_sockets.proofs.Calls.{NoChunks, AreCalls, call_without}
 use Rattle.dcsctp_delivery_sockets.proofs.NewLinks.{AllOpenFitting, none_open, matched_swapped, new_peers, new_tags}
@@ -61,18 +60,11 @@ packets_more turns more = ap packets_in (events_of-append turns more) ∙ packet
 
 -- ---- little is sent
 
-fewer : (messages : List MessageContent) → length messages ≤ weight_of messages
-fewer [] = omega arith
-fewer (message ∷ messages) = (let rest = fewer messages in omega (arith, rest))
-
 pub queued_same : (options : Options) (turns : List Turned) → SaysSame (queued_of options turns) (sent_of (fresh_endpoint options) turns)
 queued_same options turns = turns_same (fresh_endpoint options) turns [] [] nothing_same
 
-few_queued : (options : Options) (turns : List Turned) → SendsLittle options turns → length (queued_of options turns) < 2 ^ 64
-few_queued options turns little =
-    let same = queued_same options turns in
-    let few = fewer (sent_of (fresh_endpoint options) turns) in
-    omega (arith, same.size, few, little)
+pub few_queued : (options : Options) (turns : List Turned) → SendsLittle options turns → length (queued_of options turns) < 2 ^ 64
+few_queued options turns little = (let same = queued_same options turns in let few = little.messages in omega (arith, same.size, few))
 
 -- ---- the sender acts
 

@@ -1,5 +1,5 @@
 -- What was queued and what was read, as the messages of a user.
-use Rattle.std.proofs.Common.{◌≡◌, ℕ, zero, suc, ◌+◌, List, [], ◌∷◌, ◌++◌, length, refl, sym, ◌∙◌, ap, arith, subst, inl, inr, append_assoc}
+use Rattle.std.proofs.Common.{◌≡◌, ℕ, zero, suc, List, [], ◌∷◌, ◌++◌, length, refl, sym, ◌∙◌, ap, arith, subst, inl, inr, append_assoc}
 use Rattle.std.specs.Prelude.{Option, None, Some, slice_get}
 use Rattle.std.proofs.lemmas.List.{append-nil, length-append}
 use Rattle.dcsctp_machine.specs.CallTurns.{Turned}
@@ -11,7 +11,6 @@ use Rattle.dcsctp_machine.specs.turns.MessageOutcomes.{MessageRefusal, Sending, 
 use Rattle.dcsctp_delivery_sending.specs.Log.{Message}
 use Rattle.dcsctp_delivery_sending.specs.Places.{at_place}
 use Rattle.dcsctp_delivery_sending.specs.Queueing.{message_of}
-use Rattle.dcsctp_delivery_sending.specs.Weights.{total}
 use Rattle.dcsctp_delivery_sending.proofs.Places.{at_cases}
 use Rattle.dcsctp_delivery_receiving.specs.Ready.{WereQueued}
 use Rattle.dcsctp_delivery_directions.specs.Directions.{Delivered}
@@ -20,7 +19,6 @@ use Rattle.dcsctp_delivery_associations.specs.Reads.{Read, and_first, reads_wher
 use Rattle.dcsctp_delivery_sockets.specs.Acts.{queued_through}
 use Rattle.dcsctp_delivery_sockets.specs.Packets.{reads_through}
 use Rattle.dcsctp_delivery_sockets.specs.UserMessages.{accepted_where, accepted, sent_in, sent_of, first_of, ready_in, read_in, read_of, WereSent, IsDelivered}
-use Rattle.dcsctp_delivery_sockets.specs.Delivery.{weight_of}
 
 -- ---- lists
 
@@ -33,10 +31,6 @@ found_last : {A : Type 0} (xs : List A) (x : A) → slice_get (xs ++ x ∷ []) (
 found_last [] x = refl
 found_last (y ∷ xs) x = found_last xs x
 
-pub weight_append : (xs ys : List MessageContent) → weight_of (xs ++ ys) ≡ weight_of xs + weight_of ys
-weight_append [] ys = omega arith
-weight_append (x ∷ xs) ys = (let rest = weight_append xs ys in omega (arith, rest))
-
 -- ---- sent
 
 abbrev content_of : Message → MessageContent
@@ -45,17 +39,15 @@ content_of message = record { stream = message.stream; ppid = message.ppid; payl
 -- The one list has the messages of the other, newest first.
 pub record SaysSame (queued : List Message) (sent : List MessageContent) : Type 0 where
   pub size : length queued ≡ length sent
-  pub weighs : total queued ≡ weight_of sent
   pub at : (place : ℕ) (message : Message) → at_place place queued ≡ Some message → slice_get sent place ≡ Some (content_of message)
 
 pub nothing_same : SaysSame [] []
-nothing_same = record { size = refl; weighs = refl; at = λ place message at. absurd (cc) }
+nothing_same = record { size = refl; at = λ place message at. absurd (cc) }
 
 one_more : (sending : Sending) (queued : List Message) (sent : List MessageContent) → SaysSame queued sent → SaysSame (message_of sending ∷ queued) (sent ++ sending.message ∷ [])
 one_more sending queued sent h =
     record {
       size = (let long = length-append sent (sending.message ∷ []) in omega (arith, h.size, long));
-      weighs = (let heavy = weight_append sent (sending.message ∷ []) in omega (arith, h.weighs, heavy));
       at = λ place message found. elim (at_cases place (message_of sending) message queued found) [
         | inl e ↦ subst (λ (k : ℕ). slice_get (sent ++ sending.message ∷ []) k ≡ Some (content_of message)) (sym (e.0 ∙ h.size))
             (found_last sent sending.message ∙ ap (λ (m : Message). Some (content_of m)) e.1)

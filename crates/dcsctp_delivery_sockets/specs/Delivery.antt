@@ -1,16 +1,18 @@
 -- What a user reads is what its peer's user sent, over every list of honest acts of two sockets, with interleaving or without.
-use Rattle.std.specs.Prelude.{◌≡◌, ◌≢◌, ◌⊎◌, ◌<◌, ◌+◌, ◌^◌, ℕ, suc, List, [], ◌∷◌, length}
+use Rattle.std.specs.Prelude.{◌≡◌, ◌≢◌, ◌⊎◌, ◌<◌, ◌^◌, ℕ, List, [], ◌∷◌, length}
 use Rattle.std.specs.List.{AllByRecursion}
 use Rattle.dcsctp_machine.specs.declared.options.Options.{Options}
 use Rattle.dcsctp_machine.specs.declared.schedule.Side.{Side}
 use Rattle.dcsctp_machine.specs.Schedule.{CallContent, send_call, send_many_call, StepContent, call_step, ActContent, step_act, AreHonest}
-use Rattle.dcsctp_machine.specs.CallTurns.{Turned, AlongTurns}
+use Rattle.dcsctp_machine.specs.CallTurns.{Turned, AlongTurns, events_of}
 use Rattle.dcsctp_machine.specs.Endpoint.{Endpoint, fresh_endpoint}
+use Rattle.dcsctp_machine.specs.Event.{packets_in}
 use Rattle.dcsctp_machine.specs.Past.{Has, Each}
 use Rattle.dcsctp_machine.specs.Sockets.{Worked, Both, of_side, of_other, turns_after, SocketRun, acts_of}
 use Rattle.dcsctp_machine.specs.control.Effect.{Link, Effect, holds}
 use Rattle.dcsctp_machine.specs.transfer.Messages.{MessageContent}
 use Rattle.dcsctp_machine_refinement.specs.Agreement.{AreUsable, AreFresh, noted_past}
+use Rattle.dcsctp_delivery_sending.specs.ChunkCounts.{chunks_to}
 use Rattle.dcsctp_delivery_turns.specs.Actions.{ResetsNone}
 use Rattle.dcsctp_delivery_sockets.specs.UserMessages.{sent_of, read_of, IsDelivered}
 
@@ -58,13 +60,11 @@ pub record TagsServeOnce (turns : Both (List Turned)) : Type 0 where
 
 -- ---- how much is sent
 
--- the bytes and messages, together: an association assigns at most so many TSNs
-abbrev pub weight_of : List MessageContent → ℕ
-weight_of [] = 0
-weight_of (message ∷ messages) = suc (length message.payload) + weight_of messages
-
-abbrev pub SendsLittle : Options → List Turned → Type 0
-SendsLittle options turns = weight_of (sent_of (fresh_endpoint options) turns) < 2 ^ 31
+-- Fewer than 2^30 chunks of data, new or sent again, went to each verification tag: then an association assigns fewer than 2^31 TSNs, which
+-- are told apart (RFC 9260, section 1.6). And fewer than 2^64 messages were sent.
+pub record SendsLittle (options : Options) (turns : List Turned) : Type 0 where
+  pub messages : length (sent_of (fresh_endpoint options) turns) < 2 ^ 64
+  pub chunks : (tag : ℕ) → chunks_to tag (packets_in (events_of turns)) < 2 ^ 30
 
 -- ---- with interleaving
 

@@ -1,0 +1,142 @@
+-- How many TSNs an association assigns, by the chunks of data that its sender has sent.
+use Rattle.std.proofs.Common.{◌≡◌, ℕ, Bool, true, false, ◌<◌, ◌≤◌, ◌+◌, ◌*◌, ◌^◌, List, [], ◌∷◌, ◌++◌, length, refl, ◌∙◌, ap, arith}
+use Rattle.std.specs.Prelude.{Option, None, Some, if◌then◌else◌}
+use Rattle.dcsctp_machine.specs.declared.options.Options.{Options}
+use Rattle.dcsctp_machine.specs.Event.{packets_in}
+use Rattle.dcsctp_machine.specs.Packet.{Emission}
+use Rattle.dcsctp_machine.specs.transfer.Items.{Item}
+use Rattle.dcsctp_machine.specs.transfer.Outstanding.{OutstandingState}
+use Rattle.dcsctp_machine.specs.transfer.OwnResets.{is_open, with_used, prepared, prepared_open, prepared_all, queue_committed, queue_rolled_back}
+use Rattle.dcsctp_machine.specs.transfer.SendQueue.{SendQueueState, stream_of}
+use Rattle.dcsctp_machine.specs.transfer.Transfer.{Transfer}
+use Rattle.dcsctp_machine.specs.turns.FlushOutcomes.{flush_of}
+use Rattle.dcsctp_machine.specs.turns.MessageOutcomes.{sending_queued}
+use Rattle.dcsctp_machine.specs.turns.SettingOutcomes.{Setting, stream_priority, stream_low_threshold, longest_message, set_in_queue}
+use Rattle.dcsctp_delivery_sending.specs.ChunkCounts.{chunks_in, going, tsns_of, tsns_where, tsns_below}
+use Rattle.dcsctp_delivery_sending.specs.Stages.{Bears}
+use Rattle.dcsctp_delivery_sending.proofs.Acknowledged.{acknowledged_bear, lost_bear}
+use Rattle.dcsctp_delivery_sending.proofs.ChunkCounts.{one_at_most, flushes_assign_few, at_once_same}
+use Rattle.dcsctp_delivery_directions.specs.Directions.{Direction, in_flight, assigned, Step, queues, sets, prepares, commits, rolls_back, resends, resends_nothing, speaks, turns_aside, tracks, defers, flushes, acknowledges, loses, receives, forwards, receives_interleaved, forwards_interleaved, resets, takes, NoneInFlight, Run, begins, goes_on, starts}
+use Rattle.dcsctp_delivery_directions.proofs.Directions.{more_queued, run_stands}
+use Rattle.dcsctp_delivery_directions.proofs.Standing.{Stands, same_flight, timed_outstanding}
+
+abbrev FewSent : Direction → Type 0
+FewSent direction = direction.acknowledged + tsns_below direction.below ≤ 1 + 2 * chunks_in direction.sent
+
+-- ---- what changes the queue alone
+
+way_same : (old new : SendQueueState) (transfer : Option Transfer) → new.under_way ≡ old.under_way → tsns_where new transfer ≡ tsns_where old transfer
+way_same old new None same = ap going same
+way_same old new (Some transfer) same = (let way : going new.under_way ≡ going old.under_way = ap going same in omega (arith, way))
+
+set_way : (setting : Setting) (queue : SendQueueState) → (set_in_queue setting queue).under_way ≡ queue.under_way
+set_way (stream_priority id priority) queue = refl
+set_way (stream_low_threshold id bytes) queue = refl
+set_way (longest_message bytes) queue = refl
+
+prepared_way : (id : ℕ) (queue : SendQueueState) → (prepared id queue).under_way ≡ queue.under_way
+prepared_way id queue = go (is_open (stream_of (with_used id queue) id).pause)
+  where
+    go : (b : Bool) → (if b then prepared_open id (with_used id queue) else with_used id queue).under_way ≡ queue.under_way
+    go true = refl
+    go false = refl
+
+all_way : (ids : List ℕ) (queue : SendQueueState) → (prepared_all ids queue).under_way ≡ queue.under_way
+all_way [] queue = refl
+all_way (id ∷ ids) queue = all_way ids (prepared id queue) ∙ prepared_way id queue
+
+-- ---- what is sent
+
+pub chunks_more : (sent more : List Emission) → chunks_in (sent ++ more) ≡ chunks_in sent + chunks_in more
+chunks_more [] more = omega arith
+chunks_more (emission ∷ sent) more = (let rest = chunks_more sent more in omega (arith, rest))
+
+-- ---- each step
+
+module _ (options : Options) (first size : ℕ) (small : first < 2 ^ 32) (old : Direction) (run : Run options first size old) (few : length old.queued < 2 ^ 64) (h : FewSent old) where
+  standing : Stands first old
+  standing = run_stands options first size old small few run
+
+  at_known : (transfer : Transfer) → old.below.transfer ≡ Some transfer → tsns_below old.below ≡ tsns_of old.below.queue transfer.retransmission.outstanding.items
+  at_known transfer known = ap (λ (t : Option Transfer). tsns_where old.below.queue t) known
+
+  by_queue : (queue : SendQueueState) → queue.under_way ≡ old.below.queue.under_way → old.acknowledged + tsns_where queue old.below.transfer ≤ 1 + 2 * chunks_in old.sent
+  by_queue queue same = (let way = way_same old.below.queue queue old.below.transfer same in omega (arith, way, h))
+
+  stepped_few : (new : Direction) → Step old new → FewSent new
+  unfolding standing
+  stepped_few _ (queues now sending fits some) = by_queue (sending_queued now sending old.below.queue) refl
+  stepped_few _ (sets setting) = by_queue (set_in_queue setting old.below.queue) (set_way setting old.below.queue)
+  stepped_few _ (prepares ids) = by_queue (prepared_all ids old.below.queue) (all_way ids old.below.queue)
+  stepped_few _ (commits go_on) = by_queue (queue_committed old.below.queue) refl
+  stepped_few _ rolls_back = by_queue (queue_rolled_back old.below.queue) refl
+  stepped_few _ (flushes e draft answers same no_data allowed) =
+      let assigns = flushes_assign_few e draft answers allowed in
+      let before : tsns_below e.below ≡ tsns_below old.below = ap tsns_below same in
+      let sent = chunks_more old.sent (packets_in (flush_of e draft answers).events) in
+      omega (arith, assigns, before, sent, h)
+  stepped_few _ (resends now room transfer left tsns chunks emission known sends are contents) =
+      let size = at_once_same now room old.below.queue transfer.retransmission left tsns sends in
+      let before = at_known transfer known in
+      let sent = chunks_more old.sent (emission ∷ []) in
+      omega (arith, size, before, sent, h)
+  stepped_few _ (resends_nothing now room transfer left tsns known sends) =
+      let size = at_once_same now room old.below.queue transfer.retransmission left tsns sends in
+      let before = at_known transfer known in
+      omega (arith, size, before, h)
+  stepped_few _ (speaks emission no_data) = (let sent = chunks_more old.sent (emission ∷ []) in omega (arith, sent, h))
+  stepped_few _ (turns_aside transfer new known same) =
+      let size : length new.retransmission.outstanding.items ≡ length transfer.retransmission.outstanding.items = ap (λ (r : _). length r.outstanding.items) same in
+      let before = at_known transfer known in
+      omega (arith, size, before, h)
+  stepped_few _ (acknowledges now sack transfer new known valid does) =
+      let flight : Bears standing.log first old.acknowledged transfer.retransmission.outstanding = same_flight standing.log first old.acknowledged old.below.transfer standing.below.flight transfer known in
+      let bears = acknowledged_bear standing.log first old.acknowledged now sack.cumulative_tsn_ack sack.a_rwnd does.blocks transfer.retransmission does.left valid flight does.acknowledges in
+      let same : new.retransmission.outstanding ≡ does.left.outstanding = ap (λ (t : Transfer). t.retransmission.outstanding) does.is ∙ timed_outstanding does.round_trip (record transfer { retransmission = does.left }) in
+      let size : length new.retransmission.outstanding.items ≡ length does.left.outstanding.items = ap (λ (o : OutstandingState). length o.items) same in
+      let before = at_known transfer known in
+      let count = flight.count in
+      let count' = bears.count in
+      omega (arith, size, before, h, count, count')
+  stepped_few _ (loses now transfer known) =
+      let flight : Bears standing.log first old.acknowledged transfer.retransmission.outstanding = same_flight standing.log first old.acknowledged old.below.transfer standing.below.flight transfer known in
+      let count = flight.count in
+      let count' = (lost_bear standing.log first old.acknowledged now transfer.retransmission flight).count in
+      let before = at_known transfer known in
+      omega (arith, before, h, count, count')
+  stepped_few _ (receives emission chunk theirs new was holds some same same' does) = h
+  stepped_few _ (forwards emission tsn streams theirs new was holds same same' does) = h
+  stepped_few _ (receives_interleaved emission chunk theirs new was holds some same same' does) = h
+  stepped_few _ (forwards_interleaved emission tsn streams theirs new was holds same same' does) = h
+  stepped_few _ (tracks new cumulative ranges) = h
+  stepped_few _ (defers last_tsn streams) = h
+  stepped_few _ (resets streams new leaves) = h
+  stepped_few _ (takes message messages is) = h
+
+-- ---- a run
+
+none_sent : (first acknowledged : ℕ) (is_interleaved : Bool) (queue : SendQueueState) (transfer : Option Transfer) → NoneInFlight first is_interleaved transfer → acknowledged ≡ 0 → acknowledged + tsns_where queue transfer ≤ 1
+none_sent first acknowledged is_interleaved queue None none zero = (let way = one_at_most queue.under_way in omega (arith, way, zero))
+none_sent first acknowledged is_interleaved queue (Some transfer) none zero =
+    let way = one_at_most queue.under_way in
+    let size : length transfer.retransmission.outstanding.items ≡ 0 = ap (λ (l : List Item). length l) none.1 in
+    omega (arith, way, size, zero)
+
+few_sent : (options : Options) (first size : ℕ) (direction : Direction) → first < 2 ^ 32 → length direction.queued < 2 ^ 64 → Run options first size direction → FewSent direction
+few_sent options first size _ small few (begins direction b) =
+    (let none = none_sent first direction.acknowledged direction.below.queue.is_interleaved direction.below.queue direction.below.transfer b.flight b.acknowledged in omega (arith, none))
+few_sent options first size _ small few (goes_on old direction run step) =
+    let before : length old.queued < 2 ^ 64 = omega (arith, few, more_queued old direction step) in
+    stepped_few options first size small old run before (few_sent options first size old small before run) direction step
+few_sent options first size _ small few (starts old queued below run awaited fit waits none) =
+    (let nothing = none_sent first old.acknowledged below.queue.is_interleaved below.queue below.transfer none awaited.acknowledged in omega (arith, nothing))
+
+assigned_below : (queue : SendQueueState) (transfer : Option Transfer) → in_flight transfer ≤ tsns_where queue transfer
+assigned_below queue None = omega arith
+assigned_below queue (Some transfer) = omega arith
+
+pub few_for_chunks : (options : Options) (first size : ℕ) (direction : Direction) → Run options first size direction → first < 2 ^ 32 → length direction.queued < 2 ^ 64 → assigned direction ≤ 1 + 2 * chunks_in direction.sent
+few_for_chunks options first size direction run small few =
+    let sent = few_sent options first size direction small few run in
+    let below = assigned_below direction.below.queue direction.below.transfer in
+    omega (arith, sent, below)

@@ -1,0 +1,55 @@
+-- How many TSNs an association assigns, by the DATA and I-DATA chunks that its sender sends (RFC 9260, section 6.1): at most two for each,
+-- since the end of a message that is abandoned takes one that is never sent (RFC 3758, section 3.5).
+use Rattle.std.specs.Prelude.{◌==◌, if◌then◌else◌, ◌≤◌, ◌+◌, ◌*◌, ℕ, Option, None, Some, List, [], ◌∷◌, length}
+use Rattle.dcsctp_wire.specs.Content.{data_chunk, i_data_chunk}
+use Rattle.dcsctp_machine.specs.declared.sending.UnderWay.{UnderWay}
+use Rattle.dcsctp_machine.specs.Endpoint.{Endpoint}
+use Rattle.dcsctp_machine.specs.Event.{packets_in}
+use Rattle.dcsctp_machine.specs.Packet.{Content, unworked, plain, Emission}
+use Rattle.dcsctp_machine.specs.transfer.Items.{Item}
+use Rattle.dcsctp_machine.specs.transfer.SendQueue.{SendQueueState}
+use Rattle.dcsctp_machine.specs.transfer.Transfer.{Transfer, Below}
+use Rattle.dcsctp_machine.specs.turns.FlushOutcomes.{Answer, FlushAnswers, flush_of}
+
+-- a chunk of data counts,
+abbrev pub counts : Content → ℕ
+counts (plain (unworked (data_chunk chunk))) = 1
+counts (plain (unworked (i_data_chunk chunk))) = 1
+counts content = 0
+
+-- each of these,
+abbrev pub chunks_among : List Content → ℕ
+chunks_among [] = 0
+chunks_among (content ∷ contents) = counts content + chunks_among contents
+
+-- and each in these packets
+abbrev pub chunks_in : List Emission → ℕ
+chunks_in [] = 0
+chunks_in (emission ∷ emissions) = chunks_among emission.packet.contents + chunks_in emissions
+
+-- and each in those of them that go to this verification tag
+abbrev pub chunks_to : ℕ → List Emission → ℕ
+chunks_to tag [] = 0
+chunks_to tag (emission ∷ emissions) = (if emission.packet.tag == tag then chunks_among emission.packet.contents else 0) + chunks_to tag emissions
+
+-- how many messages are under way: the end of one may take a TSN
+abbrev pub going : Option UnderWay → ℕ
+going None = 0
+going (Some under_way) = 1
+
+-- the TSNs that wait to be acknowledged, with that of such an end
+abbrev pub tsns_of : SendQueueState → List Item → ℕ
+tsns_of queue items = length items + going queue.under_way
+
+abbrev pub tsns_where : SendQueueState → Option Transfer → ℕ
+tsns_where queue None = going queue.under_way
+tsns_where queue (Some transfer) = tsns_of queue transfer.retransmission.outstanding.items
+
+abbrev pub tsns_below : Below → ℕ
+tsns_below below = tsns_where below.queue below.transfer
+
+-- A flush assigns at most two TSNs for each chunk of data that it sends.
+abbrev pub FlushesAssignFew : Type 0
+FlushesAssignFew =
+    (e : Endpoint) (draft : Emission) (answers : List Answer) → FlushAnswers e draft answers
+    → tsns_below (flush_of e draft answers).after.below ≤ tsns_below e.below + 2 * chunks_in (packets_in (flush_of e draft answers).events)
