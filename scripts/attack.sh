@@ -1,13 +1,17 @@
 #!/usr/bin/env bash
 # Tries the attacks of the crates that are named: edits that the prover has to refuse, too many for each run of
 # `rt ci`. They stand in attacks/CRATE, and those on the definitions that agreement rests on in
-# attacks/definitions. With no name: those of each crate that has changed since the commit in attacks/passed.
+# attacks/definitions, and those that delivery rests on in attacks/delivery. With no name: those of each crate that
+# has changed since the commit in attacks/passed.
 # Works on a copy of HEAD, prints each attack that isn't refused, and fails where there is one.
 set -eu
 cd "$(dirname "$0")/.."
 top=$PWD
 machine=dcsctp_machine
 agreement=dcsctp_machine_agreement
+# the laws on delivery, lowest first
+delivery=()
+for name in sending receiving directions turns associations sockets shown; do delivery+=("dcsctp_delivery_$name"); done
 
 # ---- which
 
@@ -24,6 +28,8 @@ if [ $# -eq 0 ]; then
         name=$(basename "$folder")
         if [ "$name" = definitions ]; then
             changed attacks/definitions crates/$machine/specs crates/$agreement || continue
+        elif [ "$name" = delivery ]; then
+            changed attacks/delivery crates/$machine/specs "${delivery[@]/#/crates/}" || continue
         else
             changed "attacks/$name" "crates/$name/src" "crates/$name/specs" "crates/$name/proofs" || continue
         fi
@@ -36,7 +42,7 @@ if [ $# -eq 0 ]; then
 fi
 for name in "${names[@]}"; do
     [ -d "attacks/$name" ] || { echo "attack: there is no folder attacks/$name"; exit 1; }
-    [ "$name" = definitions ] || [ -d "crates/$name" ] || { echo "attack: there is no crate $name"; exit 1; }
+    [ "$name" = definitions ] || [ "$name" = delivery ] || [ -d "crates/$name" ] || { echo "attack: there is no crate $name"; exit 1; }
 done
 [ -z "$(git status --porcelain -- crates attacks)" ] || echo "attack: what isn't committed is not tried"
 
@@ -108,31 +114,35 @@ judge() {
     esac
 }
 
+# Tries the edits of a folder of attacks: the first of these crates that isn't proved refuses it.
 of_definitions() {
-    local edit name crate said
-    for edit in attacks/definitions/*.edit; do
+    local folder=$1 edit name crate said
+    shift
+    for edit in "attacks/$folder/"*.edit; do
         name=$(basename "$edit" .edit)
-        crate=$machine
         if said=$(apply "$edit"); then
-            said=$(judge $machine)
-            if [ "$said" = proved ]; then
-                crate=$agreement
-                said=$(judge $agreement)
-            fi
+            for crate in "$@"; do
+                said=$(judge "$crate")
+                [ "$said" = proved ] || break
+            done
         else
             said="BAD EDIT: $said"
         fi
         case $said in
-            refused:*) echo "attack: definitions/$name: refused in $crate: ${said#refused: }" ;;
-            proved) echo "attack: definitions/$name: NOT REFUSED"; failed=1 ;;
-            *) echo "attack: definitions/$name: $said"; failed=1 ;;
+            refused:*) echo "attack: $folder/$name: refused in $crate: ${said#refused: }" ;;
+            proved) echo "attack: $folder/$name: NOT REFUSED"; failed=1 ;;
+            *) echo "attack: $folder/$name: $said"; failed=1 ;;
         esac
         git -C "$room/copy" checkout -q -- crates
     done
 }
 
 for name in "${names[@]}"; do
-    if [ "$name" = definitions ]; then of_definitions; else of_crate "$name"; fi
+    case $name in
+        definitions) of_definitions definitions $machine $agreement ;;
+        delivery) of_definitions delivery $machine "${delivery[@]}" ;;
+        *) of_crate "$name" ;;
+    esac
 done
 
 [ $failed -eq 0 ] || { echo "attack: not every attack was refused"; exit 1; }

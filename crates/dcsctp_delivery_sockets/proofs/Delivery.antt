@@ -30,7 +30,7 @@ use Rattle.dcsctp_delivery_associations.proofs.Delivers.{ends_begin, ends_delive
 use Rattle.dcsctp_delivery_directions.specs.Directions.{Delivered}
 use Rattle.dcsctp_delivery_sockets.specs.Echoes.{GoesToMaker}
 use Rattle.dcsctp_delivery_sockets.specs.UserMessages.{sent_of, read_of, IsDelivered}
-use Rattle.dcsctp_delivery_sockets.specs.Delivery.{FitsStep, AreInMemory, MatchByTags, SendsLittle, AllowsDelivery, Delivers, SocketsDeliver}
+use Rattle.dcsctp_delivery_sockets.specs.Delivery.{FitsStep, AreInMemory, MatchByTags, SendsLittle, TurnsAllowDelivery, Delivers, SocketsDeliver}
 use Rattle.dcsctp_delivery_sockets.proofs.Calls.{AreCalls, call_without, call_is, input_is}
 use Rattle.dcsctp_delivery_sockets.proofs.Echoes.{echoes_go_to_makers}
 use Rattle.dcsctp_delivery_sockets.proofs.NewLinks.{KeepsOptions, AllOpenFitting, none_open, matched_swapped, packet_opens}
@@ -147,7 +147,7 @@ good_all : (events : List (Event Emission)) → AllSent IsSendable events → Al
 good_all [] sendable goes = tt
 good_all (event ∷ events) sendable goes = (good_one event sendable.0 goes.0, good_all events sendable.1 goes.1)
 
-both_known : DeliveryLaws → (options : Both Options) (run : List Worked) → AreUsable options → SocketRun options run → AreHonest (acts_of run) → AreFresh (turns_after run) → AllowsDelivery options (turns_after run)
+both_known : DeliveryLaws → (options : Both Options) (run : List Worked) → AreUsable options → SocketRun options run → AreHonest (acts_of run) → AreFresh (turns_after run) → TurnsAllowDelivery options (turns_after run)
     → BothKnown options (turns_after run)
 both_known law options run are runs honest fresh allows =
     let j : Joined options (turns_after run) = joined law.below options run are runs honest in
@@ -184,18 +184,10 @@ one_way mine theirs turns others little h =
     subst (IsDelivered (sent_of (fresh_endpoint mine) turns)) (turns_read (fresh_endpoint theirs) others [])
     (is_delivered (queued_of mine turns) (sent_of (fresh_endpoint mine) turns) (messages_of (reads_of theirs others)) same all)
 
-deliver_now : DeliveryLaws → (options : Both Options) (run : List Worked) → AreUsable options → AreInMemory (acts_of run) → SocketRun options run → AreHonest (acts_of run) → AreFresh (turns_after run) → AllowsDelivery options (turns_after run) → (side : Side)
-    → Delivers options (turns_after run) side
-deliver_now law options run are in_memory runs honest fresh allows side =
+pub sockets_deliver : DeliveryLaws → SocketsDeliver
+sockets_deliver law options run are in_memory runs honest fresh allows side =
     both_deliver (both_stand law.below options run are runs honest in_memory (both_known law options run are runs honest fresh allows)) side
   where
     both_deliver : BothStand options (turns_after run) → (s : Side) → Delivers options (turns_after run) s
     both_deliver h sides.A = one_way options.b options.a (turns_after run).b (turns_after run).a (allows.little sides.B) h.to_a
     both_deliver h sides.B = one_way options.a options.b (turns_after run).a (turns_after run).b (allows.little sides.A) h.to_b
-
-pub sockets_deliver : DeliveryLaws → SocketsDeliver
-sockets_deliver law options [] are in_memory runs = tt
-sockets_deliver law options (worked ∷ earlier) are in_memory runs = (
-  (λ honest fresh allows. deliver_now law options (worked ∷ earlier) are in_memory runs honest fresh allows),
-  sockets_deliver law options earlier are in_memory.1 runs.1,
-)

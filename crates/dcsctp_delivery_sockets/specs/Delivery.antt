@@ -1,5 +1,5 @@
 -- What a user reads is what its peer's user sent, over every list of honest acts of two sockets, with interleaving or without.
-use Rattle.std.specs.Prelude.{◌≡◌, ◌≢◌, ◌⊎◌, ◌<◌, ◌^◌, ℕ, List, [], ◌∷◌, length}
+use Rattle.std.specs.Prelude.{◌≡◌, ◌≢◌, ◌⊎◌, ◌<◌, ◌^◌, ℕ, List, length}
 use Rattle.std.specs.List.{AllByRecursion}
 use Rattle.dcsctp_machine.specs.declared.options.Options.{Options}
 use Rattle.dcsctp_machine.specs.declared.schedule.Side.{Side}
@@ -73,26 +73,25 @@ pub record SendsLittle (options : Options) (turns : List Turned) : Type 0 where
 abbrev pub KeepsNumbers : Endpoint → Turned → Type 0
 KeepsNumbers e turn = ResetsNone e turn.outcome
 
+-- So it is of each turn of both sides.
+abbrev pub KeepNumbers : Both Options → Both (List Turned) → Type 0
+KeepNumbers options turns = (side : Side) → AlongTurns KeepsNumbers (fresh_endpoint (of_side side options)) (of_side side turns)
+
 -- ---- the theorem
 
--- All that delivery asks of a run, beside what agreement asks.
-pub record AllowsDelivery (options : Both Options) (turns : Both (List Turned)) : Type 0 where
+-- All that delivery asks of the turns of a run, beside what agreement asks.
+pub record TurnsAllowDelivery (options : Both Options) (turns : Both (List Turned)) : Type 0 where
   pub tags : TagsServeOnce turns
   pub little : (side : Side) → SendsLittle (of_side side options) (of_side side turns)
-  pub numbers : (side : Side) → AlongTurns KeepsNumbers (fresh_endpoint (of_side side options)) (of_side side turns)
+  pub numbers : KeepNumbers options turns
 
 -- What this side's user read is what the other's user sent, and no message was read twice, in any association.
 abbrev pub Delivers : Both Options → Both (List Turned) → Side → Type 0
 Delivers options turns side =
     IsDelivered (sent_of (fresh_endpoint (of_other side options)) (of_other side turns)) (read_of (fresh_endpoint (of_side side options)) (of_side side turns))
 
--- So it is at the end of each first part of the run that is honest, in which no tag was drawn twice and each served one association.
-abbrev pub DeliverThroughout : Both Options → List Worked → Type 0
-DeliverThroughout options [] = Unit {0}
-DeliverThroughout options (worked ∷ earlier) =
-    (AreHonest (acts_of (worked ∷ earlier)) → AreFresh (turns_after (worked ∷ earlier)) → AllowsDelivery options (turns_after (worked ∷ earlier))
-    → (side : Side) → Delivers options (turns_after (worked ∷ earlier)) side)
-    × DeliverThroughout options earlier
-
+-- So it is at the end of a run that is honest, in which no tag was drawn twice and each served one association.
 abbrev pub SocketsDeliver : Type 0
-SocketsDeliver = (options : Both Options) (run : List Worked) → AreUsable options → AreInMemory (acts_of run) → SocketRun options run → DeliverThroughout options run
+SocketsDeliver =
+    (options : Both Options) (run : List Worked) → AreUsable options → AreInMemory (acts_of run) → SocketRun options run → AreHonest (acts_of run) → AreFresh (turns_after run) → TurnsAllowDelivery options (turns_after run)
+    → (side : Side) → Delivers options (turns_after run) side

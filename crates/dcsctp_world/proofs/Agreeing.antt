@@ -20,6 +20,7 @@ use Rattle.dcsctp_machine_refinement.specs.Laws.{SocketLaws}
 use Rattle.dcsctp_machine_refinement.specs.OneSocket.{IsWithinLimit}
 use Rattle.dcsctp_machine_refinement.specs.Telling.{HoldsNoted}
 use Rattle.dcsctp_machine_cookies.specs.Laws.{CookieLaws}
+use Rattle.dcsctp_delivery_shown.specs.Delivery.{UsersReadWhatWasSent}
 use Rattle.dcsctp_machine.specs.Schedule.{ActContent, step_content, step_act}
 use Rattle.dcsctp_world.specs.Shown.{SideShown, WorldView, options_of}
 use Rattle.dcsctp_world.specs.Run.{SideRuns, IsRun}
@@ -31,8 +32,8 @@ use Rattle.dcsctp_world.specs.Recording.{Recording, recorded_stream}
 use Rattle.dcsctp_world.proofs.Honest.{honest_run}
 use Rattle.dcsctp_world.specs.Agreement.{Agrees, ShowsConnected, BothConnected, HandshakeConnects}
 
-pub world_agrees : {R : Type 0} → SocketLaws → CookieLaws → (options : Both Options) (world : WorldView R) → IsRun options world → Agrees options world
-world_agrees law cookies options world h =
+pub world_agrees : {R : Type 0} → SocketLaws → CookieLaws → UsersReadWhatWasSent → (options : Both Options) (world : WorldView R) → IsRun options world → Agrees options world
+world_agrees law cookies delivery options world h =
     record {
       is_run = h;
       honest = honest_run world.acts (acts_of h.steps) h.acts;
@@ -50,6 +51,7 @@ world_agrees law cookies options world h =
       agree = law.agree options h.steps h.usable h.run;
       given = cookies.given options h.steps h.usable h.run;
       ages = cookies.ages options h.steps h.usable h.run;
+      delivered = delivery options h.steps h.usable h.in_memory h.run;
     }
 
 -- ---- the handshake
@@ -109,10 +111,10 @@ split_at (x ∷ xs) zero default within = refl
 split_at (x ∷ xs) (suc i) default within = ap (λ (l : List Step). x ∷ l) (split_at xs i default (omega (arith, within)))
 
 -- the steps before the one that was refused ran
-refused_at : {R : Type 0} (stream : R → Stream) → SocketLaws → CookieLaws → (steps : List Step) (i : ℕ) (default : Step) (fault : SocketFault) (old now new : WorldView (Recording R)) → i < length steps
+refused_at : {R : Type 0} (stream : R → Stream) → SocketLaws → CookieLaws → UsersReadWhatWasSent → (steps : List Step) (i : ℕ) (default : Step) (fault : SocketFault) (old now new : WorldView (Recording R)) → i < length steps
     → Ran (map step_content (take i steps)) old now → DrawOn (recorded_stream stream) old.sides now.sides → AreWhole now.sides → Applies (step_act (step_content (get_or steps i default))) now (Err fault) new
     → Runs stream (map step_content steps) old (Err fault) new
-refused_at stream law cookies steps i default OutOfMemory old now new within ran drawn whole out =
+refused_at stream law cookies delivery steps i default OutOfMemory old now new within ran drawn whole out =
     record {
       done = map step_content (take i steps);
       refused = step_content (get_or steps i default);
@@ -121,20 +123,20 @@ refused_at stream law cookies steps i default OutOfMemory old now new within ran
           ∙ map-append step_content (take i steps) (get_or steps i default ∷ drop (suc i) steps);
       before = now;
       ran = ran;
-      agrees = world_agrees law cookies (options_of old) now ran.is_run;
+      agrees = world_agrees law cookies delivery (options_of old) now ran.is_run;
       connects = handshake_connects law.connect (options_of old) now ran.is_run;
       drawn = drawn;
       whole = whole;
       ran_out = out;
     }
-refused_at stream law cookies steps i default Failed old now new within ran drawn whole out =
+refused_at stream law cookies delivery steps i default Failed old now new within ran drawn whole out =
     let goes_on : now.failed ≡ false = ran.goes_on in
     let had_failed : now.failed ≡ true = out.had_failed in
     absurd (cc)
 
-pub ran_out_among : {R : Type 0} (stream : R → Stream) → SocketLaws → CookieLaws → (steps : List Step) (i : ℕ) (default : Step) (fault : SocketFault) (old now new : WorldView (Recording R)) → i < length steps
+pub ran_out_among : {R : Type 0} (stream : R → Stream) → SocketLaws → CookieLaws → UsersReadWhatWasSent → (steps : List Step) (i : ℕ) (default : Step) (fault : SocketFault) (old now new : WorldView (Recording R)) → i < length steps
     → Ran (map step_content (take i steps)) old now → DrawOn (recorded_stream stream) old.sides now.sides → AreWhole now.sides → Applies (step_act (step_content (get_or steps i default))) now (Err fault) new
     → (result : Result (Unit {0}) SocketFault) → IsErrAnd result (λ given. given ≡ fault) → Runs stream (map step_content steps) old result new
-ran_out_among stream law cookies steps i default fault old now new within ran drawn whole out (Ok done) is = absurd is
-ran_out_among stream law cookies steps i default fault old now new within ran drawn whole out (Err given) is =
-    subst (λ (f : SocketFault). Runs stream (map step_content steps) old (Err f) new) (sym is) (refused_at stream law cookies steps i default fault old now new within ran drawn whole out)
+ran_out_among stream law cookies delivery steps i default fault old now new within ran drawn whole out (Ok done) is = absurd is
+ran_out_among stream law cookies delivery steps i default fault old now new within ran drawn whole out (Err given) is =
+    subst (λ (f : SocketFault). Runs stream (map step_content steps) old (Err f) new) (sym is) (refused_at stream law cookies delivery steps i default fault old now new within ran drawn whole out)

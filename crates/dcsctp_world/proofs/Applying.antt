@@ -17,6 +17,7 @@ use Rattle.dcsctp_api.specs.Calls.{user_event}
 use Rattle.dcsctp_machine.specs.declared.schedule.Act.{Act}
 use Rattle.dcsctp_machine.specs.Schedule.{StepContent, ActContent, step_content, step_act}
 use Rattle.dcsctp_world.proofs.Stopping.{shows_nothing}
+use Rattle.dcsctp_delivery_sockets.specs.Delivery.{FitsAct}
 use Rattle.dcsctp_world.specs.declared.act.Reply.{Reply}
 use Rattle.dcsctp_world.specs.declared.watched_socket.WatchedSocket.{WatchedSocket}
 use Rattle.dcsctp_world.specs.Shown.{SideShown, WorldView, options_of}
@@ -126,13 +127,13 @@ both_noted {R = R} moved new a b =
     ∙ ap (λ (s : SideShown R). let both : Both (SideShown R) = record { a = (with_associations moved).a; b = s } in both) b
 
 -- the world's own flag doesn't matter where it is not set
-pub applied_is_run : {R : Type 0} (act : ActContent) (reply : Reply) (a b new_a new_b : WatchedSocket R) (made new_made : List Act) (failed : Bool) → failed ≡ false
+pub applied_is_run : {R : Type 0} (act : ActContent) (reply : Reply) (a b new_a new_b : WatchedSocket R) (made new_made : List Act) (failed : Bool) → failed ≡ false → FitsAct act
     → (failed ≡ false → IsRun (options_of (world_of a b made failed)) (world_of a b made failed))
     → Applied act reply (world_of a b made false) (world_of new_a new_b new_made false)
     → IsRun (options_of (world_of a b made failed)) (world_of new_a new_b new_made failed)
-applied_is_run act reply a b new_a new_b made new_made true is invariant applied = absurd (cc)
-applied_is_run act reply a b new_a new_b made new_made false is invariant applied =
-    is_run_next (options_of (world_of a b made false)) act reply (world_of a b made false) (world_of new_a new_b new_made false) (invariant refl) applied
+applied_is_run act reply a b new_a new_b made new_made true is fits invariant applied = absurd (cc)
+applied_is_run act reply a b new_a new_b made new_made false is fits invariant applied =
+    is_run_next (options_of (world_of a b made false)) act reply (world_of a b made false) (world_of new_a new_b new_made false) fits (invariant refl) applied
 
 -- an act that failed: no socket of the world had failed before, so a growth was refused
 pub ran_out_in : {R : Type 0} (act : ActContent) (fault : SocketFault) (a b new_a new_b : WatchedSocket R) (made new_made : List Act) (failed : Bool) → failed ≡ false

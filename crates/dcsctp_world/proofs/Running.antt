@@ -17,6 +17,7 @@ use Rattle.dcsctp_machine.specs.Sockets.{Both, of_side, of_other, side_of_act, T
 use Rattle.dcsctp_machine.proofs.TurnLemmas.{after_all-append, words_of-append, pairs_of-append, events_of-append}
 use Rattle.dcsctp_machine.proofs.SocketLemmas.{sockets_keep_options}
 use Rattle.dcsctp_machine.specs.transfer.Messages.{MessageContent}
+use Rattle.dcsctp_delivery_sockets.specs.Delivery.{FitsAct}
 use Rattle.dcsctp_delivery_sockets.specs.UserMessages.{sent_in, sent_of, read_in, read_of}
 use Rattle.dcsctp_api.specs.Calls.{user_event}
 use Rattle.dcsctp_machine.specs.declared.schedule.Act.{Act}
@@ -50,6 +51,7 @@ fresh_world_runs options generators a b =
       usable = by_side (λ (side : Side). IsUsable (of_side side options)) a b;
       steps = [];
       run = tt;
+      in_memory = tt;
       acts = refl;
       sides = by_side (λ (side : Side). SideRuns (of_side side options) (of_side side (turns_after [])) (of_side side (fresh_world options generators).sides))
           (fresh_side_runs options.a generators.a) (fresh_side_runs options.b generators.b);
@@ -172,8 +174,8 @@ turns_of options turns old act os runs turned =
     subst (λ (packets : List (List ℕ)). TurnsOfAct (endpoint_after (of_side mover options) (of_side mover turns)) packets act os) (other_packets options turns old mover runs)
     (subst (λ (e : Endpoint). TurnsOfAct e (of_other mover old).packets act os) (runs mover).endpoint turned)
 
-pub is_run_next : {R : Type 0} (options : Both Options) (act : ActContent) (reply : Reply) (old new : WorldView R) → IsRun options old → Applied act reply old new → IsRun options new
-is_run_next {R = R} options act reply old new h applied =
+pub is_run_next : {R : Type 0} (options : Both Options) (act : ActContent) (reply : Reply) (old new : WorldView R) → FitsAct act → IsRun options old → Applied act reply old new → IsRun options new
+is_run_next {R = R} options act reply old new fits h applied =
     let mover : Side = side_of_act act in
     let moved : Both (SideShown R) = applied.moved in
     let os = applied.moves.grows.turns in
@@ -188,6 +190,7 @@ is_run_next {R = R} options act reply old new h applied =
       usable = h.usable;
       steps = worked ∷ h.steps;
       run = (ends, h.run);
+      in_memory = (fits, h.in_memory);
       acts = applied.acts ∙ ap (λ (l : List ActContent). l ++ act ∷ []) h.acts ∙ sym (reverse-cons act (acts_of h.steps));
       sides = λ (side : Side). subst (λ (both : Both (SideShown R)). SidesRun options now both side) (sym applied.sides) (noted_runs options now moved side (runs side));
       associations = λ (side : Side).

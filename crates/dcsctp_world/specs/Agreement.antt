@@ -18,6 +18,7 @@ use Rattle.dcsctp_machine_refinement.specs.OneSocket.{EndsByAnswer, TellsEnd, Is
 use Rattle.dcsctp_machine_refinement.specs.Telling.{TellsNoted, HoldsNoted, AreAnew}
 use Rattle.dcsctp_machine_cookies.specs.Ages.{AgeThroughout}
 use Rattle.dcsctp_machine_cookies.specs.Cookies.{GivenThroughout}
+use Rattle.dcsctp_delivery_shown.specs.Delivery.{DeliverThroughout}
 use Rattle.dcsctp_world.specs.Shown.{SideShown, WorldView}
 use Rattle.dcsctp_world.specs.Run.{IsRun}
 
@@ -25,7 +26,9 @@ use Rattle.dcsctp_world.specs.Run.{IsRun}
 -- and no act came from outside. Then, when one side reports OnConnected, its peer has, or had, the matching association. When one
 -- side's request to reset streams was performed, the other performed it. With the second premise alone, each COOKIE ECHO that a
 -- side handles bears a cookie that this side gave away in an earlier turn; if it makes an association, that was at most the
--- cookie's lifetime before. If the sockets fit each other, the first five acts of a handshake connect them, whatever comes later.
+-- cookie's lifetime before. With both premises, if each tag serves one association and not too much goes to it, and with interleaving
+-- no own reset is performed, what a user reads is what the other user sent, and no message is read twice. If the sockets fit each other, the first five acts of a handshake connect
+-- them, whatever comes later.
 -- The rest holds whatever bytes came from outside. What each side notes of connections and of the numbers of requests is in its
 -- order. Each turn's events tell what it notes of connections, ends and resets, in the same order. A side's association is the
 -- one that it noted, and one of a handshake is noted only where it is another than before. A request ends by an answer with its
@@ -38,6 +41,7 @@ pub record Agrees {R : Type 0} (options : Both Options) (world : WorldView R) : 
   pub agree : AgreeThroughout options is_run.steps
   pub given : GivenThroughout is_run.steps
   pub ages : AgeThroughout options is_run.steps
+  pub delivered : DeliverThroughout options is_run.steps
   pub connect : AreFitting options → (side : Side) → ConnectThroughout options side is_run.steps
   pub numbers : (side : Side) → Each InPlace (noted_past (of_side side (turns_after is_run.steps)))
   pub told : (side : Side) → AllByRecursion TellsNoted (of_side side (turns_after is_run.steps))

@@ -6,6 +6,7 @@ use Rattle.dcsctp_machine.specs.CallTurns.{Turned, words_of, pairs_of}
 use Rattle.dcsctp_machine.specs.Endpoint.{fresh_endpoint}
 use Rattle.dcsctp_machine.specs.Sockets.{Both, of_side, Worked, SocketRun, turns_after, endpoint_after, events_shown, packets_shown, acts_of, associations_of}
 use Rattle.dcsctp_machine_refinement.specs.Agreement.{AreUsable}
+use Rattle.dcsctp_delivery_sockets.specs.Delivery.{AreInMemory}
 use Rattle.dcsctp_delivery_sockets.specs.UserMessages.{sent_of, read_of}
 use Rattle.dcsctp_world.specs.Shown.{SideShown, WorldView, options_of}
 use Rattle.dcsctp_world.specs.Recording.{Recording}
@@ -24,11 +25,13 @@ pub record SideRuns {R : Type 0} (options : Options) (turns : List Turned) (side
   pub sent : side.sent ≡ sent_of (fresh_endpoint options) turns
   pub read : side.read ≡ read_of (fresh_endpoint options) turns
 
--- All that the world shows is what two sockets with these options show, along one run of what was applied.
+-- All that the world shows is what two sockets with these options show, along one run of what was applied. Each message that a call
+-- handed over fits the fields of a chunk, as its types say.
 pub record IsRun {R : Type 0} (options : Both Options) (world : WorldView R) : Type 0 where
   pub usable : AreUsable options
   pub steps : List Worked
   pub run : SocketRun options steps
+  pub in_memory : AreInMemory (acts_of steps)
   pub acts : world.acts ≡ reverse (acts_of steps)
   pub sides : (side : Side) → SideRuns (of_side side options) (of_side side (turns_after steps)) (of_side side world.sides)
   pub associations : (side : Side) → (of_side side world.sides).associations ≡ reverse (associations_of side options steps)

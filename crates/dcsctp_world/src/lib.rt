@@ -10,6 +10,7 @@
 #![tactic(auto)]
 
 mod act;
+mod fits;
 mod recorded;
 mod user_messages;
 mod watched_socket;

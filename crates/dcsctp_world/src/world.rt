@@ -1,8 +1,10 @@
 //! Two sockets, and what happens to them.
 
 use crate::act::{Reply, are_honest, side_of};
+use crate::fits::act_fits;
 use crate::recorded::Recorded;
 use crate::watched_socket::WatchedSocket;
+use dcsctp_delivery_shown::users_read_what_was_sent;
 use dcsctp_machine::{Act, Outside, Side, Step, options_fit, sockets_stay_sound};
 use dcsctp_machine_cookies::cookie_laws;
 use dcsctp_machine_refinement::{restored_sockets_begin_nothing, socket_laws};
@@ -168,7 +170,9 @@ impl<R: Rng + Drop> World<R> {
         }
         socket_laws();
         cookie_laws();
+        users_read_what_was_sent();
         sockets_stay_sound();
+        act_fits(&act);
         match perform_and_keep(&mut self.a, &mut self.b, &mut self.acts, act) {
             Ok(reply) => Ok(reply),
             Err(_fault) => {
@@ -182,7 +186,7 @@ impl<R: Rng + Drop> World<R> {
     /// socket, and what they show is kept.
     ///
     /// Returns `Reply::NoCall` if the number of a delivery names no packet, which changes no socket, and else
-    /// what the call answered. Over all that was applied so far the two sockets agree, as `run` says. The errors are
+    /// what the call answered. Over all that was applied so far `run` says what holds. The errors are
     /// `SocketFault::OutOfMemory`, if an allocation failed for a socket or the world, and
     /// `SocketFault::Failed`, if one failed before.
     pub fn apply(&mut self, step: &Step) -> Result<Reply, SocketFault>
@@ -215,8 +219,8 @@ impl<R: Rng + Drop> World<R> {
     /// both pairs, the tie tag, what both ends support, and the numbers of requests to reset streams. It begins
     /// no such request, so the next own number is that of the snapshot (RFC 6525, section 4.1).
     ///
-    /// Once it was applied, `is_honest` is false, and the agreement of the two sockets and what is said of cookies
-    /// are promised only up to here. The rest of what `run` says still holds. The errors are those of `apply`.
+    /// Once it was applied, `is_honest` is false, and the agreement of the two sockets, what their users read and
+    /// what is said of cookies are promised only up to here. The rest of what `run` says still holds. The errors are those of `apply`.
     pub fn outside(&mut self, outside: Outside) -> Result<Reply, SocketFault>
         ensures call { Applies (outside_act (outside_content outside)) self.old result self.new }
         ensures restored { IfOk result (λ reply. RestoresBy (outside_content outside) reply
@@ -244,6 +248,15 @@ impl<R: Rng + Drop> World<R> {
     /// handles bears a cookie that this side gave away before, in an INIT ACK; and a cookie that makes an
     /// association was given away at most `cookie_lifetime` before, by that side's clock (section 5.1.5).
     ///
+    /// What a side's user read (`read`) is what the other's user sent (`sent`): stream, protocol identifier and
+    /// bytes, and no message is read twice, in any association. That has further premises. Each verification tag
+    /// serves one association: what `associations` shows after an act was there before it, or has an own tag and a
+    /// peer's tag that are new, and where one side's own tag is the other's peer tag, both pairs are crossed. Fewer
+    /// than 2^30 chunks of data go to each tag. In an association with interleaving (RFC 8260) no reset of own
+    /// streams is performed. A COOKIE ECHO that is delivered again once its association has ended makes another
+    /// one under the same tags, for as long as its cookie lives; then a message may be read twice, or be made of
+    /// parts of two.
+    ///
     /// The rest holds whatever comes from outside. In one lifetime an association connects at most once, and
     /// the numbers of requests to reset streams go up by one. Each request that was accepted is performed at
     /// most once (RFC 6525, section 4.1). A request ends by an answer with its number (section 5.2.7). Events
@@ -264,6 +277,7 @@ impl<R: Rng + Drop> World<R> {
         }
         socket_laws();
         cookie_laws();
+        users_read_what_was_sent();
         for step in steps {
             self.apply(step)?;
         }

@@ -1,9 +1,10 @@
 //! How often things happened, so that no test passes because nothing did.
 
+use crate::delivered::Delivery;
 use dcsctp_world::socket::SocketEvent;
 use std::process::Abort;
 
-/// How often each of these was told, by both sides in all schedules of a test.
+/// How often each of these happened, at both sides in all schedules of a test.
 #[derive(Clone, Copy, Debug)]
 pub struct Counts {
     pub connected: u32,
@@ -12,10 +13,21 @@ pub struct Counts {
     pub aborted: u32,
     pub performed: u32,
     pub incoming: u32,
+
+    /// In how many schedules each verification tag served one association up to the end; how many messages were read
+    /// while it was so; and how many of these once a reset of streams had been performed.
+    pub served: u32,
+    pub read: u32,
+    pub read_after_reset: u32,
 }
 
 fn one_more(count: &mut u32) {
     *count = count.saturating_add(1);
+}
+
+fn add(count: &mut u32, more: usize) {
+    let more = u32::try_from(more).unwrap_or(u32::MAX);
+    *count = count.saturating_add(more);
 }
 
 impl Counts {
@@ -28,7 +40,17 @@ impl Counts {
             aborted: 0,
             performed: 0,
             incoming: 0,
+            served: 0,
+            read: 0,
+            read_after_reset: 0,
         }
+    }
+
+    /// Notes what was read in a schedule.
+    pub fn note_read(&mut self, delivery: &Delivery) {
+        self.served = self.served.saturating_add(u32::from(delivery.serves));
+        add(&mut self.read, delivery.read);
+        add(&mut self.read_after_reset, delivery.read_after_reset);
     }
 
     /// Notes an event. Is it a connection or an end?
@@ -57,7 +79,10 @@ impl Counts {
             least.aborted <= self.aborted,
             least.performed <= self.performed,
             least.incoming <= self.incoming,
+            least.served <= self.served,
+            least.read <= self.read,
+            least.read_after_reset <= self.read_after_reset,
         ];
-        assert!(rt; enough == [true; 6], "{name}: {self:?}");
+        assert!(rt; enough == [true; 9], "{name}: {self:?}");
     }
 }

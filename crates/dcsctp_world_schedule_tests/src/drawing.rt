@@ -6,11 +6,13 @@ use rand_core::{Rng, SeedableRng};
 use rand_xoshiro::Xoshiro256PlusPlus;
 use std::time::Duration;
 
-/// A generator, the present moment, and how far the packets of each side were handed over in their order.
+/// A generator, the present moment, how many messages were drawn, and how far the packets of each side were handed
+/// over in their order.
 #[derive(Drop)]
 pub struct Drawing {
     rng: Xoshiro256PlusPlus,
     now: SocketTime,
+    messages: u32,
     a_handed: usize,
     b_handed: usize,
 }
@@ -21,6 +23,7 @@ impl Drawing {
         Drawing {
             rng: Xoshiro256PlusPlus::seed_from_u64(seed),
             now: SocketTime::zero(),
+            messages: 0,
             a_handed: 0,
             b_handed: 0,
         }
@@ -34,6 +37,12 @@ impl Drawing {
     /// Either side.
     pub fn side(&mut self) -> Side {
         if self.below(2) == 0 { Side::A } else { Side::B }
+    }
+
+    /// The number of the next message.
+    pub fn number(&mut self) -> u32 {
+        self.messages = self.messages.saturating_add(1);
+        self.messages
     }
 
     /// One of five streams.

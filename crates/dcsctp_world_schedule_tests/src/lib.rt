@@ -14,6 +14,8 @@ mod agreed;
 #[cfg(test)]
 mod counts;
 #[cfg(test)]
+mod delivered;
+#[cfg(test)]
 mod drawing;
 #[cfg(test)]
 mod pairs;

@@ -2,6 +2,7 @@
 
 use crate::counter::Counter;
 use crate::counts::Counts;
+use crate::delivered::Delivery;
 use crate::drawing::Drawing;
 use crate::pairs::{Both, interleaved, narrow, one_sided, plain, unlike};
 use crate::seen::Seen;
@@ -25,6 +26,9 @@ const LEAST: Counts = Counts {
     aborted: 100,
     performed: 50,
     incoming: 50,
+    served: 50,
+    read: 400,
+    read_after_reset: 200,
 };
 
 // The words of a side. In every second schedule the numbers are near the greatest, so that they wrap. In every
@@ -99,11 +103,16 @@ fn goes_through(
     let mut drawing = Drawing::new(schedule.seed);
     let mut a = Seen::new(alloc);
     let mut b = Seen::new(alloc);
+    let mut delivery = Delivery::new();
+    let resets = counts.performed;
     for _ in 0..STEPS {
+        let was_reset = resets < counts.performed;
         let step = [next_step(rt, alloc, &mut drawing, world)];
         world.run(&step).expect(rt, "no step");
         look(rt, schedule, world, (&mut a, &mut b), counts);
+        delivery.look_on(rt, alloc, schedule, world, was_reset);
     }
+    counts.note_read(&delivery);
 }
 
 // Goes through a schedule.

@@ -28,14 +28,33 @@ fn options(drawing: &mut Drawing) -> SendOptions {
     options
 }
 
-// A message: one of eight fills several packets.
-fn sending(rt: &impl Abort, alloc: Global, drawing: &mut Drawing) -> Call {
+// The bytes of a message: its number, then others that tell where they stand.
+fn payload(rt: &impl Abort, alloc: Global, number: u32, len: u32) -> Vec<u8> {
+    let mut bytes = Vec::from_slice(alloc, &number.to_be_bytes()).expect(rt, "no payload");
+    for at in 4..len {
+        let byte = (number.saturating_add(at) % 251) as u8;
+        bytes.push(byte).expect(rt, "no payload");
+    }
+    bytes
+}
+
+// A message: one of eight fills several packets. No two are alike.
+fn message(rt: &impl Abort, alloc: Global, drawing: &mut Drawing) -> Message {
     let most = if drawing.below(8) == 0 { 3000 } else { 100 };
-    let len = drawing.below(most).saturating_add(1) as usize;
-    let mut payload = Vec::new(alloc);
-    payload.resize(len, 7).expect(rt, "no payload");
-    let message = Message::new(drawing.stream(), PpId(51), payload);
-    Call::Send(message, options(drawing))
+    let len = drawing.below(most).saturating_add(4);
+    let number = drawing.number();
+    let bytes = payload(rt, alloc, number, len);
+    Message::new(drawing.stream(), PpId(number), bytes)
+}
+
+// Two messages at once.
+fn sending_two(rt: &impl Abort, alloc: Global, drawing: &mut Drawing) -> Call {
+    let mut messages = Vec::new(alloc);
+    let first = message(rt, alloc, drawing);
+    messages.push(first).expect(rt, "no list");
+    let second = message(rt, alloc, drawing);
+    messages.push(second).expect(rt, "no list");
+    Call::SendMany(messages, options(drawing))
 }
 
 // One to three streams are reset.
@@ -53,7 +72,8 @@ fn call(rt: &impl Abort, alloc: Global, drawing: &mut Drawing) -> Call {
         7 => Call::Close,
         8 => Call::Shutdown,
         9..=15 => resetting(rt, alloc, drawing),
-        16..=26 => sending(rt, alloc, drawing),
+        16..=25 => Call::Send(message(rt, alloc, drawing), options(drawing)),
+        26 => sending_two(rt, alloc, drawing),
         27..=31 => Call::GetNextMessage,
         32..=38 => Call::AdvanceTime(drawing.later()),
         _ => Call::GetHandoverStateAndClose,

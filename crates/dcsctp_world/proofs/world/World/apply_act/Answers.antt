@@ -22,10 +22,10 @@ perform_and_keep-requires-clause-b g c = ((c.self.invariant c.if-self.false).is_
 pub returns-in-Ok-clause-agreement : goal.returns-in-Ok-clause-agreement
 returns-in-Ok-clause-agreement g c =
     let new = world_of c.perform_and_keep.new.a c.perform_and_keep.new.b c.perform_and_keep.new.acts.items c.self.inside.failed in
-    world_agrees c.socket_laws.ensures c.cookie_laws.ensures (options_of c.args.self.now) new
+    world_agrees c.socket_laws.ensures c.cookie_laws.ensures c.users_read_what_was_sent.ensures (options_of c.args.self.now) new
     (subst (λ (w : WorldView (Recording g.row.R.Denot)). IsRun (options_of w) new) c.self.view_is
     (applied_is_run (act_content c.args.act) c.in-Ok.reply c.self.inside.a c.self.inside.b c.perform_and_keep.new.a c.perform_and_keep.new.b c.self.inside.acts.items c.perform_and_keep.new.acts.items
-    c.self.inside.failed c.if-self.false (λ runs. (c.self.invariant runs).is_run) c.in-Ok.ensures.call))
+    c.self.inside.failed c.if-self.false c.act_fits.ensures (λ runs. (c.self.invariant runs).is_run) c.in-Ok.ensures.call))
 
 pub returns-in-Ok-clause-handshake : goal.returns-in-Ok-clause-handshake
 returns-in-Ok-clause-handshake g c =

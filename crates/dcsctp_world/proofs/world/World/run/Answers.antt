@@ -28,7 +28,7 @@ loop-step-preserved g c = (
 )
 
 pub returns-clause-agreement : goal.returns-clause-agreement
-returns-clause-agreement g c = world_agrees c.socket_laws.ensures c.cookie_laws.ensures (options_of c.args.self.now) c.loop-step.self c.loop-step.invariant.0.is_run
+returns-clause-agreement g c = world_agrees c.socket_laws.ensures c.cookie_laws.ensures c.users_read_what_was_sent.ensures (options_of c.args.self.now) c.loop-step.self c.loop-step.invariant.0.is_run
 
 pub returns-clause-handshake : goal.returns-clause-handshake
 returns-clause-handshake g c =
@@ -36,6 +36,6 @@ returns-clause-handshake g c =
 
 pub returns-in_err-apply-clause-call : goal.returns-in_err-apply-clause-call
 returns-in_err-apply-clause-call g c =
-    ran_out_among g.R.Rng.stream c.socket_laws.ensures c.cookie_laws.ensures c.args.steps.now c.loop-step.step-index c.step-item.result c.in_err-apply.field-0.0 c.args.self.now c.loop-step.self c.apply.new.self
+    ran_out_among g.R.Rng.stream c.socket_laws.ensures c.cookie_laws.ensures c.users_read_what_was_sent.ensures c.args.steps.now c.loop-step.step-index c.step-item.result c.in_err-apply.field-0.0 c.args.self.now c.loop-step.self c.apply.new.self
     c.loop-step-test.true c.loop-step.invariant.0 c.loop-step.invariant.1 c.loop-step.invariant.2
     (subst (λ (s : Step). Applies (step_act (step_content s)) c.loop-step.self (Err c.in_err-apply.field-0.0) c.apply.new.self) c.step-item.is c.in_err-apply.ensures.call) c.from_residual.result c.from_residual.ensures.1

@@ -1,0 +1,157 @@
+-- What the turns of a socket note of associations, and that turns without an INIT ACK or COOKIE ECHO note none.
+use Rattle.std.proofs.Common.{◌≡◌, ◌≢◌, Option, None, Some, List, [], ◌∷◌, ◌++◌, refl, sym, ap, ◌∙◌, subst, inl, inr, append_assoc}
+use Rattle.std.specs.List.{AllByRecursion}
+use Rattle.dcsctp_machine.specs.declared.capabilities.Capabilities.{Capabilities}
+use Rattle.dcsctp_machine.specs.Settings.{SameOptions}
+use Rattle.dcsctp_machine.specs.CallTurns.{Turned, AlongTurns, after_all, effects_of, events_of}
+use Rattle.dcsctp_machine.specs.Endpoint.{Endpoint}
+use Rattle.dcsctp_machine.specs.Event.{packets_in}
+use Rattle.dcsctp_machine.specs.Packet.{Content}
+use Rattle.dcsctp_machine.specs.Past.{Has}
+use Rattle.dcsctp_machine.specs.Turn.{Turn}
+use Rattle.dcsctp_machine.specs.control.Effect.{Link, Effect, draws, sends, holds, connects, ends, begins, completes, fails, accepts, performs, resumes, noted, link_in}
+use Rattle.dcsctp_machine_agreement.specs.OneSide.{EffectsMean}
+use Rattle.dcsctp_machine_refinement.specs.Telling.{NotesAnew}
+use Rattle.dcsctp_machine_refinement.proofs.NewAssociations.{FirstAlone, change_anew}
+use Rattle.dcsctp_machine_refinement.proofs.NoHolding.{HoldsNone, none-append}
+use Rattle.dcsctp_machine_refinement.proofs.OneSocket.{noted_happened}
+use Rattle.dcsctp_machine_refinement.proofs.SocketsAlone.{Moves, it_rests, it_moves}
+use Rattle.dcsctp_delivery_turns.specs.Actions.{came_by, IsOpening, ResetsNone}
+use Rattle.dcsctp_delivery_sockets.specs.Delivery.{KeepsNumbers}
+use Rattle.dcsctp_delivery_shown.proofs.Allowed.{AreAllowed}
+use Rattle.dcsctp_delivery_shown.proofs.Actions.{events_both}
+use Rattle.dcsctp_delivery_shown.proofs.Turns.{EndpointIs, IsCalm, calm_step, calm_opens, MovesLink, link_stays, link_ends, link_begins, TurnIs, turn_is}
+
+-- ---- each turn
+
+-- What a turn notes of associations: at most one, and that first. It is there after the turn, and wasn't before.
+pub record GoodTurn (e : Endpoint) (t : Turned) : Type 0 where
+  pub options : SameOptions e.options t.outcome.after.options
+  pub first : FirstAlone t.outcome.effects
+  pub anew : NotesAnew e t
+  pub held : (link : Link) → Has (holds link) t.outcome.effects → link_in t.outcome.after.core ≡ Some link
+
+noted_none : (effects : List Effect) → HoldsNone effects → HoldsNone (noted effects)
+noted_none [] none = tt
+noted_none (draws pair ∷ effects) none = (tt, noted_none effects none.1)
+noted_none (sends packet ∷ effects) none = noted_none effects none.1
+noted_none (holds link ∷ effects) none = absurd none.0
+noted_none (connects link ∷ effects) none = (tt, noted_none effects none.1)
+noted_none (ends ∷ effects) none = (tt, noted_none effects none.1)
+noted_none (begins number ∷ effects) none = (tt, noted_none effects none.1)
+noted_none (completes my number ∷ effects) none = (tt, noted_none effects none.1)
+noted_none (fails number ∷ effects) none = (tt, noted_none effects none.1)
+noted_none (accepts number ∷ effects) none = (tt, noted_none effects none.1)
+noted_none (performs peer number ∷ effects) none = (tt, noted_none effects none.1)
+noted_none (resumes link own last ∷ effects) none = (tt, noted_none effects none.1)
+
+alone_of_none : (effects : List Effect) → HoldsNone effects → FirstAlone effects
+alone_of_none [] none = tt
+alone_of_none (effect ∷ effects) none = none.1
+
+noted_alone : (effects : List Effect) → FirstAlone effects → FirstAlone (noted effects)
+noted_alone [] first = tt
+noted_alone (sends packet ∷ effects) first = alone_of_none (noted effects) (noted_none effects first)
+noted_alone (draws pair ∷ effects) first = noted_none effects first
+noted_alone (holds link ∷ effects) first = noted_none effects first
+noted_alone (connects link ∷ effects) first = noted_none effects first
+noted_alone (ends ∷ effects) first = noted_none effects first
+noted_alone (begins number ∷ effects) first = noted_none effects first
+noted_alone (completes my number ∷ effects) first = noted_none effects first
+noted_alone (fails number ∷ effects) first = noted_none effects first
+noted_alone (accepts number ∷ effects) first = noted_none effects first
+noted_alone (performs peer number ∷ effects) first = noted_none effects first
+noted_alone (resumes link own last ∷ effects) first = noted_none effects first
+
+-- So it is of each turn that moves the association as the machine does.
+pub good_turn : EffectsMean → (e : Endpoint) (t : Turned) → Moves e t.outcome → GoodTurn e t
+good_turn law e t (it_rests core options effects told) =
+    record {
+      options = options;
+      first = subst FirstAlone (sym effects) tt;
+      anew = λ link has. absurd (subst (Has (holds link)) effects has);
+      held = λ link has. absurd (subst (Has (holds link)) effects has);
+    }
+good_turn law e t (it_moves change turn is) =
+    let new = change_anew e.options e.core change turn in
+    record {
+      options = is.options;
+      first = subst FirstAlone (sym is.effects) (noted_alone change.effects new.first);
+      anew = λ link has. new.anew link (noted_happened (holds link) change.effects (subst (Has (holds link)) is.effects has));
+      held = λ link has. ap link_in is.core ∙ (law e.options e.core change turn).held link (noted_happened (holds link) change.effects (subst (Has (holds link)) is.effects has));
+    }
+
+-- What is known of each turn of a run.
+abbrev pub Known : Endpoint → Turned → Type 0
+Known e t = Turn e t.input t.outcome × GoodTurn e t × ResetsNone e t.outcome
+
+pub numbers_of : (e : Endpoint) (turns : List Turned) → AlongTurns Known e turns → AlongTurns KeepsNumbers e turns
+numbers_of e [] known = tt
+numbers_of e (t ∷ turns) known = (known.0.2, numbers_of t.outcome.after turns known.1)
+
+-- ---- turns that begin nothing
+
+pub none_among : (effects : List Effect) → ((link : Link) → Has (holds link) effects → ⊥) → HoldsNone effects
+none_among [] without = tt
+none_among (holds link ∷ effects) without = absurd (without link (inl refl))
+none_among (effect ∷ effects) without = (tt, none_among effects (λ link has. without link (inr has)))
+
+-- A turn that begins no association notes none.
+pub none_noted : (came : Option Content) (e : Endpoint) (t : Turned) → GoodTurn e t → (IsOpening came → ⊥) → MovesLink came e t.outcome → HoldsNone t.outcome.effects
+none_noted came e t good unopened (link_stays is) = none_among t.outcome.effects (λ link has. good.anew link has (sym is ∙ good.held link has))
+none_noted came e t good unopened (link_ends none) = none_among t.outcome.effects (λ link has. (let both : None ≡ Some link = sym none ∙ good.held link has in absurd (cc)))
+none_noted came e t good unopened (link_begins begun opening linked) = absurd (unopened opening)
+
+module _ (kinds : Capabilities) where
+  -- The turns note no association; their kinds are kept.
+  pub record Calm (e : Endpoint) (turns : List Turned) : Type 0 where
+    pub none : HoldsNone (effects_of turns)
+    pub is : EndpointIs kinds (after_all e turns)
+    pub says : AreAllowed kinds (packets_in (events_of turns))
+
+  pub calm_turns : (turns : List Turned) (e : Endpoint) → AllByRecursion (λ t. IsCalm t.input) turns → AlongTurns Known e turns → EndpointIs kinds e → Calm e turns
+  calm_turns [] e calm known h = record { none = tt; is = h; says = tt }
+  calm_turns (t ∷ turns) e calm known h =
+      let so : TurnIs kinds e (came_by t.input) t.outcome =
+      turn_is kinds e t.input t.outcome h (calm_step t.input calm.0) (λ begun opening. absurd (calm_opens t.input calm.0 opening)) known.0.2 known.0.0 in
+      let rest : Calm t.outcome.after turns = calm_turns turns t.outcome.after calm.1 known.1 so.after in
+      record {
+        none = none-append t.outcome.effects (effects_of turns) (none_noted (came_by t.input) e t known.0.1 (calm_opens t.input calm.0) so.moves) rest.none;
+        is = rest.is;
+        says = events_both kinds t.outcome.events (events_of turns) so.says rest.says;
+      }
+
+-- ---- an act
+
+-- The turns note no association; or one, which wasn't there before them and is there after them.
+pub data Notes (e : Endpoint) (turns : List Turned) : Type 0 where
+  notes_none : HoldsNone (effects_of turns) → Notes e turns
+  notes_one : (link : Link) (front later : List Effect) → effects_of turns ≡ front ++ holds link ∷ later → HoldsNone front → HoldsNone later → link_in e.core ≢ Some link → link_in (after_all e turns).core ≡ Some link
+      → Notes e turns
+
+pub record ActIs (kinds : Capabilities) (e : Endpoint) (turns : List Turned) : Type 0 where
+  pub notes : Notes e turns
+  pub is : EndpointIs kinds (after_all e turns)
+  pub says : AreAllowed kinds (packets_in (events_of turns))
+
+pub of_calm : (kinds : Capabilities) (e : Endpoint) (turns : List Turned) → Calm kinds e turns → ActIs kinds e turns
+of_calm kinds e turns calm = record { notes = notes_none calm.none; is = calm.is; says = calm.says }
+
+-- a turn in front that leaves the association and notes none
+front_notes : (e : Endpoint) (t : Turned) (turns : List Turned) → HoldsNone t.outcome.effects → link_in t.outcome.after.core ≡ link_in e.core → Notes t.outcome.after turns → Notes e (t ∷ turns)
+front_notes e t turns none same (notes_none others) = notes_none (none-append t.outcome.effects (effects_of turns) none others)
+front_notes e t turns none same (notes_one link front later is front_none later_none other there) =
+    notes_one link (t.outcome.effects ++ front) later (ap (λ (es : List Effect). t.outcome.effects ++ es) is ∙ sym (append_assoc t.outcome.effects front (holds link ∷ later)))
+    (none-append t.outcome.effects front none front_none) later_none (λ was. other (same ∙ was)) there
+
+pub one_then : (kinds : Capabilities) (e : Endpoint) (t : Turned) (turns : List Turned) → AllByRecursion (λ u. IsCalm u.input) (t ∷ []) → Known e t → EndpointIs kinds e → link_in t.outcome.after.core ≡ link_in e.core
+    → (EndpointIs kinds t.outcome.after → ActIs kinds t.outcome.after turns) → ActIs kinds e (t ∷ turns)
+one_then kinds e t turns calm known h same rest =
+    let so : TurnIs kinds e (came_by t.input) t.outcome =
+    turn_is kinds e t.input t.outcome h (calm_step t.input calm.0) (λ begun opening. absurd (calm_opens t.input calm.0 opening)) known.2 known.0 in
+    let others : ActIs kinds t.outcome.after turns = rest so.after in
+    record {
+      notes = front_notes e t turns (none_noted (came_by t.input) e t known.1 (calm_opens t.input calm.0) so.moves) same others.notes;
+      is = others.is;
+      says = events_both kinds t.outcome.events (events_of turns) so.says others.says;
+    }

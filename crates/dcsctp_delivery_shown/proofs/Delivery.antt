@@ -1,0 +1,16 @@
+-- What is read was sent, where what is shown allows it.
+use Rattle.std.proofs.Common.{List, [], ◌∷◌}
+use Rattle.dcsctp_machine.specs.declared.options.Options.{Options}
+use Rattle.dcsctp_machine.specs.Sockets.{Worked, Both, SocketRun, acts_of}
+use Rattle.dcsctp_machine_refinement.specs.Agreement.{AreUsable}
+use Rattle.dcsctp_delivery_sockets.specs.Delivery.{AreInMemory, SocketsDeliver}
+use Rattle.dcsctp_delivery_shown.specs.Shown.{ShownTagsSuffice}
+use Rattle.dcsctp_delivery_shown.specs.Delivery.{DeliverThroughout}
+
+pub deliver : SocketsDeliver → ShownTagsSuffice → (options : Both Options) (run : List Worked) → AreUsable options → AreInMemory (acts_of run) → SocketRun options run → DeliverThroughout options run
+deliver law tags options [] are in_memory runs = tt
+deliver law tags options (worked ∷ earlier) are in_memory runs = (
+  (λ honest fresh allows. law options (worked ∷ earlier) are in_memory runs honest fresh
+      (record { tags = tags options (worked ∷ earlier) are runs honest fresh allows.numbers allows.tags; little = allows.little; numbers = allows.numbers })),
+  deliver law tags options earlier are in_memory.1 runs.1,
+)

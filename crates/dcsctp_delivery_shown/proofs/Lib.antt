@@ -1,0 +1,12 @@
+pub mod InFlight
+pub mod Allowed
+pub mod Actions
+pub mod Turns
+pub mod Stays
+pub mod Begins
+pub mod Calm
+pub mod Acts
+pub mod Sides
+pub mod Steps
+pub mod Runs
+pub mod Delivery

@@ -1,0 +1,208 @@
+-- The association that a packet begins with is there when the packet is over: what follows the first chunk ends none.
+use Rattle.std.proofs.Common.{◌≡◌, ◌==◌, ℕ, Bool, true, false, cond, Option, None, Some, List, [], ◌∷◌, refl, sym, ap, ◌∙◌, subst}
+use Rattle.dcsctp_wire.specs.Content.{ParameterContent, data_chunk, i_data_chunk, sack_chunk, error_chunk, forward_tsn_chunk, i_forward_tsn_chunk}
+use Rattle.dcsctp_machine.specs.declared.capabilities.Capabilities.{Capabilities}
+use Rattle.dcsctp_machine.specs.declared.ends.Violation.{Violation}
+use Rattle.dcsctp_machine.specs.Cause.{Cause}
+use Rattle.dcsctp_machine.specs.Controlled.{IsControlled, ControlledChunk}
+use Rattle.dcsctp_machine.specs.CallTurns.{Turned, IsTurn, Turns, AfterChunk, ChunkTurns, after_all, AlongTurns}
+use Rattle.dcsctp_machine.specs.Endpoint.{Endpoint, Core, closed, cookie_wait, cookie_echoed, open_in, shutdown_pending, shutdown_received}
+use Rattle.dcsctp_machine.specs.Following.{Following, next_chunk, packet_end, dropped_rest}
+use Rattle.dcsctp_machine.specs.Laws.{ChunksAreControlled}
+use Rattle.dcsctp_machine.specs.Outcome.{Outcome, still, to_peer}
+use Rattle.dcsctp_machine.specs.Packet.{Plain, unknown, heartbeat, heartbeat_ack, unworked, Content, init, init_ack, cookie_echo, cookie_ack, re_config, abort, shutdown, shutdown_ack, shutdown_complete, plain}
+use Rattle.dcsctp_machine.specs.Reconfiguration.{ResetParameter}
+use Rattle.dcsctp_machine.specs.Turn.{chunk_input, packet_ends, ContentTurn}
+use Rattle.dcsctp_machine.specs.control.Acts.{flush_change, plain_change}
+use Rattle.dcsctp_machine.specs.control.Choices.{Choices}
+use Rattle.dcsctp_machine.specs.control.Effect.{link_in}
+use Rattle.dcsctp_machine.specs.control.ResetChanges.{re_config_change}
+use Rattle.dcsctp_machine.specs.control.ShutdownChanges.{shutdown_step_change}
+use Rattle.dcsctp_machine.specs.transfer.Arrivals.{data_arrival, i_data_arrival, skipped_in, messages_skipped_in}
+use Rattle.dcsctp_machine.specs.turns.HeartbeatOutcomes.{heartbeat_outcome, heartbeat_ack_outcome, answered, info_in, counter_of}
+use Rattle.dcsctp_machine.specs.turns.PlainOutcomes.{violation_by, violation_at, PlainTurnBy, is_reported, after_unknown, unknown_bytes, unknown_told, unknown_outcome, error_outcome}
+use Rattle.dcsctp_machine.proofs.DataLemmas.{chosen, FlushedAt, data_at, forward_at, end_at}
+use Rattle.dcsctp_machine.proofs.SackLemmas.{SteppedAt, sack_at}
+use Rattle.dcsctp_machine_refinement.proofs.Bursts.{emits_core}
+use Rattle.dcsctp_delivery_turns.specs.Actions.{IsOpening, ResetsNone}
+use Rattle.dcsctp_delivery_sockets.specs.Delivery.{KeepsNumbers}
+use Rattle.dcsctp_delivery_sockets.specs.Echoes.{MayFollow, AllMayFollow}
+use Rattle.dcsctp_delivery_shown.proofs.Allowed.{MayGo, Allowed, AllAllowed}
+use Rattle.dcsctp_delivery_shown.proofs.Turns.{SameKinds, LinkIs, EndpointIs, MovesLink, link_stays, link_ends, link_begins, TurnIs, turn_is}
+
+-- The peer is known.
+abbrev pub IsHeldIn : Core → Type 0
+IsHeldIn closed = ⊥
+IsHeldIn (cookie_wait my) = ⊥
+IsHeldIn (cookie_echoed my held cookie) = Unit {0}
+IsHeldIn (open_in phase my held) = Unit {0}
+
+held_some : (core : Core) → IsHeldIn core → link_in core ≡ None → ⊥
+held_some closed held none = held
+held_some (cookie_wait my) held none = held
+held_some (cookie_echoed my of_peer cookie) held none = absurd (cc)
+held_some (open_in phase my of_peer) held none = absurd (cc)
+
+none_before : (core after : Core) → (IsHeldIn core → IsHeldIn after) → link_in after ≡ None → link_in core ≡ None
+none_before closed after keeps none = refl
+none_before (cookie_wait my) after keeps none = refl
+none_before (cookie_echoed my held cookie) after keeps none = absurd (held_some after (keeps tt) none)
+none_before (open_in phase my held) after keeps none = absurd (held_some after (keeps tt) none)
+
+link_kept : (came : Option Content) (e : Endpoint) (o : Outcome) → (IsOpening came → ⊥) → (IsHeldIn e.core → IsHeldIn o.after.core) → MovesLink came e o → link_in o.after.core ≡ link_in e.core
+link_kept came e o unopened keeps (link_stays is) = is
+link_kept came e o unopened keeps (link_ends none) = none ∙ sym (none_before e.core o.after.core keeps none)
+link_kept came e o unopened keeps (link_begins begun opening linked) = absurd (unopened opening)
+
+-- ---- flushes, and a step of a shutdown
+
+flush_held : (core : Core) (choices : Choices) → IsHeldIn core → IsHeldIn (flush_change core choices).core
+flush_held closed choices held = held
+flush_held (cookie_wait my) choices held = held
+flush_held (cookie_echoed my of_peer cookie) choices held = tt
+flush_held (open_in phase my of_peer) choices held = tt
+
+step_held : (core : Core) (tsn : ℕ) (is_acknowledged : Bool) → IsHeldIn core → IsHeldIn (shutdown_step_change core tsn is_acknowledged).core
+step_held closed tsn is_acknowledged held = held
+step_held (cookie_wait my) tsn is_acknowledged held = held
+step_held (cookie_echoed my of_peer cookie) tsn is_acknowledged held = tt
+step_held (open_in shutdown_pending my of_peer) tsn true held = tt
+step_held (open_in shutdown_received my of_peer) tsn true held = tt
+step_held (open_in phase my of_peer) tsn is_acknowledged held = tt
+
+stepped_held : (core : Core) (choices : Choices) → IsHeldIn core → IsHeldIn (plain_change core false choices).core
+stepped_held core choices held =
+    flush_held (shutdown_step_change core choices.tsn choices.is_acknowledged).core choices (step_held core choices.tsn choices.is_acknowledged held)
+
+flushed_at : (e : Endpoint) (o : Outcome) → FlushedAt e e.core o → IsHeldIn e.core → IsHeldIn o.after.core
+flushed_at e o h held = subst IsHeldIn (sym h.2.core) (flush_held e.core (chosen e h.0 h.1) held)
+
+by_plain : (e : Endpoint) (o : Outcome) (choices : Choices) → IsControlled e o (plain_change e.core false choices) → IsHeldIn e.core → IsHeldIn o.after.core
+by_plain e o choices h held = subst IsHeldIn (sym h.core) (stepped_held e.core choices held)
+
+stepped_at : (e : Endpoint) (o : Outcome) → SteppedAt e e.core o → IsHeldIn e.core → IsHeldIn o.after.core
+stepped_at e o h held = by_plain e o _ h.4 held
+
+-- ---- chunks that leave it alone
+
+-- So it is where the outcome has the same association.
+same_core : (e : Endpoint) (o outcome : Outcome) → o ≡ outcome → outcome.after.core ≡ e.core → IsHeldIn e.core → IsHeldIn o.after.core
+same_core e o outcome is same held = subst IsHeldIn (sym (ap (λ (x : Outcome). x.after.core) is ∙ same)) held
+
+unknown_core : (e : Endpoint) (core : Core) (type : ℕ) (chunk : List ℕ) (reported : Bool) → (record (cond reported (unknown_told e core type chunk) (still e)) { following = after_unknown type }).after.core ≡ e.core
+unknown_core e core type chunk false = refl
+unknown_core e closed type chunk true = refl
+unknown_core e (cookie_wait my) type chunk true = refl
+unknown_core e (cookie_echoed my held cookie) type chunk true = refl
+unknown_core e (open_in phase my held) type chunk true = refl
+
+heartbeat_core : (e : Endpoint) (core : Core) (parameters : List ParameterContent) → (heartbeat_outcome e core parameters).after.core ≡ e.core
+heartbeat_core e closed parameters = refl
+heartbeat_core e (cookie_wait my) parameters = refl
+heartbeat_core e (cookie_echoed my held cookie) parameters = emits_core e [] (to_peer held (plain (heartbeat_ack parameters)))
+heartbeat_core e (open_in phase my held) parameters = emits_core e [] (to_peer held (plain (heartbeat_ack parameters)))
+
+counted_core : (b : Bool) (e : Endpoint) → (cond b (still (answered e)) (still e)).after.core ≡ e.core
+counted_core true e = refl
+counted_core false e = refl
+
+ack_core : (e : Endpoint) (counter : Option ℕ) → (heartbeat_ack_outcome e counter).after.core ≡ e.core
+ack_core e None = refl
+ack_core e (Some counter) = counted_core (counter == e.heartbeat_counter) e
+
+error_core : (e : Endpoint) (core : Core) (causes : List Cause) → (error_outcome e core causes).after.core ≡ e.core
+error_core e closed causes = refl
+error_core e (cookie_wait my) causes = refl
+error_core e (cookie_echoed my held cookie) causes = refl
+error_core e (open_in phase my held) causes = refl
+
+-- ---- a chunk that breaks nothing
+
+plain_held : (e : Endpoint) (chunk : Plain) (o : Outcome) → PlainTurnBy e chunk None o → IsHeldIn e.core → IsHeldIn o.after.core
+plain_held e (unknown type flags value) o turn = same_core e o (unknown_outcome e e.core type flags value) turn (unknown_core e e.core type (unknown_bytes type flags value) (is_reported type))
+plain_held e (heartbeat parameters) o turn = same_core e o (heartbeat_outcome e e.core parameters) turn (heartbeat_core e e.core parameters)
+plain_held e (heartbeat_ack parameters) o turn = same_core e o (heartbeat_ack_outcome e (counter_of (info_in parameters))) turn (ack_core e (counter_of (info_in parameters)))
+plain_held e (unworked (data_chunk chunk)) o turn = flushed_at e o (data_at e (data_arrival chunk) o turn)
+plain_held e (unworked (i_data_chunk chunk)) o turn = flushed_at e o (data_at e (i_data_arrival chunk) o turn)
+plain_held e (unworked (sack_chunk chunk)) o turn = stepped_at e o (sack_at e e.below.transfer chunk o turn)
+plain_held e (unworked (forward_tsn_chunk tsn streams)) o turn = flushed_at e o (forward_at e e.below.transfer tsn (skipped_in streams) o turn)
+plain_held e (unworked (i_forward_tsn_chunk tsn streams)) o turn = flushed_at e o (forward_at e e.below.transfer tsn (messages_skipped_in streams) o turn)
+plain_held e (unworked (error_chunk causes)) o turn = same_core e o (error_outcome e e.core causes) turn (error_core e e.core causes)
+plain_held e (unworked chunk) o turn = same_core e o (still e) turn refl
+
+reset_held : (core : Core) (parameters : List ResetParameter) (choices : Choices) → IsHeldIn core → IsHeldIn (re_config_change core parameters choices).core
+reset_held closed parameters choices held = held
+reset_held (cookie_wait my) parameters choices held = held
+reset_held (cookie_echoed my of_peer cookie) parameters choices held = tt
+reset_held (open_in phase my of_peer) parameters choices held = tt
+
+module _ (kinds : Capabilities) where
+  -- What may go under the one capabilities may go under others of the same kinds.
+  same_violation : (own : Capabilities) (chunk : Plain) → SameKinds own kinds → violation_by kinds chunk ≡ None → violation_by own chunk ≡ None
+  same_violation own (unworked (data_chunk chunk)) same may = cc
+  same_violation own (unworked (i_data_chunk chunk)) same may = cc
+  same_violation own (unworked (forward_tsn_chunk tsn streams)) same may = cc
+  same_violation own (unworked (i_forward_tsn_chunk tsn streams)) same may = cc
+  same_violation own chunk same may = refl
+
+  breaks_nothing : (core : Core) (chunk : Plain) → LinkIs kinds (link_in core) → MayGo kinds chunk → violation_at core chunk ≡ None
+  breaks_nothing closed chunk linked may = refl
+  breaks_nothing (cookie_wait my) chunk linked may = refl
+  breaks_nothing (cookie_echoed my held cookie) chunk linked may = same_violation held.capabilities chunk linked may
+  breaks_nothing (open_in phase my held) chunk linked may = same_violation held.capabilities chunk linked may
+
+  module _ (law : ChunksAreControlled) where
+    follows_held : (e : Endpoint) (tag : ℕ) (content : Content) (o : Outcome) → MayFollow content → Allowed kinds content → EndpointIs kinds e → ContentTurn e tag content o → IsHeldIn e.core → IsHeldIn o.after.core
+    follows_held e tag (plain chunk) o may allowed h turn held = plain_held e chunk o (subst (λ (v : Option Violation). PlainTurnBy e chunk v o) (breaks_nothing e.core chunk h.linked allowed) turn) held
+    follows_held e tag (re_config parameters) o may allowed h turn held =
+        let controlled : ControlledChunk e tag (re_config parameters) o = law e tag (re_config parameters) o turn tt in
+        subst IsHeldIn (sym (controlled.2.core ∙ ap (λ c. c.core) controlled.1.2)) (reset_held e.core parameters controlled.1.0 held)
+    follows_held e tag (init introduction) o may allowed h turn held = absurd may
+    follows_held e tag (init_ack introduction cookie) o may allowed h turn held = absurd may
+    follows_held e tag (cookie_echo bytes) o may allowed h turn held = absurd may
+    follows_held e tag cookie_ack o may allowed h turn held = absurd may
+    follows_held e tag (abort reflected causes) o may allowed h turn held = absurd may
+    follows_held e tag (shutdown tsn) o may allowed h turn held = absurd may
+    follows_held e tag shutdown_ack o may allowed h turn held = absurd may
+    follows_held e tag (shutdown_complete reflected) o may allowed h turn held = absurd may
+
+    follows_calm : (content : Content) → MayFollow content → IsOpening (Some content) → ⊥
+    follows_calm (init_ack introduction cookie) may opening = may
+    follows_calm (cookie_echo bytes) may opening = may
+    follows_calm content may opening = opening
+
+    -- what a turn behind the first chunk leaves
+    record Left (e : Endpoint) (t : Turned) : Type 0 where
+      linked : link_in t.outcome.after.core ≡ link_in e.core
+      is : EndpointIs kinds t.outcome.after
+
+    follows_left : (e : Endpoint) (tag : ℕ) (content : Content) (t : Turned) → MayFollow content → Allowed kinds content → EndpointIs kinds e → ResetsNone e t.outcome → IsTurn e (chunk_input tag content) t → Left e t
+    follows_left e tag content t may allowed h numbers turn =
+        let so : TurnIs kinds e (Some content) t.outcome = turn_is kinds e (chunk_input tag content) t.outcome h tt (λ begun opening. absurd (follows_calm content may opening)) numbers turn.comes in
+        record { linked = link_kept (Some content) e t.outcome (follows_calm content may) (follows_held e tag content t.outcome may allowed h turn.comes) so.moves; is = so.after }
+
+    end_left : (e : Endpoint) (t : Turned) → EndpointIs kinds e → ResetsNone e t.outcome → IsTurn e packet_ends t → Left e t
+    end_left e t h numbers turn =
+        let so : TurnIs kinds e None t.outcome = turn_is kinds e packet_ends t.outcome h tt (λ begun opening. absurd opening) numbers turn.comes in
+        record { linked = link_kept None e t.outcome (λ opening. opening) (flushed_at e t.outcome (end_at e e.below.transfer t.outcome turn.comes)) so.moves; is = so.after }
+
+    end_link : (e : Endpoint) (turns : List Turned) → EndpointIs kinds e → AlongTurns KeepsNumbers e turns → Turns e (packet_ends ∷ []) turns → link_in (after_all e turns).core ≡ link_in e.core
+    end_link e [] h numbers taken = absurd taken
+    end_link e (t ∷ []) h numbers taken = (end_left e t h numbers.0 taken.0).linked
+    end_link e (t ∷ u ∷ turns) h numbers taken = absurd taken.1
+
+    pub after_link : (following : Following) (e : Endpoint) (turns : List Turned) (Others : Type 0) → EndpointIs kinds e → AlongTurns KeepsNumbers e turns → (Others → link_in (after_all e turns).core ≡ link_in e.core)
+        → AfterChunk following Others (Turns e (packet_ends ∷ []) turns) (turns ≡ []) → link_in (after_all e turns).core ≡ link_in e.core
+    after_link next_chunk e turns Others h numbers others rest = others rest
+    after_link packet_end e turns Others h numbers others rest = end_link e turns h numbers rest
+    after_link dropped_rest e turns Others h numbers others rest = ap (λ (ts : List Turned). link_in (after_all e ts).core) rest
+
+    -- The chunks behind the first, and the end of the packet.
+    pub rest_link : (e : Endpoint) (tag : ℕ) (contents : List Content) (turns : List Turned) → AllMayFollow contents → AllAllowed kinds contents → EndpointIs kinds e → AlongTurns KeepsNumbers e turns → ChunkTurns e tag contents (packet_ends ∷ []) turns
+        → link_in (after_all e turns).core ≡ link_in e.core
+    rest_link e tag [] turns may allowed h numbers taken = end_link e turns h numbers taken
+    rest_link e tag (content ∷ contents) [] may allowed h numbers taken = absurd taken
+    rest_link e tag (content ∷ contents) (t ∷ turns) may allowed h numbers taken =
+        let left : Left e t = follows_left e tag content t may.0 allowed.0 h numbers.0 taken.0 in
+        after_link t.outcome.following t.outcome.after turns (ChunkTurns t.outcome.after tag contents (packet_ends ∷ []) turns) left.is numbers.1
+        (λ others. rest_link t.outcome.after tag contents turns may.1 allowed.1 left.is numbers.1 others) taken.1 ∙ left.linked

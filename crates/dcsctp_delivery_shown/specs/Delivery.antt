@@ -1,0 +1,26 @@
+-- What a user reads is what its peer's user sent, throughout each run of two sockets, by what the sockets show.
+use Rattle.std.specs.Prelude.{List, [], ◌∷◌}
+use Rattle.dcsctp_machine.specs.declared.options.Options.{Options}
+use Rattle.dcsctp_machine.specs.declared.schedule.Side.{Side}
+use Rattle.dcsctp_machine.specs.Schedule.{AreHonest}
+use Rattle.dcsctp_machine.specs.Sockets.{Worked, Both, of_side, turns_after, SocketRun, acts_of}
+use Rattle.dcsctp_machine_refinement.specs.Agreement.{AreUsable, AreFresh}
+use Rattle.dcsctp_delivery_sockets.specs.Delivery.{AreInMemory, SendsLittle, KeepNumbers, Delivers}
+use Rattle.dcsctp_delivery_shown.specs.Shown.{ShownTagsServeOnce}
+
+-- All that delivery asks of a run, beside what agreement asks: each verification tag serves one association, not too much is sent to it, and
+-- with interleaving no own reset is performed.
+pub record AllowsDelivery (options : Both Options) (run : List Worked) : Type 0 where
+  pub tags : ShownTagsServeOnce options run
+  pub little : (side : Side) → SendsLittle (of_side side options) (of_side side (turns_after run))
+  pub numbers : KeepNumbers options (turns_after run)
+
+-- At the end of each first part of the run that is honest and allows it, with no tag drawn twice, what each user read is what the other sent.
+abbrev pub DeliverThroughout : Both Options → List Worked → Type 0
+DeliverThroughout options [] = Unit {0}
+DeliverThroughout options (worked ∷ earlier) =
+    (AreHonest (acts_of (worked ∷ earlier)) → AreFresh (turns_after (worked ∷ earlier)) → AllowsDelivery options (worked ∷ earlier) → (side : Side) → Delivers options (turns_after (worked ∷ earlier)) side)
+    × DeliverThroughout options earlier
+
+abbrev pub UsersReadWhatWasSent : Type 0
+UsersReadWhatWasSent = (options : Both Options) (run : List Worked) → AreUsable options → AreInMemory (acts_of run) → SocketRun options run → DeliverThroughout options run

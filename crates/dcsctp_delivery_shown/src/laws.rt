@@ -1,0 +1,41 @@
+//! The laws of this crate.
+
+ghost use Rattle.dcsctp_delivery_shown.specs.Delivery.{UsersReadWhatWasSent};
+ghost use Rattle.dcsctp_delivery_shown.specs.Shown.{ShownTagsSuffice};
+
+use dcsctp_delivery_sockets::sockets_deliver;
+use dcsctp_machine::{
+    acts_are_controlled, admitted_packets_may_be_worked, answer_keeps_agreement,
+    chunks_are_controlled, offer_reads_back, packets_are_controlled,
+};
+use dcsctp_machine_agreement::effects_mean;
+use dcsctp_wire_laws::built_packet_reads_as_itself;
+
+/// If each verification tag serves one association among those that two sockets show after each act, it serves one
+/// association among all that they ever have. So it is over every schedule that loses, repeats, delays and reorders
+/// packets, as long as no act comes from outside, no tag is drawn twice, and no reset of streams is performed in an
+/// association with interleaving: no association begins and ends in one act.
+pub fn shown_tags_suffice()
+    ensures { ShownTagsSuffice }
+{
+    effects_mean();
+    acts_are_controlled();
+    chunks_are_controlled();
+    packets_are_controlled();
+    admitted_packets_may_be_worked();
+    offer_reads_back();
+    built_packet_reads_as_itself();
+    answer_keeps_agreement();
+}
+
+/// What a user reads is what its peer's user sent, and no message is read twice, in any association. So it is at the
+/// end of each first part of a run that loses, repeats, delays and reorders packets, as long as no act comes from
+/// outside and no tag is drawn twice; if each verification tag serves one association, as far as the sockets show; if
+/// fewer than 2^30 chunks of data go to each; and if no reset of streams is performed in an association with
+/// interleaving (RFC 8260).
+pub fn users_read_what_was_sent()
+    ensures { UsersReadWhatWasSent }
+{
+    sockets_deliver();
+    shown_tags_suffice();
+}

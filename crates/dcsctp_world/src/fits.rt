@@ -1,0 +1,64 @@
+//! The messages that an act hands over fit the fields of a chunk, by their types.
+
+ghost use Rattle.std.specs.Prelude.{◌<◌, ◌^◌, map};
+ghost use Rattle.std.specs.List.{AllByRecursion};
+ghost use Rattle.dcsctp_machine.specs.Schedule.{act_content, call_content};
+ghost use Rattle.dcsctp_machine.specs.transfer.Messages.{message_content};
+ghost use Rattle.dcsctp_delivery_sockets.specs.Delivery.{FitsMessage, FitsCall, FitsAct};
+
+use dcsctp_machine::{Act, Call, Step};
+use dcsctp_socket::Message;
+
+// Each of these bytes is one: what is read has its type.
+fn bytes_fit(bytes: &[u8])
+    ensures { AllByRecursion (λ byte. byte < 2 ^ 8) bytes.now }
+{
+    for byte in bytes {
+        let _byte = *byte;
+    }
+}
+
+// A number of two bytes is one.
+fn stream_fits(stream_id: u16)
+    ensures { stream_id < 2 ^ 16 }
+{}
+
+// A number of four bytes is one.
+fn protocol_fits(ppid: u32)
+    ensures { ppid < 2 ^ 32 }
+{}
+
+fn message_fits(message: &Message)
+    ensures { FitsMessage (message_content message.now) }
+{
+    stream_fits(message.stream_id.0);
+    protocol_fits(message.ppid.0);
+    bytes_fit(&message.payload);
+}
+
+fn messages_fit(messages: &[Message])
+    ensures { AllByRecursion FitsMessage (map message_content messages.now) }
+{
+    for message in messages {
+        message_fits(message);
+    }
+}
+
+fn call_fits(call: &Call)
+    ensures { FitsCall (call_content call.now) }
+{
+    match call {
+        Call::Send(message, _) => message_fits(message),
+        Call::SendMany(messages, _) => messages_fit(messages),
+        _ => {}
+    }
+}
+
+/// Does nothing: whatever an act hands over fits.
+pub(crate) fn act_fits(act: &Act)
+    ensures { FitsAct (act_content act.now) }
+{
+    if let Act::Step(Step::Call(_, call)) = act {
+        call_fits(call);
+    }
+}
