@@ -1,10 +1,15 @@
 #!/usr/bin/env bash
 # Tries the attacks of the crates that are named: edits that the prover has to refuse, too many for each run of
-# `rt ci`. They stand in attacks/CRATE, and those on the definitions that agreement rests on in
-# attacks/definitions, and those that delivery rests on in attacks/delivery. With no name: those of each crate that
-# has changed since the commit in attacks/passed.
-# Works on a copy of HEAD, prints each attack that isn't refused, and fails where there is one.
+# `rt ci`. They stand in attacks/CRATE; those on the definitions that agreement rests on in attacks/definitions, and
+# those that delivery rests on in attacks/delivery. With no name: those of each crate that has changed since the commit
+# in attacks/passed.
+# Works on a copy of HEAD, prints each attack that isn't refused, and fails where there is one. attacks/tried keeps, for
+# each that is refused, the sum of the sources that it was tried over: of its crate and of all below.
+#
+#     attack.sh [NAME..]     tries them
+#     attack.sh --stale      tries none, and says how many were never tried over the sources of HEAD
 set -eu
+export LC_ALL=C.UTF-8
 cd "$(dirname "$0")/.."
 top=$PWD
 machine=dcsctp_machine
@@ -12,6 +17,73 @@ agreement=dcsctp_machine_agreement
 # the laws on delivery, lowest first
 delivery=()
 for name in sending receiving directions turns associations sockets shown; do delivery+=("dcsctp_delivery_$name"); done
+
+# ---- what each attack was tried over
+
+# The crates of this folder of attacks, the highest ones.
+crates_of() {
+    case $1 in
+        definitions) echo $agreement ;;
+        delivery) echo "${delivery[-1]}" ;;
+        *) echo "$1" ;;
+    esac
+}
+
+# These crates and all below them, sorted.
+below() {
+    local todo="$*" seen='' name
+    while [ -n "$todo" ]; do
+        read -r name todo <<< "$todo"
+        case " $seen " in *" $name "*) continue ;; esac
+        seen="$seen $name"
+        todo="$todo $(sed -n "s/^$name: *//p" crates.txt)"
+        todo=${todo# }
+    done
+    for name in $seen; do [ ! -d "crates/$name" ] || echo "$name"; done | sort
+}
+
+# The sources of a folder's crates at HEAD, by git's sums.
+sources_of() {
+    local name
+    for name in $(below "$(crates_of "$1")"); do
+        git ls-tree HEAD "crates/$name/src" "crates/$name/specs" "crates/$name/proofs"
+    done
+}
+
+# The sum of an attack's text and of these sources.
+sum_of() {
+    { git rev-parse "HEAD:attacks/$1/$2.edit"; printf '%s\n' "$3"; } | sha256sum | cut -c1-16
+}
+
+# Notes that this attack was refused over the sources of HEAD.
+remember() {
+    local line
+    line="$1/$2 $(sum_of "$1" "$2" "$3")"
+    { grep -v "^$1/$2 " attacks/tried 2>/dev/null || true; echo "$line"; } | sort > "$room/tried"
+    cp "$room/tried" attacks/tried
+}
+
+# Counts those of each folder that were never tried over the sources of HEAD.
+count_stale() {
+    local folder name edit sources stale all=0
+    for folder in attacks/*/; do
+        folder=$(basename "$folder")
+        sources=$(sources_of "$folder")
+        stale=0
+        for edit in "attacks/$folder/"*.edit; do
+            name=$(basename "$edit" .edit)
+            grep -qx "$folder/$name $(sum_of "$folder" "$name" "$sources")" attacks/tried 2>/dev/null || stale=$((stale + 1))
+        done
+        [ $stale -eq 0 ] || echo "attack: $folder: $stale were never tried over these sources"
+        all=$((all + stale))
+    done
+    echo "attack: $all were never tried over the sources of HEAD"
+}
+
+if [ "${1:-}" = --stale ]; then
+    count_stale
+    exit 0
+fi
 
 # ---- which
 
@@ -59,7 +131,7 @@ done
 
 failed=0
 of_crate() {
-    local name=$1 log="$room/log" edits="$room/copy/crates/$1/must-fail" all refused
+    local name=$1 log="$room/log" edits="$room/copy/crates/$1/must-fail" all refused edit sources
     rm -rf "$edits"
     mkdir "$edits"
     cp "attacks/$name/"*.edit "$edits/"
@@ -68,6 +140,11 @@ of_crate() {
     refused=$(grep -c '^rt: must-fail .*: refused, as it must be' "$log" || true)
     grep '^rt: must-fail' "$log" | grep -v ': refused, as it must be' || true
     grep -q '^rt: must-fail' "$log" || tail -20 "$log"
+    sources=$(sources_of "$name")
+    for edit in "attacks/$name/"*.edit; do
+        edit=$(basename "$edit" .edit)
+        ! grep -q "^rt: must-fail $name/$edit\.edit: refused, as it must be" "$log" || remember "$name" "$edit" "$sources"
+    done
     [ "$refused" = "$all" ] || failed=1
     echo "attack: $name: $refused of $all refused"
 }
@@ -116,7 +193,8 @@ judge() {
 
 # Tries the edits of a folder of attacks: the first of these crates that isn't proved refuses it.
 of_definitions() {
-    local folder=$1 edit name crate said
+    local folder=$1 edit name crate said sources
+    sources=$(sources_of "$folder")
     shift
     for edit in "attacks/$folder/"*.edit; do
         name=$(basename "$edit" .edit)
@@ -129,7 +207,10 @@ of_definitions() {
             said="BAD EDIT: $said"
         fi
         case $said in
-            refused:*) echo "attack: $folder/$name: refused in $crate: ${said#refused: }" ;;
+            refused:*)
+                echo "attack: $folder/$name: refused in $crate: ${said#refused: }"
+                remember "$folder" "$name" "$sources"
+                ;;
             proved) echo "attack: $folder/$name: NOT REFUSED"; failed=1 ;;
             *) echo "attack: $folder/$name: $said"; failed=1 ;;
         esac
