@@ -14,7 +14,7 @@ use Rattle.dcsctp_delivery_sending.specs.ChunkCounts.{chunks_to}
 use Rattle.dcsctp_delivery_sending.specs.Marking.{IsMarked}
 use Rattle.dcsctp_delivery_sending.proofs.Places.{decide, set_same, at_below}
 use Rattle.dcsctp_delivery_receiving.specs.Ready.{AreDistinct, WasQueued, WereQueued}
-use Rattle.dcsctp_delivery_directions.specs.Directions.{Delivered}
+use Rattle.dcsctp_delivery_directions.specs.Directions.{nothing_asked, Delivered}
 use Rattle.dcsctp_delivery_directions.specs.Marking.{IsFresh, DeliveredForGood}
 use Rattle.dcsctp_delivery_directions.proofs.ChunkCounts.{few_for_chunks}
 use Rattle.dcsctp_delivery_directions.proofs.Marking.{directions_deliver_for_good}
@@ -153,12 +153,13 @@ ends_begin mine options =
           last = λ tag ne place below gone. absurd (omega arith);
           pairs = λ one other ne. inl (λ place below gone. absurd (omega arith));
           current = λ some. absurd (some refl);
-          begun = λ tag some. inl (record { queued = refl; sent = refl; acknowledged = refl; transfer = refl });
+          begun = λ tag some. inl (record { queued = refl; sent = refl; acknowledged = refl; transfer = refl; asking = refl });
           all_sent = tt;
         };
-        receiver = record { current = λ transfer there. absurd (cc); were_read = λ tag. refl; begun = λ tag. inl refl };
+        asks = tt;
+        receiver = record { fits = record { first = 0; asking = nothing_asked; fits = tt }; current = λ transfer there. absurd (cc); were_read = λ tag. refl; begun = λ tag. inl refl };
       };
     }
   where
     nothing : SendingEnd
-    nothing = record { queued = []; below = record { queue = empty_queue mine; transfer = None }; acknowledged = 0; sent = [] }
+    nothing = record { queued = []; below = record { queue = empty_queue mine; transfer = None }; acknowledged = 0; sent = []; asking = nothing_asked }

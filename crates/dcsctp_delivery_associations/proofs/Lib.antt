@@ -1,5 +1,6 @@
 pub mod Counting
 pub mod Growing
+pub mod Own
 pub mod Senders
 pub mod SenderStays
 pub mod SenderBegins

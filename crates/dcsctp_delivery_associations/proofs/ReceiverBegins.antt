@@ -19,9 +19,10 @@ use Rattle.dcsctp_delivery_sending.specs.Places.{set_at}
 use Rattle.dcsctp_delivery_sending.specs.Log.{Message}
 use Rattle.dcsctp_delivery_sending.proofs.Places.{decide, set_same, set_other}
 use Rattle.dcsctp_delivery_directions.specs.Directions as steps
-use Rattle.dcsctp_delivery_directions.specs.Directions.{Direction, Run}
+use Rattle.dcsctp_delivery_directions.specs.Directions.{Run}
 use Rattle.dcsctp_delivery_directions.proofs.Directions.{direction_queues}
 use Rattle.dcsctp_delivery_turns.specs.Actions.{peer_tag}
+use Rattle.dcsctp_delivery_turns.specs.Asking.{own_of, AsksFit}
 use Rattle.dcsctp_delivery_turns.specs.Runs.{Opens}
 use Rattle.dcsctp_delivery_associations.specs.Ends.{ReceivingEnd, joined, new_end, Ends, HadPeer, Awaits, Sender, NewTag, HadTag, Receiver, Between}
 use Rattle.dcsctp_delivery_associations.specs.Reads.{Read, with_tag}
@@ -87,6 +88,7 @@ module _ (options : Options) (ends : Ends) (e : Endpoint) (queued : List Message
         → Receiver options (record { sends = ends.sends; gets = set_at tag got ends.gets; firsts = firsts }) o.after (after_effects o.effects their_past) reads
     later_receiver firsts here others fresh =
         record {
+          fits = opens.fits;
           current = λ transfer there. (
               let one : opens.left ≡ transfer = same_transfer o.after.below.transfer opens.left transfer opens.is there in
               record {
@@ -125,6 +127,7 @@ module _ (options : Options) (ends : Ends) (e : Endpoint) (queued : List Message
                 (subst (λ (n : ℕ). Run options n options.max_receiver_window_buffer_size (joined (ends.sends tag) got)) (sym here) (opened start)) (λ t ne. h.runs t);
             small = h.small;
             sender = sender_same ends (set_at tag got ends.gets) (peer_tag e.core) e.below queued past packets h.sender;
+            asks = h.asks;
             receiver = later_receiver ends.firsts here (λ t ne. refl) fresh;
           };
         }
@@ -144,6 +147,7 @@ module _ (options : Options) (ends : Ends) (e : Endpoint) (queued : List Message
           tracker = refl;
           reassembly = refl;
           read = refl;
+          asking = waits.asking;
         }) in
         record {
           ends = record { sends = ends.sends; gets = set_at tag got ends.gets; firsts = set_at tag first ends.firsts };
@@ -151,6 +155,7 @@ module _ (options : Options) (ends : Ends) (e : Endpoint) (queued : List Message
             runs = set_three (λ t f s g. Run options f options.max_receiver_window_buffer_size (joined (ends.sends t) g)) tag first (ends.sends tag) got ends.firsts ends.sends ends.gets (opened start) (λ t ne. h.runs t);
             small = set_all (λ t f. f < 2 ^ 32) tag first ends.firsts is.small (λ t ne. h.small t);
             sender = sender_first ends (set_at tag got ends.gets) tag first (peer_tag e.core) e.below queued past packets h.sender apart waits;
+            asks = subst (λ (n : ℕ). AsksFit n (own_of e) (ends.sends (peer_tag e.core)).asking) (sym (set_other tag (peer_tag e.core) first ends.firsts (λ is'. apart (sym is')))) h.asks;
             receiver = later_receiver (set_at tag first ends.firsts) (set_same tag first ends.firsts) (λ t ne. set_other tag t first ends.firsts ne) fresh;
           };
         }

@@ -1,5 +1,5 @@
 -- Each turn of the receiver.
-use Rattle.std.proofs.Common.{◌≡◌, ◌≢◌, ℕ, ◌<◌, ◌^◌, Option, None, Some, List, length, refl, sym, ◌∙◌, ap, subst, inl, inr}
+use Rattle.std.proofs.Common.{◌≡◌, ◌≢◌, ℕ, true, false, ◌<◌, ◌^◌, Option, None, Some, List, length, refl, sym, ◌∙◌, ap, subst, inl, inr}
 use Rattle.std.specs.Prelude.{◌⊎◌}
 use Rattle.dcsctp_machine.specs.declared.options.Options.{Options}
 use Rattle.dcsctp_machine.specs.Settings.{SameOptions}
@@ -16,8 +16,9 @@ use Rattle.dcsctp_machine.specs.transfer.Transfer.{Transfer}
 use Rattle.dcsctp_delivery_sending.specs.Places.{set_at}
 use Rattle.dcsctp_delivery_sending.specs.Log.{Message}
 use Rattle.dcsctp_delivery_sending.proofs.Places.{decide, set_same, set_other}
-use Rattle.dcsctp_delivery_directions.specs.Directions.{Run}
-use Rattle.dcsctp_delivery_turns.specs.Actions.{IsOpening, came_by, peer_tag, read_after, Begun, IsCall, ResetsNone}
+use Rattle.dcsctp_delivery_directions.specs.Directions.{Asking, Run}
+use Rattle.dcsctp_delivery_turns.specs.Actions.{IsOpening, came_by, peer_tag, read_after, Begun, IsCall}
+use Rattle.dcsctp_delivery_turns.specs.Asking.{own_of, SomeFit}
 use Rattle.dcsctp_delivery_turns.specs.Sides.{WasSent, receiving}
 use Rattle.dcsctp_delivery_turns.specs.Runs.{ReceiverTurns, receiver_goes_on, receiver_ends, receiver_begins, IdleTurns, idle_stays, idle_begins}
 use Rattle.dcsctp_delivery_turns.proofs.Runs.{receivers_go_on, receivers_begin}
@@ -25,6 +26,7 @@ use Rattle.dcsctp_delivery_associations.specs.Ends.{ReceivingEnd, joined, new_en
 use Rattle.dcsctp_delivery_associations.specs.Reads.{Read, reads_after, with_tag}
 use Rattle.dcsctp_delivery_associations.proofs.WhatIsRead.{tag_of, reads_still, own_read, other_read}
 use Rattle.dcsctp_delivery_associations.proofs.Growing.{set_all}
+use Rattle.dcsctp_delivery_associations.proofs.Own.{unlinked_some}
 use Rattle.dcsctp_delivery_associations.specs.Laws.{AreEnds}
 use Rattle.dcsctp_delivery_associations.proofs.ReceiverStays.{tag_later, begun_later, sender_same}
 use Rattle.dcsctp_delivery_associations.proofs.ReceiverBegins.{opens_goes}
@@ -39,15 +41,17 @@ module _ (options : Options) (ends : Ends) (e : Endpoint) (queued : List Message
   unread_goes unread goes = subst (λ (l : List Read). AreEnds options e queued past packets o.after (after_effects o.effects their_past) l) (sym (reads_still d input reads unread)) goes
 
   -- there is none after the turn
-  rests : o.after.below.transfer ≡ None → AreEnds options e queued past packets o.after (after_effects o.effects their_past) reads
-  rests none =
+  rests : o.after.below.transfer ≡ None → SomeFit (own_of o.after) → AreEnds options e queued past packets o.after (after_effects o.effects their_past) reads
+  rests none fits =
       record {
         ends = ends;
         between = record {
           runs = h.runs;
           small = h.small;
           sender = h.sender;
+          asks = h.asks;
           receiver = record {
+            fits = fits;
             current = λ transfer there. (let clash : ◌≡◌ {A = Option Transfer} None (Some transfer) = sym none ∙ there in absurd (cc));
             were_read = h.receiver.were_read;
             begun = λ tag. begun_later options ends o.effects their_past tag (h.receiver.begun tag);
@@ -58,11 +62,11 @@ module _ (options : Options) (ends : Ends) (e : Endpoint) (queued : List Message
   -- ---- an association goes on
 
   module _ (transfer : Transfer) (there : d.below.transfer ≡ Some transfer) (c : IsCurrent ends d their_past transfer) where
-    receives : link_in o.after.core ≡ link_in d.core → (left : Transfer) → o.after.below.transfer ≡ Some left
+    receives : link_in o.after.core ≡ link_in d.core → (left : Transfer) → o.after.below.transfer ≡ Some left → SomeFit (own_of o.after)
         → Run options (ends.firsts c.link.my.tag) options.max_receiver_window_buffer_size
         (receiving (joined (ends.sends c.link.my.tag) (ends.gets c.link.my.tag)) left (read_after d input (ends.gets c.link.my.tag).read))
         → Turned
-    receives linked left is run =
+    receives linked left is fits run =
         let tag : ℕ = c.link.my.tag in
         let got : ReceivingEnd = record { tracker = left.tracker; reassembly = left.reassembly; read = read_after d input (ends.gets tag).read } in
         let own : own_tag d.core ≡ tag = tag_of d.core c.link c.linked in
@@ -72,7 +76,9 @@ module _ (options : Options) (ends : Ends) (e : Endpoint) (queued : List Message
             runs = set_all (λ t g. Run options (ends.firsts t) options.max_receiver_window_buffer_size (joined (ends.sends t) g)) tag got ends.gets run (λ t ne. h.runs t);
             small = h.small;
             sender = sender_same ends (set_at tag got ends.gets) (peer_tag e.core) e.below queued past packets h.sender;
+            asks = h.asks;
             receiver = record {
+              fits = fits;
               current = λ other there'. (
                   let one : left ≡ other = same_transfer o.after.below.transfer left other is there' in
                   record {
@@ -109,27 +115,34 @@ module _ (options : Options) (ends : Ends) (e : Endpoint) (queued : List Message
         (h.runs c.link.my.tag))
 
     by_turn : ((begun : Begun d o) → IsOpening (came_by input) → link_in o.after.core ≡ Some (link_of begun.my begun.held) → NewTag their_past past (link_of begun.my begun.held))
-        → ReceiverTurns options (ends.firsts c.link.my.tag) options.max_receiver_window_buffer_size (joined (ends.sends c.link.my.tag) (ends.gets c.link.my.tag)) transfer d input o → Turned
-    by_turn new (receiver_goes_on linked left is run) = receives linked left is run
-    by_turn new (receiver_ends none gone unread) = unread_goes unread (rests gone)
+        → ReceiverTurns false options (ends.firsts c.link.my.tag) options.max_receiver_window_buffer_size (joined (ends.sends c.link.my.tag) (ends.gets c.link.my.tag)) transfer d input o → Turned
+    by_turn new (receiver_goes_on linked left is fits asking by run) =
+        receives linked left is fits
+        (subst
+        (λ (a : Asking).
+        Run options (ends.firsts c.link.my.tag) options.max_receiver_window_buffer_size
+        (record (receiving (joined (ends.sends c.link.my.tag) (ends.gets c.link.my.tag)) left (read_after d input (ends.gets c.link.my.tag).read)) { asking = a }))
+        by.2 run)
+    by_turn new (receiver_ends none gone unread) = unread_goes unread (rests gone (unlinked_some o.after none))
     by_turn new (receiver_begins opens) = unread_goes opens.unread (opens_goes options ends e queued past packets d their_past reads h few same input o opens (new opens.begun opens.opening opens.linked))
 
-    turn_goes : ((begun : Begun d o) → IsOpening (came_by input) → link_in o.after.core ≡ Some (link_of begun.my begun.held) → NewTag their_past past (link_of begun.my begun.held)) → WasSent (ends.sends c.link.my.tag).sent (came_by input) → IsCall input → ResetsNone d o → Turn d input o → Turned
-    turn_goes new sent may none turn =
+    turn_goes : ((begun : Begun d o) → IsOpening (came_by input) → link_in o.after.core ≡ Some (link_of begun.my begun.held) → NewTag their_past past (link_of begun.my begun.held)) → WasSent (ends.sends c.link.my.tag).sent (came_by input) → IsCall input → Turn d input o → Turned
+    turn_goes new sent may turn =
         by_turn new
-        (receivers_go_on options (ends.firsts c.link.my.tag) options.max_receiver_window_buffer_size (joined (ends.sends c.link.my.tag) (ends.gets c.link.my.tag)) transfer d input o now there sent may none turn)
+        (receivers_go_on false options (ends.firsts c.link.my.tag) options.max_receiver_window_buffer_size (joined (ends.sends c.link.my.tag) (ends.gets c.link.my.tag)) transfer d input o now there sent (λ known. (let clash : false ≡ true = known in absurd (cc))) h.receiver.fits
+        (λ begun opening linked. (new begun opening linked).own_small) may turn)
 
   idle_goes : ((begun : Begun d o) → IsOpening (came_by input) → link_in o.after.core ≡ Some (link_of begun.my begun.held) → NewTag their_past past (link_of begun.my begun.held)) → IdleTurns d input o → Turned
-  idle_goes new (idle_stays none unread) = unread_goes unread (rests none)
+  idle_goes new (idle_stays none fits unread) = unread_goes unread (rests none fits)
   idle_goes new (idle_begins opens) = unread_goes opens.unread (opens_goes options ends e queued past packets d their_past reads h few same input o opens (new opens.begun opens.opening opens.linked))
 
   -- What is handled in an association was sent in it.
   abbrev pub Sent : Type 0
   Sent = (transfer : Transfer) (link : Link) → d.below.transfer ≡ Some transfer → link_in d.core ≡ Some link → WasSent (ends.sends link.my.tag).sent (came_by input)
 
-  by_transfer : ((begun : Begun d o) → IsOpening (came_by input) → link_in o.after.core ≡ Some (link_of begun.my begun.held) → NewTag their_past past (link_of begun.my begun.held)) → Sent → IsCall input → ResetsNone d o → Turn d input o → (found : Option Transfer) → d.below.transfer ≡ found → Turned
-  by_transfer new sent may none turn None nowhere = idle_goes new (receivers_begin d input o nowhere may none turn)
-  by_transfer new sent may none turn (Some transfer) there = (let c = h.receiver.current transfer there in turn_goes transfer there c new (sent transfer c.link there c.linked) may none turn)
+  by_transfer : ((begun : Begun d o) → IsOpening (came_by input) → link_in o.after.core ≡ Some (link_of begun.my begun.held) → NewTag their_past past (link_of begun.my begun.held)) → Sent → IsCall input → Turn d input o → (found : Option Transfer) → d.below.transfer ≡ found → Turned
+  by_transfer new sent may turn None nowhere = idle_goes new (receivers_begin d input o nowhere h.receiver.fits (λ begun opening linked. (new begun opening linked).own_small) may turn)
+  by_transfer new sent may turn (Some transfer) there = (let c = h.receiver.current transfer there in turn_goes transfer there c new (sent transfer c.link there c.linked) may turn)
 
-  pub receiver_turns : ((begun : Begun d o) → IsOpening (came_by input) → link_in o.after.core ≡ Some (link_of begun.my begun.held) → NewTag their_past past (link_of begun.my begun.held)) → Sent → IsCall input → ResetsNone d o → Turn d input o → Turned
-  receiver_turns new sent may none turn = by_transfer new sent may none turn d.below.transfer refl
+  pub receiver_turns : ((begun : Begun d o) → IsOpening (came_by input) → link_in o.after.core ≡ Some (link_of begun.my begun.held) → NewTag their_past past (link_of begun.my begun.held)) → Sent → IsCall input → Turn d input o → Turned
+  receiver_turns new sent may turn = by_transfer new sent may turn d.below.transfer refl

@@ -17,12 +17,13 @@ use Rattle.dcsctp_machine.specs.transfer.Transfer.{Transfer, Below}
 use Rattle.dcsctp_machine_agreement.proofs.Growth.{after_within}
 use Rattle.dcsctp_delivery_sending.specs.Places.{set_at}
 use Rattle.dcsctp_delivery_sending.specs.Log.{Message, Fits}
-use Rattle.dcsctp_delivery_sending.specs.Queueing.{QueueHolds}
+use Rattle.dcsctp_delivery_sending.specs.Queueing.{QueueWaits}
 use Rattle.dcsctp_delivery_sending.specs.Marking.{all_marked}
 use Rattle.dcsctp_delivery_sending.proofs.Places.{decide, set_same, set_other}
 use Rattle.dcsctp_delivery_sending.proofs.MarkingAll.{all_marked_keep, all_marked_fit}
-use Rattle.dcsctp_delivery_directions.specs.Directions.{Direction, Run, IsAwaited}
+use Rattle.dcsctp_delivery_directions.specs.Directions.{Direction, Asking, Run, IsAwaited}
 use Rattle.dcsctp_delivery_turns.specs.Actions.{peer_tag, Begun}
+use Rattle.dcsctp_delivery_turns.specs.Asking.{own_of, AsksFit}
 use Rattle.dcsctp_delivery_turns.specs.Addressed.{AreAddressed}
 use Rattle.dcsctp_delivery_turns.specs.Runs.{sender_at, new_direction}
 use Rattle.dcsctp_delivery_turns.proofs.Runs.{senders_begin}
@@ -69,6 +70,7 @@ receiver_renewed : (options : Options) (ends : Ends) (sends : ℕ → SendingEnd
     → Receiver options (record { sends = sends; gets = set_at tag (new_end options first) ends.gets; firsts = set_at tag first ends.firsts }) d past reads
 receiver_renewed options ends sends d past reads tag first r fresh apart =
     record {
+      fits = r.fits;
       current = λ transfer there. still transfer there (r.current transfer there);
       were_read = set_all (λ t g. with_tag t reads ≡ g.read) tag (new_end options first) ends.gets (r.were_read tag ∙ ap (λ (g : ReceivingEnd). g.read) fresh) (λ t ne. r.were_read t);
       begun = λ t. elim (decide t tag) [
@@ -105,8 +107,9 @@ module _ (options : Options) (ends : Ends) (e : Endpoint) (queued : List Message
   marks = all_marked (length (ends.sends (peer_tag e.core)).queued) (ends.sends (peer_tag e.core)).below.queue.streams (ends.sends (peer_tag e.core)).queued
 
   abbrev pub Later : Type 0
-  Later = (other : Options) (room : ℕ) (awaiting : Direction) (queued : List Message) → QueueHolds queued [] e.below.queue → AllByRecursion Fits queued → Run other begun.my.first_tsn room awaiting → IsAwaited awaiting
-      → (acknowledged : ℕ) × Run other begun.my.first_tsn room (sender_at awaiting queued o.after.below acknowledged (packets_in o.events))
+  Later = (other : Options) (room : ℕ) (awaiting : Direction) (queued : List Message) → QueueWaits queued e.below.queue → AllByRecursion Fits queued → Run other begun.my.first_tsn room awaiting → IsAwaited awaiting
+      → (acknowledged : ℕ) × (asking : Asking) × AsksFit begun.my.first_tsn (own_of o.after) asking
+      × Run other begun.my.first_tsn room (sender_at awaiting queued o.after.below acknowledged (packets_in o.events) asking)
 
   had_new : HadPeer (after_effects o.effects past) begun.held.peer.tag begun.my.first_tsn
   had_new =
@@ -123,7 +126,7 @@ module _ (options : Options) (ends : Ends) (e : Endpoint) (queued : List Message
       subst (λ (k : ℕ). Sender later k o.after.below queued (after_effects o.effects past) (packets ++ packets_in o.events)) (sym (link_tag o.after.core new linked)) sender
 
   crossed_begins : NewPeer past their_past new → Awaits (ends.sends begun.held.peer.tag) → link_in o.after.core ≡ Some new → AreAddressed begun.held.peer.tag (packets_in o.events)
-      → QueueHolds marks [] e.below.queue → AllByRecursion Fits marks → Later → ends.firsts begun.held.peer.tag ≡ begun.my.first_tsn
+      → QueueWaits marks e.below.queue → AllByRecursion Fits marks → Later → ends.firsts begun.held.peer.tag ≡ begun.my.first_tsn
       → AreEnds options o.after queued (after_effects o.effects past) (packets ++ packets_in o.events) d their_past reads
   crossed_begins is waits linked addressed shown fit later same =
       let to : ℕ = begun.held.peer.tag in
@@ -131,24 +134,27 @@ module _ (options : Options) (ends : Ends) (e : Endpoint) (queued : List Message
       let start : Run options begun.my.first_tsn options.max_receiver_window_buffer_size (joined (ends.sends to) (ends.gets to)) =
       subst (λ (n : ℕ). Run options n options.max_receiver_window_buffer_size (joined (ends.sends to) (ends.gets to))) same (h.runs to) in
       let run = later options options.max_receiver_window_buffer_size (joined (ends.sends to) (ends.gets to)) marks shown fit start
-      (record { queued = waits.queued; sent = waits.sent; acknowledged = waits.acknowledged; transfer = waits.transfer }) in
-      let end : SendingEnd = renewed_end ends (peer_tag e.core) e.below queued past packets h.sender o.effects to o.after.below run.0 ps ends.gets ends.firsts in
-      let ends' : Ends = renewed_ends ends (peer_tag e.core) e.below queued past packets h.sender o.effects to o.after.below run.0 ps ends.gets ends.firsts in
+      (record { queued = waits.queued; sent = waits.sent; acknowledged = waits.acknowledged; transfer = waits.transfer; asking = waits.asking }) in
+      let end : SendingEnd = renewed_end ends (peer_tag e.core) e.below queued past packets h.sender o.effects to o.after.below run.0 ps run.1 ends.gets ends.firsts in
+      let ends' : Ends = renewed_ends ends (peer_tag e.core) e.below queued past packets h.sender o.effects to o.after.below run.0 ps run.1 ends.gets ends.firsts in
       record {
         ends = ends';
         between = record {
           runs = set_all (λ tag s. Run options (ends.firsts tag) options.max_receiver_window_buffer_size (joined s (ends.gets tag))) to end ends.sends
-              (subst (λ (n : ℕ). Run options n options.max_receiver_window_buffer_size (joined end (ends.gets to))) (sym same) run.1) (λ tag ne. h.runs tag);
+              (subst (λ (n : ℕ). Run options n options.max_receiver_window_buffer_size (joined end (ends.gets to))) (sym same) run.3) (λ tag ne. h.runs tag);
           small = h.small;
           sender = sender_of ends' linked
-              (renewed ends (peer_tag e.core) e.below queued past packets h.sender o.effects to o.after.below run.0 ps ends.gets ends.firsts (inr waits)
+              (renewed ends (peer_tag e.core) e.below queued past packets h.sender o.effects to o.after.below run.0 ps run.1 ends.gets ends.firsts (inr waits)
               (λ some. subst (λ (n : ℕ). HadPeer (after_effects o.effects past) to n) (sym same) had_new) (λ tag ne. refl) addressed);
+          asks = subst (λ (k : ℕ). AsksFit (ends.firsts k) (own_of o.after) (set_at to end ends.sends k).asking) (sym (link_tag o.after.core new linked))
+              (subst (λ (s : SendingEnd). AsksFit (ends.firsts to) (own_of o.after) s.asking) (sym (set_same to end ends.sends))
+              (subst (λ (n : ℕ). AsksFit n (own_of o.after) run.1) (sym same) run.2));
           receiver = receiver_same options ends ends'.sends d their_past reads h.receiver;
         };
       }
 
   fresh_begins : NewPeer past their_past new → Awaits (ends.sends begun.held.peer.tag) → link_in o.after.core ≡ Some new → AreAddressed begun.held.peer.tag (packets_in o.events)
-      → QueueHolds marks [] e.below.queue → AllByRecursion Fits marks → Later → ends.gets begun.held.peer.tag ≡ new_end options (ends.firsts begun.held.peer.tag)
+      → QueueWaits marks e.below.queue → AllByRecursion Fits marks → Later → ends.gets begun.held.peer.tag ≡ new_end options (ends.firsts begun.held.peer.tag)
       → ((transfer : Transfer) (link : Link) → d.below.transfer ≡ Some transfer → link_in d.core ≡ Some link → link.my.tag ≢ begun.held.peer.tag)
       → AreEnds options o.after queued (after_effects o.effects past) (packets ++ packets_in o.events) d their_past reads
   fresh_begins is waits linked addressed shown fit later fresh apart =
@@ -159,23 +165,26 @@ module _ (options : Options) (ends : Ends) (e : Endpoint) (queued : List Message
       let firsts : ℕ → ℕ = set_at to first ends.firsts in
       let run = later options options.max_receiver_window_buffer_size
       (new_direction options first options.max_receiver_window_buffer_size [] (record { queue = empty_queue options; transfer = None }) 0 []) marks shown fit (senders_begin options options first options.max_receiver_window_buffer_size)
-      (record { queued = refl; sent = refl; acknowledged = refl; transfer = refl }) in
-      let end : SendingEnd = renewed_end ends (peer_tag e.core) e.below queued past packets h.sender o.effects to o.after.below run.0 ps gets firsts in
-      let ends' : Ends = renewed_ends ends (peer_tag e.core) e.below queued past packets h.sender o.effects to o.after.below run.0 ps gets firsts in
+      (record { queued = refl; sent = refl; acknowledged = refl; transfer = refl; asking = refl }) in
+      let end : SendingEnd = renewed_end ends (peer_tag e.core) e.below queued past packets h.sender o.effects to o.after.below run.0 ps run.1 gets firsts in
+      let ends' : Ends = renewed_ends ends (peer_tag e.core) e.below queued past packets h.sender o.effects to o.after.below run.0 ps run.1 gets firsts in
       record {
         ends = ends';
         between = record {
-          runs = set_three (λ tag f s g. Run options f options.max_receiver_window_buffer_size (joined s g)) to first end (new_end options first) ends.firsts ends.sends ends.gets run.1 (λ tag ne. h.runs tag);
+          runs = set_three (λ tag f s g. Run options f options.max_receiver_window_buffer_size (joined s g)) to first end (new_end options first) ends.firsts ends.sends ends.gets run.3 (λ tag ne. h.runs tag);
           small = set_all (λ tag f. f < 2 ^ 32) to first ends.firsts is.small (λ tag ne. h.small tag);
           sender = sender_of ends' linked
-              (renewed ends (peer_tag e.core) e.below queued past packets h.sender o.effects to o.after.below run.0 ps gets firsts (inr waits)
+              (renewed ends (peer_tag e.core) e.below queued past packets h.sender o.effects to o.after.below run.0 ps run.1 gets firsts (inr waits)
               (λ some. subst (λ (n : ℕ). HadPeer (after_effects o.effects past) to n) (sym (set_same to first ends.firsts)) had_new) (λ tag ne. set_other to tag first ends.firsts ne) addressed);
+          asks = subst (λ (k : ℕ). AsksFit (firsts k) (own_of o.after) (set_at to end ends.sends k).asking) (sym (link_tag o.after.core new linked))
+              (subst (λ (s : SendingEnd). AsksFit (firsts to) (own_of o.after) s.asking) (sym (set_same to end ends.sends))
+              (subst (λ (n : ℕ). AsksFit n (own_of o.after) run.1) (sym (set_same to first ends.firsts)) run.2));
           receiver = receiver_renewed options ends ends'.sends d their_past reads to first h.receiver fresh apart;
         };
       }
 
   pub begins : NewPeer past their_past new → link_in o.after.core ≡ Some new → AreAddressed begun.held.peer.tag (packets_in o.events)
-      → QueueHolds (ends.sends (peer_tag e.core)).queued [] e.below.queue → AllByRecursion Fits (ends.sends (peer_tag e.core)).queued → Later
+      → QueueWaits (ends.sends (peer_tag e.core)).queued e.below.queue → AllByRecursion Fits (ends.sends (peer_tag e.core)).queued → Later
       → AreEnds options o.after queued (after_effects o.effects past) (packets ++ packets_in o.events) d their_past reads
   begins is linked addressed shown fit later =
       elim (h.sender.begun begun.held.peer.tag is.some) [
@@ -183,9 +192,9 @@ module _ (options : Options) (ends : Ends) (e : Endpoint) (queued : List Message
         | inr had ↦ absurd (is.other had.link had.held had.tag_is)
       ]
     where
-      holds_marks : QueueHolds marks [] e.below.queue
+      holds_marks : QueueWaits marks e.below.queue
       holds_marks =
-          subst (λ (b : Below). QueueHolds (all_marked (length (ends.sends (peer_tag e.core)).queued) b.queue.streams (ends.sends (peer_tag e.core)).queued) [] e.below.queue) (sym h.sender.below_is)
+          subst (λ (b : Below). QueueWaits (all_marked (length (ends.sends (peer_tag e.core)).queued) b.queue.streams (ends.sends (peer_tag e.core)).queued) e.below.queue) (sym h.sender.below_is)
           (all_marked_keep (length (ends.sends (peer_tag e.core)).queued) (ends.sends (peer_tag e.core)).queued e.below.queue shown)
 
       fit_marks : AllByRecursion Fits marks

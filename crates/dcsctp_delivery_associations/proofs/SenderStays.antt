@@ -13,12 +13,13 @@ use Rattle.dcsctp_machine.specs.control.Effect.{Effect, link_in}
 use Rattle.dcsctp_machine.specs.transfer.Transfer.{Below}
 use Rattle.dcsctp_delivery_sending.specs.Places.{set_at}
 use Rattle.dcsctp_delivery_sending.specs.Log.{Message, Fits}
-use Rattle.dcsctp_delivery_sending.specs.Queueing.{QueueHolds}
+use Rattle.dcsctp_delivery_sending.specs.Queueing.{QueueWaits}
 use Rattle.dcsctp_delivery_sending.specs.Marking.{all_marked}
 use Rattle.dcsctp_delivery_sending.proofs.Places.{decide, set_same, set_other}
 use Rattle.dcsctp_delivery_sending.proofs.MarkingAll.{all_marked_keep, all_marked_fit}
-use Rattle.dcsctp_delivery_directions.specs.Directions.{Run}
+use Rattle.dcsctp_delivery_directions.specs.Directions.{Asking, nothing_asked, Run}
 use Rattle.dcsctp_delivery_turns.specs.Actions.{peer_tag, queued_after}
+use Rattle.dcsctp_delivery_turns.specs.Asking.{own_of, AsksFit}
 use Rattle.dcsctp_delivery_turns.specs.Addressed.{AreAddressed}
 use Rattle.dcsctp_delivery_turns.specs.Runs.{sender_at}
 use Rattle.dcsctp_delivery_turns.proofs.Runs.{begins_anew}
@@ -26,6 +27,7 @@ use Rattle.dcsctp_delivery_associations.specs.Ends.{SendingEnd, ReceivingEnd, jo
 use Rattle.dcsctp_delivery_associations.specs.Laws.{AreEnds}
 use Rattle.dcsctp_delivery_associations.specs.Reads.{Read}
 use Rattle.dcsctp_delivery_associations.proofs.Growing.{set_all, input_adds}
+use Rattle.dcsctp_delivery_associations.proofs.Own.{unlinked_fit}
 use Rattle.dcsctp_delivery_associations.proofs.Senders.{same_key, no_key, grown_end, grown_ends, grown, marked_queue, renewed_end, renewed_ends, renewed}
 
 -- three tables
@@ -46,6 +48,7 @@ set_three P k u v w f g h here others t =
 pub receiver_same : (options : Options) (ends : Ends) (sends : ℕ → SendingEnd) (d : Endpoint) (past : List Effect) (reads : List Read) → Receiver options ends d past reads → Receiver options (record ends { sends = sends }) d past reads
 receiver_same options ends sends d past reads r =
     record {
+      fits = r.fits;
       current = λ transfer is. (let c = r.current transfer is in record { link = c.link; linked = c.linked; had = c.had; tracker = c.tracker; reassembly = c.reassembly });
       were_read = r.were_read;
       begun = r.begun;
@@ -60,17 +63,17 @@ module _ (options : Options) (ends : Ends) (e : Endpoint) (queued : List Message
   abbrev pub Turned : Type 0
   Turned = AreEnds options o.after (queued_after e input queued) (after_effects o.effects past) (packets ++ packets_in o.events) d their_past reads
 
-  pub goes_on : link_in o.after.core ≡ link_in e.core → AreAddressed (peer_tag e.core) (packets_in o.events) → (acknowledged : ℕ)
+  pub goes_on : link_in o.after.core ≡ link_in e.core → AreAddressed (peer_tag e.core) (packets_in o.events) → (acknowledged : ℕ) (asking : Asking) → AsksFit (ends.firsts (peer_tag e.core)) (own_of o.after) asking
       → Run options (ends.firsts (peer_tag e.core)) options.max_receiver_window_buffer_size
-      (sender_at (joined (ends.sends (peer_tag e.core)) (ends.gets (peer_tag e.core))) (queued_after e input (ends.sends (peer_tag e.core)).queued) o.after.below acknowledged ((ends.sends (peer_tag e.core)).sent ++ packets_in o.events))
+      (sender_at (joined (ends.sends (peer_tag e.core)) (ends.gets (peer_tag e.core))) (queued_after e input (ends.sends (peer_tag e.core)).queued) o.after.below acknowledged ((ends.sends (peer_tag e.core)).sent ++ packets_in o.events) asking)
       → Turned
   unfolding more
-  goes_on linked addressed acknowledged run =
+  goes_on linked addressed acknowledged asking fits run =
       let key : ℕ = peer_tag e.core in
-      let end : SendingEnd = grown_end ends key e.below queued past packets h.sender o.effects more o.after.below acknowledged (packets_in o.events) in
-      let later : Ends = grown_ends ends key e.below queued past packets h.sender o.effects more o.after.below acknowledged (packets_in o.events) in
+      let end : SendingEnd = grown_end ends key e.below queued past packets h.sender o.effects more o.after.below acknowledged (packets_in o.events) asking in
+      let later : Ends = grown_ends ends key e.below queued past packets h.sender o.effects more o.after.below acknowledged (packets_in o.events) asking in
       let sender : Sender later key o.after.below (more ++ queued) (after_effects o.effects past) (packets ++ packets_in o.events) =
-      grown ends key e.below queued past packets h.sender o.effects more o.after.below acknowledged (packets_in o.events) addressed in
+      grown ends key e.below queued past packets h.sender o.effects more o.after.below acknowledged (packets_in o.events) asking addressed in
       record {
         ends = later;
         between = record {
@@ -80,33 +83,35 @@ module _ (options : Options) (ends : Ends) (e : Endpoint) (queued : List Message
           small = h.small;
           sender = subst (λ (l : List Message). Sender later (peer_tag o.after.core) o.after.below l (after_effects o.effects past) (packets ++ packets_in o.events)) (sym (input_adds e input queued))
               (subst (λ (k : ℕ). Sender later k o.after.below (more ++ queued) (after_effects o.effects past) (packets ++ packets_in o.events)) (sym (same_key o.after.core e.core linked)) sender);
+          asks = subst (λ (k : ℕ). AsksFit (ends.firsts k) (own_of o.after) (set_at key end ends.sends k).asking) (sym (same_key o.after.core e.core linked))
+              (subst (λ (s : SendingEnd). AsksFit (ends.firsts key) (own_of o.after) s.asking) (sym (set_same key end ends.sends)) fits);
           receiver = receiver_same options ends later.sends d their_past reads h.receiver;
         };
       }
 
   pub ended : link_in o.after.core ≡ None → AreAddressed (peer_tag e.core) (packets_in o.events) → (last : Below) → o.after.below ≡ record last { transfer = None }
-      → QueueHolds (queued_after e input (ends.sends (peer_tag e.core)).queued) [] last.queue → AllByRecursion Fits (queued_after e input (ends.sends (peer_tag e.core)).queued) → (acknowledged : ℕ)
+      → QueueWaits (queued_after e input (ends.sends (peer_tag e.core)).queued) last.queue → AllByRecursion Fits (queued_after e input (ends.sends (peer_tag e.core)).queued) → (acknowledged : ℕ) (asking : Asking)
       → Run options (ends.firsts (peer_tag e.core)) options.max_receiver_window_buffer_size
-      (sender_at (joined (ends.sends (peer_tag e.core)) (ends.gets (peer_tag e.core))) (queued_after e input (ends.sends (peer_tag e.core)).queued) last acknowledged ((ends.sends (peer_tag e.core)).sent ++ packets_in o.events))
+      (sender_at (joined (ends.sends (peer_tag e.core)) (ends.gets (peer_tag e.core))) (queued_after e input (ends.sends (peer_tag e.core)).queued) last acknowledged ((ends.sends (peer_tag e.core)).sent ++ packets_in o.events) asking)
       → Turned
   unfolding more
-  ended none addressed last is shown fit acknowledged run =
+  ended none addressed last is shown fit acknowledged asking run =
       let key : ℕ = peer_tag e.core in
       let ps : List Emission = packets_in o.events in
-      let end : SendingEnd = grown_end ends key e.below queued past packets h.sender o.effects more last acknowledged ps in
-      let middle : Ends = grown_ends ends key e.below queued past packets h.sender o.effects more last acknowledged ps in
-      let first : Sender middle key last (more ++ queued) (after_effects o.effects past) (packets ++ ps) = grown ends key e.below queued past packets h.sender o.effects more last acknowledged ps addressed in
-      let marked : List Message = marked_queue middle key last (more ++ queued) (after_effects o.effects past) (packets ++ ps) first [] 0 o.after.below 0 [] ends.gets ends.firsts in
-      let later : Ends = renewed_ends middle key last (more ++ queued) (after_effects o.effects past) (packets ++ ps) first [] 0 o.after.below 0 [] ends.gets ends.firsts in
-      let new : SendingEnd = renewed_end middle key last (more ++ queued) (after_effects o.effects past) (packets ++ ps) first [] 0 o.after.below 0 [] ends.gets ends.firsts in
+      let end : SendingEnd = grown_end ends key e.below queued past packets h.sender o.effects more last acknowledged ps asking in
+      let middle : Ends = grown_ends ends key e.below queued past packets h.sender o.effects more last acknowledged ps asking in
+      let first : Sender middle key last (more ++ queued) (after_effects o.effects past) (packets ++ ps) = grown ends key e.below queued past packets h.sender o.effects more last acknowledged ps asking addressed in
+      let marked : List Message = marked_queue middle key last (more ++ queued) (after_effects o.effects past) (packets ++ ps) first [] 0 o.after.below 0 [] nothing_asked ends.gets ends.firsts in
+      let later : Ends = renewed_ends middle key last (more ++ queued) (after_effects o.effects past) (packets ++ ps) first [] 0 o.after.below 0 [] nothing_asked ends.gets ends.firsts in
+      let new : SendingEnd = renewed_end middle key last (more ++ queued) (after_effects o.effects past) (packets ++ ps) first [] 0 o.after.below 0 [] nothing_asked ends.gets ends.firsts in
       let second : Sender later 0 o.after.below (more ++ queued) (after_effects o.effects past) ((packets ++ ps) ++ []) =
-      renewed middle key last (more ++ queued) (after_effects o.effects past) (packets ++ ps) first [] 0 o.after.below 0 [] ends.gets ends.firsts (inl refl) (λ some. absurd (some refl)) (λ tag ne. refl) tt in
+      renewed middle key last (more ++ queued) (after_effects o.effects past) (packets ++ ps) first [] 0 o.after.below 0 [] nothing_asked ends.gets ends.firsts (inl refl) (λ some. absurd (some refl)) (λ tag ne. refl) tt in
       let adds : queued_after e input (ends.sends key).queued ≡ end.queued = input_adds e input (ends.sends key).queued in
-      let shown' : QueueHolds end.queued [] last.queue = subst (λ (l : List Message). QueueHolds l [] last.queue) adds shown in
+      let shown' : QueueWaits end.queued last.queue = subst (λ (l : List Message). QueueWaits l last.queue) adds shown in
       let fit' : AllByRecursion Fits end.queued = subst (λ (l : List Message). AllByRecursion Fits l) adds fit in
-      let holds' : QueueHolds marked [] o.after.below.queue =
-      subst (λ (b : Below). QueueHolds marked [] b.queue) (sym is)
-      (subst (λ (s : SendingEnd). QueueHolds (all_marked (length s.queued) s.below.queue.streams s.queued) [] last.queue) (sym (set_same key end ends.sends)) (all_marked_keep (length end.queued) end.queued last.queue shown')) in
+      let holds' : QueueWaits marked o.after.below.queue =
+      subst (λ (b : Below). QueueWaits marked b.queue) (sym is)
+      (subst (λ (s : SendingEnd). QueueWaits (all_marked (length s.queued) s.below.queue.streams s.queued) last.queue) (sym (set_same key end ends.sends)) (all_marked_keep (length end.queued) end.queued last.queue shown')) in
       let fits' : AllByRecursion Fits marked =
       subst (λ (s : SendingEnd). AllByRecursion Fits (all_marked (length s.queued) s.below.queue.streams s.queued)) (sym (set_same key end ends.sends)) (all_marked_fit (length end.queued) last.queue.streams end.queued fit') in
       let anew : Run options (ends.firsts 0) options.max_receiver_window_buffer_size (joined new (new_end options (ends.firsts 0))) =
@@ -123,6 +128,7 @@ module _ (options : Options) (ends : Ends) (e : Endpoint) (queued : List Message
           sender = subst (λ (l : List Message). Sender later (peer_tag o.after.core) o.after.below l (after_effects o.effects past) (packets ++ ps)) (sym (input_adds e input queued))
               (subst (λ (k : ℕ). Sender later k o.after.below (more ++ queued) (after_effects o.effects past) (packets ++ ps)) (sym (no_key o.after.core none))
               (subst (λ (l : List Emission). Sender later 0 o.after.below (more ++ queued) (after_effects o.effects past) l) (append-nil (packets ++ ps)) second));
+          asks = unlinked_fit o.after (ends.firsts (peer_tag o.after.core)) (later.sends (peer_tag o.after.core)).asking none;
           receiver = receiver_same options ends later.sends d their_past reads h.receiver;
         };
       }

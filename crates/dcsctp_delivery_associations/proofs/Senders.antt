@@ -9,13 +9,14 @@ use Rattle.dcsctp_machine.specs.control.Effect.{Link, Effect, holds, link_in}
 use Rattle.dcsctp_machine.specs.transfer.Transfer.{Below}
 use Rattle.dcsctp_machine_agreement.proofs.Growth.{after_within}
 use Rattle.dcsctp_delivery_sending.specs.Places as places
-use Rattle.dcsctp_delivery_sending.specs.Places.{at_place, set_at}
+use Rattle.dcsctp_delivery_sending.specs.Places.{set_at}
 use Rattle.dcsctp_delivery_sending.specs.Log.{Message}
 use Rattle.dcsctp_delivery_sending.specs.ChunkCounts.{chunks_in, chunks_to}
 use Rattle.dcsctp_delivery_sending.specs.Marking.{all_marked, AreMarked}
 use Rattle.dcsctp_delivery_sending.proofs.Places.{decide, set_same, set_other}
 use Rattle.dcsctp_delivery_sending.proofs.MarkingAll.{all_are_marked, gone_are_marked}
 use Rattle.dcsctp_delivery_directions.proofs.ChunkCounts.{chunks_more}
+use Rattle.dcsctp_delivery_directions.specs.Directions.{Asking}
 use Rattle.dcsctp_delivery_turns.specs.Actions.{peer_tag}
 use Rattle.dcsctp_delivery_turns.specs.Addressed.{IsAddressed, AreAddressed}
 use Rattle.dcsctp_delivery_associations.specs.Ends.{SendingEnd, ReceivingEnd, Ends, Leaves, HadPeer, Awaits, IsOfEnds, AreOfEnds, Sender}
@@ -89,9 +90,9 @@ had_later effects past tag first had = record { link = had.link; held = after_wi
 -- ---- the current end grows
 
 module _ (ends : Ends) (key : ℕ) (below : Below) (queued : List Message) (past : List Effect) (packets : List Emission) (h : Sender ends key below queued past packets)
-    (effects : List Effect) (more : List Message) (after : Below) (acknowledged : ℕ) (ps : List Emission) where
+    (effects : List Effect) (more : List Message) (after : Below) (acknowledged : ℕ) (ps : List Emission) (asking : Asking) where
   abbrev pub grown_end : SendingEnd
-  grown_end = record { queued = more ++ (ends.sends key).queued; below = after; acknowledged = acknowledged; sent = (ends.sends key).sent ++ ps }
+  grown_end = record { queued = more ++ (ends.sends key).queued; below = after; acknowledged = acknowledged; sent = (ends.sends key).sent ++ ps; asking = asking }
 
   abbrev pub grown_ends : Ends
   grown_ends = record ends { sends = set_at key grown_end ends.sends }
@@ -165,12 +166,12 @@ module _ (ends : Ends) (key : ℕ) (below : Below) (queued : List Message) (past
 -- ---- another end takes its place, in which all that no longer waits is marked
 
 module _ (ends : Ends) (key : ℕ) (below : Below) (queued : List Message) (past : List Effect) (packets : List Emission) (h : Sender ends key below queued past packets)
-    (effects : List Effect) (to : ℕ) (after : Below) (acknowledged : ℕ) (ps : List Emission) (gets : ℕ → ReceivingEnd) (firsts : ℕ → ℕ) where
+    (effects : List Effect) (to : ℕ) (after : Below) (acknowledged : ℕ) (ps : List Emission) (asking : Asking) (gets : ℕ → ReceivingEnd) (firsts : ℕ → ℕ) where
   abbrev pub marked_queue : List Message
   marked_queue = all_marked (length (ends.sends key).queued) (ends.sends key).below.queue.streams (ends.sends key).queued
 
   abbrev pub renewed_end : SendingEnd
-  renewed_end = record { queued = marked_queue; below = after; acknowledged = acknowledged; sent = ps }
+  renewed_end = record { queued = marked_queue; below = after; acknowledged = acknowledged; sent = ps; asking = asking }
 
   abbrev pub renewed_ends : Ends
   renewed_ends = record { sends = set_at to renewed_end ends.sends; gets = gets; firsts = firsts }

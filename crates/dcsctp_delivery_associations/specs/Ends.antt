@@ -16,7 +16,8 @@ use Rattle.dcsctp_delivery_sending.specs.Log.{Message}
 use Rattle.dcsctp_delivery_sending.specs.Flushes.{NoData}
 use Rattle.dcsctp_delivery_sending.specs.ChunkCounts.{chunks_in, chunks_to}
 use Rattle.dcsctp_delivery_sending.specs.Marking.{WaitsNoLonger, FindsMarked, IsMarked}
-use Rattle.dcsctp_delivery_directions.specs.Directions.{Direction, Run}
+use Rattle.dcsctp_delivery_directions.specs.Directions.{Direction, Asking, nothing_asked, Run}
+use Rattle.dcsctp_delivery_turns.specs.Asking.{own_of, AsksFit, SomeFit}
 use Rattle.dcsctp_delivery_turns.specs.Actions.{NoEnd, peer_tag}
 use Rattle.dcsctp_delivery_associations.specs.Reads.{Read, with_tag}
 
@@ -27,6 +28,7 @@ pub record SendingEnd : Type 0 where
   pub below : Below
   pub acknowledged : ℕ
   pub sent : List Emission
+  pub asking : Asking
 
 pub record ReceivingEnd : Type 0 where
   pub tracker : TrackerState
@@ -43,6 +45,7 @@ joined sends gets =
       tracker = gets.tracker;
       reassembly = gets.reassembly;
       read = gets.read;
+      asking = sends.asking;
     }
 
 -- one at which nothing was received yet
@@ -77,6 +80,7 @@ pub record Awaits (sends : SendingEnd) : Type 0 where
   pub sent : sends.sent ≡ []
   pub acknowledged : sends.acknowledged ≡ 0
   pub transfer : sends.below.transfer ≡ None
+  pub asking : sends.asking ≡ nothing_asked
 
 -- Packets with data are of the association of their tag. No data is ever handled under the tag 0.
 abbrev pub IsOfEnds : Ends → Emission → Type 0
@@ -126,6 +130,7 @@ pub record IsCurrent (ends : Ends) (e : Endpoint) (past : List Effect) (transfer
   pub reassembly : (ends.gets link.my.tag).reassembly ≡ transfer.reassembly
 
 pub record Receiver (options : Options) (ends : Ends) (e : Endpoint) (past : List Effect) (reads : List Read) : Type 0 where
+  pub fits : SomeFit (own_of e)
   pub current : (transfer : Transfer) → e.below.transfer ≡ Some transfer → IsCurrent ends e past transfer
   pub were_read : (tag : ℕ) → with_tag tag reads ≡ (ends.gets tag).read
   pub begun : (tag : ℕ) → (ends.gets tag ≡ new_end options (ends.firsts tag)) ⊎ HadTag past tag (ends.firsts tag)
@@ -134,6 +139,7 @@ pub record Receiver (options : Options) (ends : Ends) (e : Endpoint) (past : Lis
 pub record NewTag (past their_past : List Effect) (link : Link) : Type 0 where
   pub some : link.my.tag ≢ 0
   pub small : link.peer.first_tsn < 2 ^ 32
+  pub own_small : link.my.first_tsn < 2 ^ 32
   pub other : (old : Link) → Has (holds old) past → old.my.tag ≢ link.my.tag
   pub match : (theirs : Link) → Has (holds theirs) their_past → theirs.peer.tag ≡ link.my.tag → theirs.my ≡ link.peer
 
@@ -143,4 +149,5 @@ pub record Between (options : Options) (ends : Ends) (e : Endpoint) (queued : Li
   pub runs : Runs options ends
   pub small : (tag : ℕ) → ends.firsts tag < 2 ^ 32
   pub sender : Sender ends (peer_tag e.core) e.below queued past packets
+  pub asks : AsksFit (ends.firsts (peer_tag e.core)) (own_of e) (ends.sends (peer_tag e.core)).asking
   pub receiver : Receiver options ends other their_past reads

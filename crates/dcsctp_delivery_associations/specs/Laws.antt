@@ -1,5 +1,5 @@
 -- What is known of all associations of two sockets, in the direction from one to the other, turn by turn, with interleaving or without.
-use Rattle.std.specs.Prelude.{◌<◌, ◌^◌, Some, List, [], ◌++◌, length, ◌≡◌, ℕ}
+use Rattle.std.specs.Prelude.{◌<◌, ◌^◌, true, false, Some, List, [], ◌++◌, length, ◌≡◌, ℕ}
 use Rattle.dcsctp_machine.specs.declared.options.Options.{Options}
 use Rattle.dcsctp_machine.specs.Settings.{SameOptions}
 use Rattle.dcsctp_machine.specs.Endpoint.{Endpoint, fresh_endpoint}
@@ -13,10 +13,15 @@ use Rattle.dcsctp_machine.specs.transfer.Transfer.{Transfer}
 use Rattle.dcsctp_delivery_sending.specs.Log.{Message}
 use Rattle.dcsctp_delivery_sending.specs.ChunkCounts.{chunks_to}
 use Rattle.dcsctp_delivery_directions.specs.Directions.{Delivered}
-use Rattle.dcsctp_delivery_turns.specs.Actions.{IsOpening, came_by, queued_after, Begun, IsCall, ResetsNone}
+use Rattle.dcsctp_delivery_turns.specs.Actions.{IsOpening, came_by, queued_after, Begun, IsCall}
+use Rattle.dcsctp_machine.specs.turns.ResetOutcomes.{has_completed}
 use Rattle.dcsctp_delivery_turns.specs.Sides.{WasSent}
 use Rattle.dcsctp_delivery_associations.specs.Ends.{Ends, NewPeer, NewTag, Between}
 use Rattle.dcsctp_delivery_associations.specs.Reads.{Read, reads_after, messages_of}
+
+-- In an association with interleaving no reset of own streams is performed: the numbers of their messages would begin at 0 again.
+abbrev pub ResetsNone : Endpoint → Outcome → Type 0
+ResetsNone e o = e.below.queue.is_interleaved ≡ true → has_completed o.effects ≡ false
 
 -- There are ends for what was done so far.
 pub record AreEnds (options : Options) (e : Endpoint) (queued : List Message) (past : List Effect) (packets : List Emission) (other : Endpoint) (their_past : List Effect) (reads : List Read) : Type 0 where
@@ -39,7 +44,7 @@ abbrev pub ReceiversTurn : Type 0
 ReceiversTurn =
     (options : Options) (ends : Ends) (e : Endpoint) (queued : List Message) (past : List Effect) (packets : List Emission) (other : Endpoint) (their_past : List Effect) (reads : List Read) (input : Input) (o : Outcome)
     → Between options ends e queued past packets other their_past reads → length queued < 2 ^ 64 → SameOptions options other.options → ((begun : Begun other o) → IsOpening (came_by input) → link_in o.after.core ≡ Some (link_of begun.my begun.held) → NewTag their_past past (link_of begun.my begun.held))
-    → ((transfer : Transfer) (link : Link) → other.below.transfer ≡ Some transfer → link_in other.core ≡ Some link → WasSent (ends.sends link.my.tag).sent (came_by input)) → IsCall input → ResetsNone other o → Turn other input o
+    → ((transfer : Transfer) (link : Link) → other.below.transfer ≡ Some transfer → link_in other.core ≡ Some link → WasSent (ends.sends link.my.tag).sent (came_by input)) → IsCall input → Turn other input o
     → AreEnds options e queued past packets o.after (after_effects o.effects their_past) (reads_after other input reads)
 
 -- Each message that was read, in any association, was queued, and none twice, if fewer than 2^30 chunks of data went to each tag: none

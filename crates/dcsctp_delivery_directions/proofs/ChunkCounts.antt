@@ -1,23 +1,25 @@
 -- How many TSNs an association assigns, by the chunks of data that its sender has sent.
-use Rattle.std.proofs.Common.{◌≡◌, ℕ, Bool, true, false, ◌<◌, ◌≤◌, ◌+◌, ◌*◌, ◌^◌, List, [], ◌∷◌, ◌++◌, length, refl, ◌∙◌, ap, arith}
-use Rattle.std.specs.Prelude.{Option, None, Some, if◌then◌else◌}
+use Rattle.std.proofs.Common.{◌≡◌, ℕ, Bool, ◌<◌, ◌≤◌, ◌+◌, ◌*◌, ◌^◌, List, [], ◌∷◌, ◌++◌, length, refl, ◌∙◌, ap, arith}
+use Rattle.std.specs.Prelude.{Option, None, Some}
 use Rattle.dcsctp_machine.specs.declared.options.Options.{Options}
 use Rattle.dcsctp_machine.specs.Event.{packets_in}
 use Rattle.dcsctp_machine.specs.Packet.{Emission}
 use Rattle.dcsctp_machine.specs.transfer.Items.{Item}
 use Rattle.dcsctp_machine.specs.transfer.Outstanding.{OutstandingState}
-use Rattle.dcsctp_machine.specs.transfer.OwnResets.{is_open, with_used, prepared, prepared_open, prepared_all, queue_committed, queue_rolled_back}
-use Rattle.dcsctp_machine.specs.transfer.SendQueue.{SendQueueState, stream_of}
+use Rattle.dcsctp_machine.specs.transfer.OwnResets.{prepared_all, queue_committed, queue_rolled_back}
+use Rattle.dcsctp_machine.specs.transfer.SendQueue.{SendQueueState}
 use Rattle.dcsctp_machine.specs.transfer.Transfer.{Transfer}
 use Rattle.dcsctp_machine.specs.turns.FlushOutcomes.{flush_of}
 use Rattle.dcsctp_machine.specs.turns.MessageOutcomes.{sending_queued}
-use Rattle.dcsctp_machine.specs.turns.SettingOutcomes.{Setting, stream_priority, stream_low_threshold, longest_message, set_in_queue}
+use Rattle.dcsctp_machine.specs.turns.SettingOutcomes.{set_in_queue}
 use Rattle.dcsctp_delivery_sending.specs.ChunkCounts.{chunks_in, going, tsns_of, tsns_where, tsns_below}
 use Rattle.dcsctp_delivery_sending.specs.Stages.{Bears}
+use Rattle.dcsctp_delivery_directions.specs.Directions.{Direction, in_flight, assigned, Step, queues, sets, prepares, commits, rolls_back, resends, resends_nothing, speaks, asks_again, turns_aside, tracks, defers, flushes, acknowledges, loses, receives, forwards, receives_interleaved, forwards_interleaved, performs, resets, takes, NoneInFlight, Run, begins, goes_on, starts}
 use Rattle.dcsctp_delivery_sending.proofs.Acknowledged.{acknowledged_bear, lost_bear}
 use Rattle.dcsctp_delivery_sending.proofs.ChunkCounts.{one_at_most, flushes_assign_few, at_once_same}
-use Rattle.dcsctp_delivery_directions.specs.Directions.{Direction, in_flight, assigned, Step, queues, sets, prepares, commits, rolls_back, resends, resends_nothing, speaks, turns_aside, tracks, defers, flushes, acknowledges, loses, receives, forwards, receives_interleaved, forwards_interleaved, resets, takes, NoneInFlight, Run, begins, goes_on, starts}
-use Rattle.dcsctp_delivery_directions.proofs.Directions.{more_queued, run_stands}
+use Rattle.dcsctp_delivery_directions.proofs.Directions.{run_stands}
+use Rattle.dcsctp_delivery_directions.proofs.Queued.{set_way, all_way}
+use Rattle.dcsctp_delivery_directions.proofs.Steps.{more_queued}
 use Rattle.dcsctp_delivery_directions.proofs.Standing.{Stands, same_flight, timed_outstanding}
 
 abbrev FewSent : Direction → Type 0
@@ -28,22 +30,6 @@ FewSent direction = direction.acknowledged + tsns_below direction.below ≤ 1 + 
 way_same : (old new : SendQueueState) (transfer : Option Transfer) → new.under_way ≡ old.under_way → tsns_where new transfer ≡ tsns_where old transfer
 way_same old new None same = ap going same
 way_same old new (Some transfer) same = (let way : going new.under_way ≡ going old.under_way = ap going same in omega (arith, way))
-
-set_way : (setting : Setting) (queue : SendQueueState) → (set_in_queue setting queue).under_way ≡ queue.under_way
-set_way (stream_priority id priority) queue = refl
-set_way (stream_low_threshold id bytes) queue = refl
-set_way (longest_message bytes) queue = refl
-
-prepared_way : (id : ℕ) (queue : SendQueueState) → (prepared id queue).under_way ≡ queue.under_way
-prepared_way id queue = go (is_open (stream_of (with_used id queue) id).pause)
-  where
-    go : (b : Bool) → (if b then prepared_open id (with_used id queue) else with_used id queue).under_way ≡ queue.under_way
-    go true = refl
-    go false = refl
-
-all_way : (ids : List ℕ) (queue : SendQueueState) → (prepared_all ids queue).under_way ≡ queue.under_way
-all_way [] queue = refl
-all_way (id ∷ ids) queue = all_way ids (prepared id queue) ∙ prepared_way id queue
 
 -- ---- what is sent
 
@@ -85,13 +71,14 @@ module _ (options : Options) (first size : ℕ) (small : first < 2 ^ 32) (old : 
       let before = at_known transfer known in
       omega (arith, size, before, h)
   stepped_few _ (speaks emission no_data) = (let sent = chunks_more old.sent (emission ∷ []) in omega (arith, sent, h))
+  stepped_few _ (asks_again emission begun was contents) = (let sent = chunks_more old.sent (emission ∷ []) in omega (arith, sent, h))
   stepped_few _ (turns_aside transfer new known same) =
       let size : length new.retransmission.outstanding.items ≡ length transfer.retransmission.outstanding.items = ap (λ (r : _). length r.outstanding.items) same in
       let before = at_known transfer known in
       omega (arith, size, before, h)
   stepped_few _ (acknowledges now sack transfer new known valid does) =
-      let flight : Bears standing.log first old.acknowledged transfer.retransmission.outstanding = same_flight standing.log first old.acknowledged old.below.transfer standing.below.flight transfer known in
-      let bears = acknowledged_bear standing.log first old.acknowledged now sack.cumulative_tsn_ack sack.a_rwnd does.blocks transfer.retransmission does.left valid flight does.acknowledges in
+      let flight : Bears standing.history first old.acknowledged transfer.retransmission.outstanding = same_flight standing.history first old.acknowledged old.below.transfer standing.below.flight transfer known in
+      let bears = acknowledged_bear standing.history first old.acknowledged now sack.cumulative_tsn_ack sack.a_rwnd does.blocks transfer.retransmission does.left valid flight does.acknowledges in
       let same : new.retransmission.outstanding ≡ does.left.outstanding = ap (λ (t : Transfer). t.retransmission.outstanding) does.is ∙ timed_outstanding does.round_trip (record transfer { retransmission = does.left }) in
       let size : length new.retransmission.outstanding.items ≡ length does.left.outstanding.items = ap (λ (o : OutstandingState). length o.items) same in
       let before = at_known transfer known in
@@ -99,9 +86,9 @@ module _ (options : Options) (first size : ℕ) (small : first < 2 ^ 32) (old : 
       let count' = bears.count in
       omega (arith, size, before, h, count, count')
   stepped_few _ (loses now transfer known) =
-      let flight : Bears standing.log first old.acknowledged transfer.retransmission.outstanding = same_flight standing.log first old.acknowledged old.below.transfer standing.below.flight transfer known in
+      let flight : Bears standing.history first old.acknowledged transfer.retransmission.outstanding = same_flight standing.history first old.acknowledged old.below.transfer standing.below.flight transfer known in
       let count = flight.count in
-      let count' = (lost_bear standing.log first old.acknowledged now transfer.retransmission flight).count in
+      let count' = (lost_bear standing.history first old.acknowledged now transfer.retransmission flight).count in
       let before = at_known transfer known in
       omega (arith, before, h, count, count')
   stepped_few _ (receives emission chunk theirs new was holds some same same' does) = h
@@ -110,6 +97,7 @@ module _ (options : Options) (first size : ℕ) (small : first < 2 ^ 32) (old : 
   stepped_few _ (forwards_interleaved emission tsn streams theirs new was holds same same' does) = h
   stepped_few _ (tracks new cumulative ranges) = h
   stepped_few _ (defers last_tsn streams) = h
+  stepped_few _ (performs newest earlier new asks reached own leaves) = h
   stepped_few _ (resets streams new leaves) = h
   stepped_few _ (takes message messages is) = h
 

@@ -1,4 +1,10 @@
 pub mod Standing
+pub mod Cleared
+pub mod Queued
+pub mod Flushing
+pub mod Sending
+pub mod Receiving
+pub mod Performing
 pub mod Steps
 pub mod Directions
 pub mod Marking

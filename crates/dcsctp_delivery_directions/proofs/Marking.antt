@@ -6,15 +6,15 @@ use Rattle.dcsctp_machine.specs.declared.options.Options.{Options}
 use Rattle.dcsctp_machine.specs.declared.sending.UnderWay.{UnderWay}
 use Rattle.dcsctp_machine.specs.transfer.SendStreams.{Waiting, Stream, front_of, stream_at}
 use Rattle.dcsctp_delivery_sending.specs.Places.{Has, at_place}
-use Rattle.dcsctp_delivery_sending.specs.Log.{Message, Piece, Slot, Cut}
+use Rattle.dcsctp_delivery_sending.specs.Log.{Message, Piece, Slot, History, Cut}
 use Rattle.dcsctp_delivery_sending.specs.Marking.{NoneNamed, WaitsNoLonger}
 use Rattle.dcsctp_delivery_directions.specs.Marking.{IsFresh, DeliveredForGood}
 use Rattle.dcsctp_delivery_sending.specs.Pieces.{AllQueued, AllBeyond, unbegun, ComesTo, IsGoing, Going, HoldsQueued}
 use Rattle.dcsctp_delivery_receiving.specs.Received.{Reassembles, untouched, placed}
 use Rattle.dcsctp_delivery_receiving.specs.Rows.{Spent}
 use Rattle.dcsctp_delivery_directions.specs.Directions.{Direction, Run, assigned}
-use Rattle.dcsctp_delivery_receiving.proofs.Distinct.{has_left}
 use Rattle.dcsctp_delivery_sending.proofs.Places.{decide, at_below}
+use Rattle.dcsctp_delivery_receiving.proofs.Distinct.{has_left}
 use Rattle.dcsctp_delivery_sending.proofs.Streams.{newest_at}
 use Rattle.dcsctp_delivery_directions.proofs.Directions.{run_stands}
 
@@ -125,10 +125,10 @@ record SpentBy (log : List Slot) (place : ℕ) : Type 0 where
   got : List ℕ
   spent : Spent log got place
 
-spent_of : (queued : List Message) (log : List Slot) (first : ℕ) (got read : List ℕ) (incoming : _) (place : ℕ) → Reassembles queued log first got read incoming → Has place read → SpentBy log place
-spent_of queued log first got read incoming place (untouched none number holds) h =
+spent_of : (queued : List Message) (history : History) (first : ℕ) (got read : List ℕ) (incoming : _) (place : ℕ) → Reassembles queued history first got read incoming → Has place read → SpentBy history.log place
+spent_of queued history first got read incoming place (untouched none number holds) h =
     let held = holds 0 in record { got = []; spent = held.spent place (has_left place read held.places h) }
-spent_of queued log first got read incoming place (placed base is held) h = record { got = got; spent = held.spent place (has_left place read held.places h) }
+spent_of queued history first got read incoming place (placed base is held) h = record { got = got; spent = held.spent place (has_left place read held.places h) }
 
 spent_gone : (queued : List Message) (log : List Slot) (streams : List Stream) (u : Option UnderWay) (place : ℕ) → Cut queued log → HoldsQueued queued log streams u → SpentBy log place → WaitsNoLonger place streams
 spent_gone queued log streams u place cut queue_holds by =
@@ -148,7 +148,7 @@ directions_deliver_for_good options first size direction run small little few =
     let a = s.arrived (omega (arith, s.count, little)) in
     record {
       delivered = record { places = a.places; were_queued = a.were; once = a.once };
-      waits_no_longer = λ place h. spent_gone direction.queued s.log direction.below.queue.streams direction.below.queue.under_way place s.below.cut s.below.queue_holds
-          (spent_of direction.queued s.log first a.received.got a.places direction.reassembly.incoming place a.received.holds h);
-      fresh = λ place h. spent_fresh direction.queued s.log place s.below.cut (spent_of direction.queued s.log first a.received.got a.places direction.reassembly.incoming place a.received.holds h);
+      waits_no_longer = λ place h. spent_gone direction.queued s.history.log direction.below.queue.streams direction.below.queue.under_way place s.below.cut s.below.queue_holds
+          (spent_of direction.queued s.history first a.received.got a.places direction.reassembly.incoming place a.received.holds h);
+      fresh = λ place h. spent_fresh direction.queued s.history.log place s.below.cut (spent_of direction.queued s.history first a.received.got a.places direction.reassembly.incoming place a.received.holds h);
     }

@@ -1,79 +1,115 @@
 -- What holds throughout a run of a direction.
-use Rattle.std.proofs.Common.{◌≡◌, ℕ, ◌<◌, ◌+◌, ◌^◌, List, [], ◌∷◌, ◌++◌, length, refl, sym, arith, subst, inl, inr}
-use Rattle.std.specs.Prelude.{Option, None, Some}
+use Rattle.std.proofs.Common.{◌≡◌, ℕ, true, ◌<◌, ◌≤◌, ◌+◌, ◌^◌, List, [], ◌∷◌, ◌++◌, length, map, take, refl, sym, arith, subst, inl, inr}
+use Rattle.std.specs.Prelude.{◌⊎◌, Option, None, Some}
 use Rattle.std.specs.List.{AllByRecursion}
 use Rattle.dcsctp_machine.specs.Packet.{Content, Emission}
+use Rattle.dcsctp_machine.specs.transfer.Reassembly.{ReassemblyState}
+use Rattle.dcsctp_machine.specs.transfer.SendStreams.{Stream}
 use Rattle.dcsctp_machine.specs.transfer.Transfer.{Transfer}
 use Rattle.dcsctp_machine.specs.turns.TransferMoves.{timed_by}
-use Rattle.dcsctp_delivery_sending.specs.Places.{Has}
-use Rattle.dcsctp_delivery_sending.specs.Log.{Fits, Message, Slot, Cut}
+use Rattle.dcsctp_delivery_sending.specs.Places.{Has, at_place}
+use Rattle.dcsctp_delivery_sending.specs.Log.{Fits, Message, Piece, Cut, Mark, History, Resets}
+use Rattle.dcsctp_delivery_sending.specs.Numbers.{is_handed_out, stream_named}
 use Rattle.dcsctp_delivery_sending.specs.Flushes.{SaysContent, SayAll, PacketsSay, InFlight, StandsBelow}
 use Rattle.dcsctp_delivery_sending.specs.Stages.{Bears}
 use Rattle.dcsctp_delivery_receiving.specs.Ready.{AreDistinct, WereQueued}
 use Rattle.dcsctp_delivery_receiving.specs.Received.{Received, Few}
+use Rattle.dcsctp_delivery_receiving.specs.Clear.{IsClear, Unsent}
+use Rattle.dcsctp_delivery_receiving.specs.Tracked.{tracked}
 use Rattle.dcsctp_delivery_directions.specs.Directions.{Direction, in_flight, assigned}
 use Rattle.dcsctp_delivery_sending.proofs.Places.{at_stays}
 
+-- ---- streams that are handed out to be reset
+
+-- All pieces of the stream were sent before a reset that names it, and that has no end yet.
+pub record IsBehind (history : History) (out id : ℕ) : Type 0 where
+  pub mark : Mark
+  pub has : Has mark (take out history.marks)
+  pub names : Resets mark id
+  pub below : (n : ℕ) (f : Piece) → at_place n history.log ≡ Some (Some f) → f.message.stream ≡ id → n < mark.bound
+
+-- So it is of each stream that is handed out, or none was sent: it was handed out in an earlier association.
+abbrev pub AreQuiet : History → ℕ → List Stream → Type 0
+AreQuiet history out streams = (id : ℕ) → is_handed_out (stream_named id streams).pause ≡ true → Unsent history.log id ⊎ IsBehind history out id
+
+-- The receiver has received all that came before the newest reset, and nothing on the streams that were handed out for it since it has
+-- performed that.
+pub record IsCleared (history : History) (first cumulative : ℕ) (streams : List Stream) (reassembly : ReassemblyState) : Type 0 where
+  pub mark : Mark
+  pub earlier : List Mark
+  pub is : history.marks ≡ mark ∷ earlier
+  pub passed : tracked first mark.bound ≤ cumulative + 1
+  pub clear : (id : ℕ) → id < 2 ^ 16 → is_handed_out (stream_named id streams).pause ≡ true → Resets mark id
+      → ((n : ℕ) (f : Piece) → at_place n history.log ≡ Some (Some f) → f.message.stream ≡ id → n < mark.bound) → IsClear id reassembly
+
+-- ---- all
+
 -- what the receiver has, where few TSNs were assigned
-pub record Arrived (first : ℕ) (log : List Slot) (direction : Direction) : Type 0 where
+pub record Arrived (first : ℕ) (history : History) (direction : Direction) : Type 0 where
   pub places : List ℕ
   pub were : WereQueued direction.queued places direction.read
   pub once : AreDistinct places
-  pub received : Received direction.queued log first places direction.tracker direction.reassembly
+  pub received : Received direction.queued history first places direction.tracker direction.reassembly
+  pub cleared : direction.below.queue.is_interleaved ≡ true → direction.asking.is_performed ≡ true
+      → IsCleared history first direction.tracker.cumulative direction.below.queue.streams direction.reassembly
 
 pub record Stands (first : ℕ) (direction : Direction) : Type 0 where
-  pub log : List Slot
+  pub history : History
   pub fit : AllByRecursion Fits direction.queued
   pub next : direction.below.queue.next_message_id ≡ length direction.queued
-  pub below : StandsBelow direction.queued log first direction.acknowledged direction.below
-  pub packets : PacketsSay log first direction.sent
-  pub count : length log ≡ assigned direction
-  pub arrived : length log < 2 ^ 31 → Arrived first log direction
+  pub below : StandsBelow direction.queued history first direction.acknowledged direction.below
+  pub packets : PacketsSay history first direction.sent
+  pub count : length history.log ≡ assigned direction
+  pub asked : direction.asking.requests ≡ map (λ mark. mark.begun) history.marks
+  pub quiet : AreQuiet history direction.asking.out direction.below.queue.streams
+  pub arrived : length history.log < 2 ^ 31 → Arrived first history direction
 
 -- ---- what was sent
 
-pub content_said : (log : List Slot) (first : ℕ) (content : Content) (contents : List Content) → SayAll log first contents → Has content contents → SaysContent log first content
-content_said log first content [] say h = absurd h
-content_said log first content (c ∷ contents) say h =
+pub content_said : (history : History) (first : ℕ) (content : Content) (contents : List Content) → SayAll history first contents → Has content contents → SaysContent history first content
+content_said history first content [] say h = absurd h
+content_said history first content (c ∷ contents) say h =
     elim h [
-      | inl e ↦ subst (λ (x : Content). SaysContent log first x) (sym e) say.0
-      | inr t ↦ content_said log first content contents say.1 t
+      | inl e ↦ subst (λ (x : Content). SaysContent history first x) (sym e) say.0
+      | inr t ↦ content_said history first content contents say.1 t
     ]
 
-pub packet_said : (log : List Slot) (first : ℕ) (emission : Emission) (emissions : List Emission) → PacketsSay log first emissions → Has emission emissions → SayAll log first emission.packet.contents
-packet_said log first emission [] say h = absurd h
-packet_said log first emission (e ∷ emissions) say h =
+pub packet_said : (history : History) (first : ℕ) (emission : Emission) (emissions : List Emission) → PacketsSay history first emissions → Has emission emissions → SayAll history first emission.packet.contents
+packet_said history first emission [] say h = absurd h
+packet_said history first emission (e ∷ emissions) say h =
     elim h [
-      | inl same ↦ subst (λ (x : Emission). SayAll log first x.packet.contents) (sym same) say.0
-      | inr t ↦ packet_said log first emission emissions say.1 t
+      | inl same ↦ subst (λ (x : Emission). SayAll history first x.packet.contents) (sym same) say.0
+      | inr t ↦ packet_said history first emission emissions say.1 t
     ]
 
-pub emissions_both : (log : List Slot) (first : ℕ) (one other : List Emission) → PacketsSay log first one → PacketsSay log first other → PacketsSay log first (one ++ other)
-emissions_both log first [] other say say' = say'
-emissions_both log first (e ∷ one) other say say' = (say.0, emissions_both log first one other say.1 say')
+pub emissions_both : (history : History) (first : ℕ) (one other : List Emission) → PacketsSay history first one → PacketsSay history first other → PacketsSay history first (one ++ other)
+emissions_both history first [] other say say' = say'
+emissions_both history first (e ∷ one) other say say' = (say.0, emissions_both history first one other say.1 say')
 
 -- ---- the steps
 
-pub few_of : (first : ℕ) (log : List Slot) → first < 2 ^ 32 → length log < 2 ^ 31 → Few log first
-few_of first log small few = record { small = small; few = few }
+pub few_of : (first : ℕ) (history : History) → first < 2 ^ 32 → length history.log < 2 ^ 31 → Few history first
+few_of first history small few = record { small = small; few = few }
 
-pub same_flight : (log : List Slot) (first acknowledged : ℕ) (transfer : Option Transfer) → InFlight log first acknowledged transfer → (t : Transfer) → transfer ≡ Some t → Bears log first acknowledged t.retransmission.outstanding
-same_flight log first acknowledged transfer flight t is = subst (λ (x : Option Transfer). InFlight log first acknowledged x) is flight
+pub same_flight : (history : History) (first acknowledged : ℕ) (transfer : Option Transfer) → InFlight history first acknowledged transfer → (t : Transfer) → transfer ≡ Some t → Bears history first acknowledged t.retransmission.outstanding
+same_flight history first acknowledged transfer flight t is = subst (λ (x : Option Transfer). InFlight history first acknowledged x) is flight
 
 pub timed_outstanding : (round_trip : Option ℕ) (transfer : Transfer) → (timed_by round_trip transfer).retransmission.outstanding ≡ transfer.retransmission.outstanding
 timed_outstanding None transfer = refl
 timed_outstanding (Some round_trip) transfer = refl
 
-pub cut_queued : (queued : List Message) (m : Message) (log : List Slot) → Cut queued log → Cut (m ∷ queued) log
-cut_queued queued m log cut =
+pub timed_begun : (round_trip : Option ℕ) (transfer : Transfer) → (timed_by round_trip transfer).retransmission.reset_begun ≡ transfer.retransmission.reset_begun
+timed_begun None transfer = refl
+timed_begun (Some round_trip) transfer = refl
+
+pub cut_queued : (queued : List Message) (m : Message) (history : History) → Cut queued history.log → Cut (m ∷ queued) history.log
+cut_queued queued m history cut =
     record {
       pieces = λ n f at. (let p = cut.pieces n f at in record { at = at_stays f.place m f.message queued p.at; fresh = p.fresh; some = p.some; within = p.within; first = p.first });
       rows = cut.rows;
       ascends = cut.ascends;
     }
 
-pub counted_flight : (log : List Slot) (first acknowledged : ℕ) (transfer : Option Transfer) → InFlight log first acknowledged transfer → length log ≡ acknowledged + in_flight transfer
-counted_flight log first acknowledged None flight = omega (arith, flight)
-counted_flight log first acknowledged (Some transfer) flight = flight.count
-
--- another direction with the same sender
+pub counted_flight : (history : History) (first acknowledged : ℕ) (transfer : Option Transfer) → InFlight history first acknowledged transfer → length history.log ≡ acknowledged + in_flight transfer
+counted_flight history first acknowledged None flight = omega (arith, flight)
+counted_flight history first acknowledged (Some transfer) flight = flight.count

@@ -1,6 +1,6 @@
 -- One direction of an association, by the relations of the machine: what one side queues and sends, and what the other side receives and
 -- its user reads (RFC 9260, section 6), with interleaving or without (RFC 8260).
-use Rattle.std.specs.Prelude.{◌≡◌, ◌≢◌, ◌<◌, ◌≤◌, ◌+◌, ◌^◌, ℕ, Bool, true, Option, None, Some, List, [], ◌∷◌, ◌++◌, length}
+use Rattle.std.specs.Prelude.{◌≡◌, ◌≢◌, ◌<◌, ◌≤◌, ◌+◌, ◌^◌, ℕ, suc, Bool, true, false, not, Option, None, Some, List, [], ◌∷◌, ◌++◌, length}
 use Rattle.dcsctp_wire.specs.Content.{DataContent, IDataContent, SackContent, data_chunk, i_data_chunk, forward_tsn_chunk, i_forward_tsn_chunk}
 use Rattle.dcsctp_machine.specs.declared.options.Options.{Options}
 use Rattle.dcsctp_machine.specs.Endpoint.{Endpoint}
@@ -17,18 +17,34 @@ use Rattle.dcsctp_machine.specs.transfer.Arrivals.{data_arrival, i_data_arrival,
 use Rattle.dcsctp_machine.specs.transfer.Messages.{MessageContent}
 use Rattle.dcsctp_machine.specs.transfer.Outstanding.{acknowledged_by}
 use Rattle.dcsctp_machine.specs.transfer.Reassembly.{ReassemblyState, new_reassembly, with_ready, deferring, Leaves}
-use Rattle.dcsctp_machine.specs.transfer.Tracker.{TrackerState, new_tracker}
+use Rattle.dcsctp_machine.specs.transfer.Tracker.{TrackerState, new_tracker, cumulative_tsn}
 use Rattle.dcsctp_machine.specs.transfer.Transfer.{Transfer, Below}
 use Rattle.dcsctp_machine.specs.turns.FlushOutcomes.{Answer, FlushAnswers, flush_of}
 use Rattle.dcsctp_machine.specs.turns.MessageOutcomes.{Sending, sending_queued}
 use Rattle.dcsctp_machine.specs.turns.TransferMoves.{ReceivesData, MovesForward, TakesSack, lost_all}
 use Rattle.dcsctp_delivery_sending.specs.Places.{Has}
 use Rattle.dcsctp_delivery_sending.specs.Log.{Fits, Message}
-use Rattle.dcsctp_delivery_sending.specs.Flushes.{NoData}
-use Rattle.dcsctp_delivery_sending.specs.Queueing.{message_of, NumbersGoOn, QueueHolds}
+use Rattle.dcsctp_machine.specs.Reconfiguration.{RequestedReset}
+use Rattle.dcsctp_machine.specs.control.FlushChanges.{reset_request}
+use Rattle.dcsctp_machine.specs.transfer.Numbers.{is_tsn_beyond}
+use Rattle.dcsctp_machine.specs.turns.BegunResets.{BegunReset}
+use Rattle.dcsctp_delivery_sending.specs.Flushes.{NoData, begun_by}
+use Rattle.dcsctp_delivery_sending.specs.Queueing.{message_of, QueueWaits}
+use Rattle.dcsctp_delivery_receiving.specs.Clear.{IsOwn}
 use Rattle.dcsctp_delivery_receiving.specs.Ready.{AreDistinct, WereQueued}
-use Rattle.dcsctp_delivery_sending.specs.Weights.{total}
 use Rattle.std.specs.List.{AllByRecursion}
+
+-- The resets of its streams that a sender asks for (RFC 6525, section 5.1.2).
+pub record Asking : Type 0 where
+  -- the requests that were begun, newest first
+  pub requests : List BegunReset
+  -- how many of them have no end yet, the newest ones
+  pub out : ℕ
+  -- has the receiver performed the newest?
+  pub is_performed : Bool
+
+abbrev pub nothing_asked : Asking
+nothing_asked = record { requests = []; out = 0; is_performed = false }
 
 -- One direction of an association, as both of its ends have it.
 pub record Direction : Type 0 where
@@ -45,6 +61,20 @@ pub record Direction : Type 0 where
   pub reassembly : ReassemblyState
   -- what its user read, oldest first
   pub read : List MessageContent
+  pub asking : Asking
+
+-- once this reset was begun, if one was
+abbrev pub asking_with : Option BegunReset → Asking → Asking
+asking_with None asking = asking
+asking_with (Some begun) asking = record { requests = begun ∷ asking.requests; out = suc asking.out; is_performed = false }
+
+-- once each request has ended
+abbrev pub all_ended : Asking → Asking
+all_ended asking = record asking { out = 0 }
+
+-- Was everything received that was sent before the reset was begun (RFC 6525, section 5.2.2, E2)?
+abbrev pub is_reached : RequestedReset → TrackerState → Bool
+is_reached reset tracker = not (is_tsn_beyond reset.last_tsn (cumulative_tsn tracker))
 
 -- how many TSNs wait to be acknowledged, and how many were assigned
 abbrev pub in_flight : Option Transfer → ℕ
@@ -59,14 +89,20 @@ pub data Step (old : Direction) : Direction → Type 0 where
   -- The user queues a message.
   queues : (now : ℕ) (sending : Sending) → Fits (message_of sending) → 0 < length sending.message.payload
       → Step old (record old { queued = message_of sending ∷ old.queued; below = record old.below { queue = sending_queued now sending old.below.queue } })
-  -- The user sets something, or streams are prepared to be reset; or a reset was performed, so far without interleaving alone, or was not.
+  -- The user sets something, or streams are prepared to be reset; or a reset was performed, or was not. With interleaving it is the only one
+  -- that has no end, and the receiver has performed it.
   sets : (setting : Setting) → Step old (record old { below = record old.below { queue = set_in_queue setting old.below.queue } })
   prepares : (ids : List ℕ) → Step old (record old { below = record old.below { queue = prepared_all ids old.below.queue } })
-  commits : NumbersGoOn old.below.queue → Step old (record old { below = record old.below { queue = queue_committed old.below.queue } })
-  rolls_back : Step old (record old { below = record old.below { queue = queue_rolled_back old.below.queue } })
-  -- A flush, whose first packet holds no data.
+  commits : (old.below.queue.is_interleaved ≡ true → (old.asking.out ≤ 1) × (old.asking.is_performed ≡ true))
+      → Step old (record old { below = record old.below { queue = queue_committed old.below.queue }; asking = all_ended old.asking })
+  rolls_back : Step old (record old { below = record old.below { queue = queue_rolled_back old.below.queue }; asking = all_ended old.asking })
+  -- A flush, whose first packet holds no data. It may begin a reset of streams.
   flushes : (e : Endpoint) (draft : Emission) (answers : List Answer) → e.below ≡ old.below → NoData draft.packet.contents → FlushAnswers e draft answers
-      → Step old (record old { below = (flush_of e draft answers).after.below; sent = old.sent ++ packets_in (flush_of e draft answers).events })
+      → Step old (record old {
+        below = (flush_of e draft answers).after.below;
+        sent = old.sent ++ packets_in (flush_of e draft answers).events;
+        asking = asking_with (begun_by answers) old.asking;
+      })
   -- A fast retransmission.
   resends : (now room : ℕ) (transfer : Transfer) (left : RetransmissionState) (tsns : List ℕ) (chunks : List Plain) (emission : Emission) → old.below.transfer ≡ Some transfer
       → SendsAtOnce now room old.below.queue transfer.retransmission left tsns → AreChunks left.outstanding tsns chunks → emission.packet.contents ≡ plain_contents chunks
@@ -75,8 +111,11 @@ pub data Step (old : Direction) : Direction → Type 0 where
   resends_nothing : (now room : ℕ) (transfer : Transfer) (left : RetransmissionState) (tsns : List ℕ) → old.below.transfer ≡ Some transfer
       → SendsAtOnce now room old.below.queue transfer.retransmission left tsns
       → Step old (record old { below = record old.below { transfer = Some (record transfer { retransmission = left }) } })
-  -- A packet without data.
+  -- A packet without data, and without a request to reset streams.
   speaks : (emission : Emission) → NoData emission.packet.contents → Step old (record old { sent = old.sent ++ emission ∷ [] })
+  -- A request that was begun is sent again.
+  asks_again : (emission : Emission) (begun : BegunReset) → Has begun old.asking.requests → emission.packet.contents ≡ reset_request begun.number begun.reset ∷ []
+      → Step old (record old { sent = old.sent ++ emission ∷ [] })
   -- The sender receives something itself.
   turns_aside : (transfer new : Transfer) → old.below.transfer ≡ Some transfer → new.retransmission ≡ transfer.retransmission
       → Step old (record old { below = record old.below { transfer = Some new } })
@@ -102,6 +141,9 @@ pub data Step (old : Direction) : Direction → Type 0 where
   tracks : (new : TrackerState) → new.cumulative ≡ old.tracker.cumulative → new.ranges ≡ old.tracker.ranges → Step old (record old { tracker = new })
   -- Streams are to be reset once all up to a TSN was received, whichever they are, and whatever it is.
   defers : (last_tsn : ℕ) (streams : List ℕ) → Step old (record old { reassembly = deferring last_tsn streams old.reassembly })
+  -- The newest reset is performed: all that was sent before it was received, and what waits, waits for it.
+  performs : (newest : BegunReset) (earlier : List BegunReset) (new : ReassemblyState) → old.asking.requests ≡ newest ∷ earlier → is_reached newest.reset old.tracker ≡ true → IsOwn newest.reset old.reassembly.deferral
+      → Leaves newest.reset.streams old.reassembly new → Step old (record old { reassembly = new; asking = record old.asking { is_performed = true } })
   -- Streams are reset, whichever.
   resets : (streams : List ℕ) (new : ReassemblyState) → Leaves streams old.reassembly new → Step old (record old { reassembly = new })
   -- Its user reads a message.
@@ -117,13 +159,14 @@ NoneInFlight first is_interleaved (Some transfer) =
 -- An association begins; what was queued before may wait.
 pub record Begins (options : Options) (first size : ℕ) (direction : Direction) : Type 0 where
   pub fit : AllByRecursion Fits direction.queued
-  pub queues : QueueHolds direction.queued [] direction.below.queue
+  pub queues : QueueWaits direction.queued direction.below.queue
   pub flight : NoneInFlight first direction.below.queue.is_interleaved direction.below.transfer
   pub acknowledged : direction.acknowledged ≡ 0
   pub sent : direction.sent ≡ []
   pub tracker : direction.tracker ≡ new_tracker options first
   pub reassembly : direction.reassembly ≡ new_reassembly size
   pub read : direction.read ≡ []
+  pub asking : direction.asking ≡ nothing_asked
 
 -- Its sender has no association yet.
 pub record IsAwaited (direction : Direction) : Type 0 where
@@ -131,13 +174,14 @@ pub record IsAwaited (direction : Direction) : Type 0 where
   pub sent : direction.sent ≡ []
   pub acknowledged : direction.acknowledged ≡ 0
   pub transfer : direction.below.transfer ≡ None
+  pub asking : direction.asking ≡ nothing_asked
 
 -- Every schedule: whatever is received was sent before, once or more often, recently or long ago.
 pub data Run (options : Options) (first size : ℕ) : Direction → Type 0 where
   begins : (direction : Direction) → Begins options first size direction → Run options first size direction
   goes_on : (old direction : Direction) → Run options first size old → Step old direction → Run options first size direction
   -- The sender begins after the receiver.
-  starts : (old : Direction) (queued : List Message) (below : Below) → Run options first size old → IsAwaited old → AllByRecursion Fits queued → QueueHolds queued [] below.queue → NoneInFlight first below.queue.is_interleaved below.transfer
+  starts : (old : Direction) (queued : List Message) (below : Below) → Run options first size old → IsAwaited old → AllByRecursion Fits queued → QueueWaits queued below.queue → NoneInFlight first below.queue.is_interleaved below.transfer
       → Run options first size (record old { queued = queued; below = below })
 
 -- Each message that was read was queued, and none twice.
@@ -151,12 +195,3 @@ abbrev pub DirectionsDeliver : Type 0
 DirectionsDeliver =
     (options : Options) (first size : ℕ) (direction : Direction) → Run options first size direction → first < 2 ^ 32 → assigned direction < 2 ^ 31 → length direction.queued < 2 ^ 64
     → Delivered direction.queued direction.read
-
--- An association assigns at most as many TSNs as bytes and messages were queued, together.
-abbrev pub FewAreAssigned : Type 0
-FewAreAssigned =
-    (options : Options) (first size : ℕ) (direction : Direction) → Run options first size direction → first < 2 ^ 32 → length direction.queued < 2 ^ 64 → assigned direction ≤ total direction.queued
-
--- So it is of every run in which fewer than 2^31 of those were queued since the socket was made.
-abbrev pub SmallDirectionsDeliver : Type 0
-SmallDirectionsDeliver = (options : Options) (first size : ℕ) (direction : Direction) → Run options first size direction → first < 2 ^ 32 → total direction.queued < 2 ^ 31 → Delivered direction.queued direction.read

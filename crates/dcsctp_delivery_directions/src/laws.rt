@@ -1,14 +1,12 @@
 //! The laws of this crate.
 
-ghost use Rattle.dcsctp_delivery_directions.specs.Directions.{DirectionsDeliver, FewAreAssigned, SmallDirectionsDeliver};
+ghost use Rattle.dcsctp_delivery_directions.specs.Directions.{DirectionsDeliver};
 ghost use Rattle.dcsctp_delivery_directions.specs.Marking.{DirectionsDeliverForGood};
 
 /// One direction of an association, over every schedule that loses, repeats, delays and reorders what was sent: each
 /// message that a user reads is one that the other user queued, and none is read twice.
 pub fn directions_deliver()
-    ensures delivered { DirectionsDeliver }
-    ensures counted { FewAreAssigned }
-    ensures small { SmallDirectionsDeliver }
+    ensures { DirectionsDeliver }
 {}
 
 /// What was read no longer waits to be sent, and it wasn't marked as spent. So it may be marked where a later

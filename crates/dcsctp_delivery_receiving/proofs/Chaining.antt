@@ -5,10 +5,19 @@ use Rattle.std.proofs.lemmas.Bool.Decides.{eqb_tells, leb_tells}
 use Rattle.dcsctp_machine.specs.transfer.Numbers.{fragment_place}
 use Rattle.dcsctp_machine.specs.transfer.Runs.{RunModel}
 use Rattle.dcsctp_delivery_sending.specs.Places.{at_place}
-use Rattle.dcsctp_delivery_sending.specs.Log.{Message, Piece, Slot, Cut}
-use Rattle.dcsctp_delivery_sending.specs.Numbers.{Told, plain, interleaved}
+use Rattle.dcsctp_delivery_sending.specs.Log.{Message, Piece, Slot, History, Cut}
+use Rattle.dcsctp_delivery_sending.specs.Numbers.{AreOfKind, Told, plain, interleaved}
 use Rattle.dcsctp_delivery_receiving.specs.Rows.{IsPlaced, PlacedBy, IsRow}
 use Rattle.dcsctp_delivery_sending.proofs.Places.{at_below}
+
+-- All is DATA; or all is I-DATA, and fewer than 2^31 TSNs were assigned.
+pub data OneKind (log : List Slot) : Type 0 where
+  data_alone : AreOfKind false log → OneKind log
+  interleaved_alone : AreOfKind true log → length log < 2 ^ 31 → OneKind log
+
+pub one_kind : (history : History) → Told history → OneKind history.log
+one_kind history (plain kinds) = data_alone kinds
+one_kind history (interleaved kinds few below apart) = interleaved_alone kinds few
 
 -- where a part lies, by whether it is of I-DATA
 pub placed_plain : (base offset : ℕ) (piece : Piece) (number place : ℕ) → piece.is_interleaved ≡ false → IsPlaced base offset piece number place → place ≡ base + offset
@@ -45,7 +54,7 @@ module _ (queued : List Message) (log : List Slot) (cut : Cut queued log) where
             omega (arith, earlier, fsn))
       ]
 
-module _ (queued : List Message) (log : List Slot) (cut : Cut queued log) (told : Told log) (got : List ℕ) (base : ℕ) (Named : Piece → ℕ → Type 0)
+module _ (queued : List Message) (log : List Slot) (cut : Cut queued log) (told : OneKind log) (got : List ℕ) (base : ℕ) (Named : Piece → ℕ → Type 0)
     (tells : (m n : ℕ) (f g : Piece) (number : ℕ) → at_place m log ≡ Some (Some f) → at_place n log ≡ Some (Some g) → f.is_interleaved ≡ true → g.is_interleaved ≡ true → Named f number → Named g number → f.place ≡ g.place) where
   numbers_follow : (fsn other length' front back number : ℕ) → front ≡ fragment_place number (fsn % 2 ^ 32) → back ≡ fragment_place number (other % 2 ^ 32) → back ≡ front + length' → other % 2 ^ 32 ≡ fsn % 2 ^ 32 + length'
   numbers_follow fsn other length' front back number is is' follows = omega (arith, is, is', follows)
@@ -59,12 +68,12 @@ module _ (queued : List Message) (log : List Slot) (cut : Cut queued log) (told 
       below' : b.offset < length log
       below' = at_below b.offset (Some b.head) log b.at_head
 
-      go : Told log → b.offset ≡ f.offset + length front.payloads
-      go (plain kinds) =
+      go : OneKind log → b.offset ≡ f.offset + length front.payloads
+      go (data_alone kinds) =
           let here = placed_plain base f.offset f.head front.number front.first (kinds f.offset f.head f.at_head) f.first in
           let there = placed_plain base b.offset b.head back.number back.first (kinds b.offset b.head b.at_head) b.first in
           omega (arith, here, there, follows)
-      go (interleaved kinds few starts small from under apart) =
+      go (interleaved_alone kinds few) =
           let here = placed_interleaved base f.offset f.head front.number front.first (kinds f.offset f.head f.at_head) f.first in
           let there = placed_interleaved base b.offset b.head back.number back.first (kinds b.offset b.head b.at_head) b.first in
           let there' : back.first ≡ fragment_place front.number (b.head.fsn % 2 ^ 32) = there ∙ ap (λ (k : ℕ). fragment_place k (b.head.fsn % 2 ^ 32)) (sym same) in

@@ -1,4 +1,4 @@
--- What a FORWARD-TSN or I-FORWARD-TSN names, as it is received.
+-- What a FORWARD-TSN or I-FORWARD-TSN skips, as it is received.
 use Rattle.std.proofs.Common.{◌≡◌, ℕ, zero, suc, Bool, true, false, ◌<◌, ◌≤◌, ◌+◌, ◌*◌, ◌/◌, ◌%◌, ◌^◌, List, [], ◌∷◌, ◌++◌, length, take, drop, refl, sym, ◌∙◌, ap, arith, subst}
 use Rattle.std.specs.Prelude.{Some}
 use Rattle.std.specs.Int.{w16, w32, to_be_bytes, from_be_bytes}
@@ -11,28 +11,28 @@ use Rattle.dcsctp_machine.specs.declared.arrivals.SkippedTo.{SkippedTo}
 use Rattle.dcsctp_machine.specs.transfer.Arrivals.{skipped_to, messages_skipped_to, first_skipped, first_messages_skipped, skipped_in, messages_skipped_in}
 use Rattle.dcsctp_machine.specs.transfer.Skipping.{entry_bytes}
 use Rattle.dcsctp_delivery_sending.specs.Places.{at_place}
-use Rattle.dcsctp_delivery_sending.specs.Log.{Message, Piece, Slot, Cut, Fits}
+use Rattle.dcsctp_delivery_sending.specs.Log.{Message, Piece, History, Cut, Fits}
 use Rattle.dcsctp_delivery_sending.specs.Flushes.{IsEntry, AreEntries, IsForward}
-use Rattle.dcsctp_delivery_receiving.specs.Ready.{Names, NameAll}
+use Rattle.dcsctp_delivery_receiving.specs.Ready.{Skips, SkipAll}
 use Rattle.dcsctp_delivery_receiving.proofs.Arriving.{fits_at}
 
-names_append : (log : List Slot) (entries others : List SkippedTo) → NameAll log entries → NameAll log others → NameAll log (entries ++ others)
-names_append log [] others names names' = names'
-names_append log (entry ∷ entries) others names names' = (names.0, names_append log entries others names.1 names')
+skips_append : (history : History) (passed : ℕ) (entries others : List SkippedTo) → SkipAll history passed entries → SkipAll history passed others → SkipAll history passed (entries ++ others)
+skips_append history passed [] others skips skips' = skips'
+skips_append history passed (entry ∷ entries) others skips skips' = (skips.0, skips_append history passed entries others skips.1 skips')
 
 -- ---- FORWARD-TSN
 
-plain_named : (log : List Slot) (number : ℕ) (piece : Piece) → at_place number log ≡ Some (Some piece) → piece.is_interleaved ≡ false → (count : ℕ) (streams : List ℕ) → NameAll log (first_skipped count streams)
-plain_named log number piece at kind zero streams = tt
-plain_named log number piece at kind (suc count) streams =
-    names_append log (first_skipped count streams) (skipped_to (skipped_stream_at count streams) ∷ []) (plain_named log number piece at kind count streams) ((number, piece, at, kind), tt)
+plain_skipped : (history : History) (passed number : ℕ) (piece : Piece) → at_place number history.log ≡ Some (Some piece) → piece.is_interleaved ≡ false → (count : ℕ) (streams : List ℕ) → SkipAll history passed (first_skipped count streams)
+plain_skipped history passed number piece at kind zero streams = tt
+plain_skipped history passed number piece at kind (suc count) streams =
+    skips_append history passed (first_skipped count streams) (skipped_to (skipped_stream_at count streams) ∷ []) (plain_skipped history passed number piece at kind count streams) (record { number = number; piece = piece; at = at; kind = kind }, tt)
 
-pub forward_names : (log : List Slot) (first tsn : ℕ) (streams : List ℕ) → IsForward false log first tsn streams → NameAll log (skipped_in streams)
-forward_names log first tsn streams f = go f.entries f.is f.names
+pub forward_skips : (history : History) (first tsn : ℕ) (streams : List ℕ) → (is : IsForward false history first tsn streams) → SkipAll history is.passed.passed (skipped_in streams)
+forward_skips history first tsn streams f = go f.entries f.is f.names
   where
-    go : (entries : List ((ℕ × Bool) × ℕ)) → streams ≡ flat_map (entry_bytes false) entries → AreEntries false log entries → NameAll log (skipped_in streams)
-    go [] is names = subst (λ (l : List ℕ). NameAll log (skipped_in l)) (sym is) tt
-    go (entry ∷ entries) is names = plain_named log names.0.number names.0.piece names.0.at names.0.kind (length streams / 4) streams
+    go : (entries : List ((ℕ × Bool) × ℕ)) → streams ≡ flat_map (entry_bytes false) entries → AreEntries false history f.passed.passed entries → SkipAll history f.passed.passed (skipped_in streams)
+    go [] is names = subst (λ (l : List ℕ). SkipAll history f.passed.passed (skipped_in l)) (sym is) tt
+    go (entry ∷ entries) is names = plain_skipped history f.passed.passed names.0.number names.0.piece names.0.at names.0.kind (length streams / 4) streams
 
 -- ---- I-FORWARD-TSN
 
@@ -49,39 +49,43 @@ eight_on n k j entry rest is =
     ap (λ (m : ℕ). drop m (entry_bytes true entry ++ rest)) same
 
 -- an entry is read where it stands
-entry_read : (log : List Slot) (queued : List Message) → Cut queued log → AllByRecursion Fits queued → (entries : List ((ℕ × Bool) × ℕ)) → AreEntries true log entries → (k : ℕ) → k < length entries
-    → Names log (messages_skipped_to (skipped_messages_at k (flat_map (entry_bytes true) entries)))
-entry_read log queued cut fit [] names k below = absurd (omega arith)
-entry_read log queued cut fit (entry ∷ entries) names zero below =
-    let e : IsEntry true log entry = names.0 in
+entry_read : (history : History) (passed : ℕ) (queued : List Message) → Cut queued history.log → AllByRecursion Fits queued → (entries : List ((ℕ × Bool) × ℕ)) → AreEntries true history passed entries → (k : ℕ) → k < length entries
+    → Skips history passed (messages_skipped_to (skipped_messages_at k (flat_map (entry_bytes true) entries)))
+entry_read history passed queued cut fit [] names k below = absurd (omega arith)
+entry_read history passed queued cut fit (entry ∷ entries) names zero below =
+    let e : IsEntry true history passed entry = names.0 in
     let fits = fits_at queued e.piece.place e.piece.message fit (cut.pieces e.number e.piece e.at).at in
-    let small : entry.0.0 < 2 ^ 16 = (let of = e.stream in let stream = fits.stream in omega (arith, of, stream)) in (
-      e.number,
-      e.piece,
-      e.at,
-      from_be_bytes-to_be_bytes_2 entry.0.0 small ∙ e.stream,
-      bit_read entry.0.1 ∙ e.unordered,
-      four_read entry.1 ∙ e.mid refl,
-    )
-entry_read log queued cut fit (entry ∷ entries) names (suc k) below =
+    let small : entry.0.0 < 2 ^ 16 = (let of = e.stream in let stream = fits.stream in omega (arith, of, stream)) in
+    record {
+      number = e.number;
+      piece = e.piece;
+      at = e.at;
+      kind = e.kind;
+      stream = from_be_bytes-to_be_bytes_2 entry.0.0 small ∙ e.stream;
+      unordered = bit_read entry.0.1 ∙ e.unordered;
+      is = four_read entry.1 ∙ e.mid refl;
+      within = e.within;
+    }
+entry_read history passed queued cut fit (entry ∷ entries) names (suc k) below =
     let rest : List ℕ = flat_map (entry_bytes true) entries in
-    subst (λ (l : List ℕ). Names log (messages_skipped_to (record { stream_id = from_be_bytes w16 (take 2 l); is_unordered = lowest_bit (u16_at (8 * suc k + 2) (entry_bytes true entry ++ rest)); mid = u32_at (8 * suc k + 4) (entry_bytes true entry ++ rest) }))) (sym (eight_on (8 * suc k) k 0 entry rest (omega arith) ∙ ap (λ (m : ℕ). drop m rest) (omega arith)))
-    (subst (λ (l : List ℕ). Names log (messages_skipped_to (record { stream_id = u16_at (8 * k) rest; is_unordered = lowest_bit (from_be_bytes w16 (take 2 l)); mid = u32_at (8 * suc k + 4) (entry_bytes true entry ++ rest) }))) (sym (eight_on (8 * suc k + 2) k 2 entry rest refl))
-    (subst (λ (l : List ℕ). Names log (messages_skipped_to (record { stream_id = u16_at (8 * k) rest; is_unordered = lowest_bit (u16_at (8 * k + 2) rest); mid = from_be_bytes w32 (take 4 l) }))) (sym (eight_on (8 * suc k + 4) k 4 entry rest refl))
-    (entry_read log queued cut fit entries names.1 k (omega arith))))
+    subst (λ (l : List ℕ). Skips history passed (messages_skipped_to (record { stream_id = from_be_bytes w16 (take 2 l); is_unordered = lowest_bit (u16_at (8 * suc k + 2) (entry_bytes true entry ++ rest)); mid = u32_at (8 * suc k + 4) (entry_bytes true entry ++ rest) }))) (sym (eight_on (8 * suc k) k 0 entry rest (omega arith) ∙ ap (λ (m : ℕ). drop m rest) (omega arith)))
+    (subst (λ (l : List ℕ). Skips history passed (messages_skipped_to (record { stream_id = u16_at (8 * k) rest; is_unordered = lowest_bit (from_be_bytes w16 (take 2 l)); mid = u32_at (8 * suc k + 4) (entry_bytes true entry ++ rest) }))) (sym (eight_on (8 * suc k + 2) k 2 entry rest refl))
+    (subst (λ (l : List ℕ). Skips history passed (messages_skipped_to (record { stream_id = u16_at (8 * k) rest; is_unordered = lowest_bit (u16_at (8 * k + 2) rest); mid = from_be_bytes w32 (take 4 l) }))) (sym (eight_on (8 * suc k + 4) k 4 entry rest refl))
+    (entry_read history passed queued cut fit entries names.1 k (omega arith))))
 
 entries_long : (entries : List ((ℕ × Bool) × ℕ)) → length (flat_map (entry_bytes true) entries) ≡ 8 * length entries
 entries_long [] = refl
 entries_long (entry ∷ entries) = omega (arith, length-append (entry_bytes true entry) (flat_map (entry_bytes true) entries), entries_long entries)
 
-firsts_read : (log : List Slot) (queued : List Message) → Cut queued log → AllByRecursion Fits queued → (entries : List ((ℕ × Bool) × ℕ)) → AreEntries true log entries → (count : ℕ) → count ≤ length entries
-    → NameAll log (first_messages_skipped count (flat_map (entry_bytes true) entries))
-firsts_read log queued cut fit entries names zero within = tt
-firsts_read log queued cut fit entries names (suc count) within =
-    names_append log (first_messages_skipped count (flat_map (entry_bytes true) entries)) (messages_skipped_to (skipped_messages_at count (flat_map (entry_bytes true) entries)) ∷ [])
-    (firsts_read log queued cut fit entries names count (omega arith)) (entry_read log queued cut fit entries names count (omega arith), tt)
+firsts_read : (history : History) (passed : ℕ) (queued : List Message) → Cut queued history.log → AllByRecursion Fits queued → (entries : List ((ℕ × Bool) × ℕ)) → AreEntries true history passed entries → (count : ℕ) → count ≤ length entries
+    → SkipAll history passed (first_messages_skipped count (flat_map (entry_bytes true) entries))
+firsts_read history passed queued cut fit entries names zero within = tt
+firsts_read history passed queued cut fit entries names (suc count) within =
+    skips_append history passed (first_messages_skipped count (flat_map (entry_bytes true) entries)) (messages_skipped_to (skipped_messages_at count (flat_map (entry_bytes true) entries)) ∷ [])
+    (firsts_read history passed queued cut fit entries names count (omega arith)) (entry_read history passed queued cut fit entries names count (omega arith), tt)
 
-pub messages_named : (queued : List Message) (log : List Slot) (first tsn : ℕ) (streams : List ℕ) → Cut queued log → AllByRecursion Fits queued → IsForward true log first tsn streams → NameAll log (messages_skipped_in streams)
-messages_named queued log first tsn streams cut fit f =
-    subst (λ (l : List ℕ). NameAll log (messages_skipped_in l)) (sym f.is)
-    (firsts_read log queued cut fit f.entries f.names (length (flat_map (entry_bytes true) f.entries) / 8) (let long = entries_long f.entries in omega (arith, long)))
+pub messages_skipped : (queued : List Message) (history : History) (first tsn : ℕ) (streams : List ℕ) → Cut queued history.log → AllByRecursion Fits queued → (is : IsForward true history first tsn streams)
+    → SkipAll history is.passed.passed (messages_skipped_in streams)
+messages_skipped queued history first tsn streams cut fit f =
+    subst (λ (l : List ℕ). SkipAll history f.passed.passed (messages_skipped_in l)) (sym f.is)
+    (firsts_read history f.passed.passed queued cut fit f.entries f.names (length (flat_map (entry_bytes true) f.entries) / 8) (let long = entries_long f.entries in omega (arith, long)))

@@ -10,9 +10,15 @@ pub mod Parts
 pub mod Ready
 pub mod Skipping
 pub mod Tracked
+pub mod Current
 pub mod Reassembled
 pub mod Received
 pub mod Taking
+pub mod Continuing
 pub mod Growing
 pub mod Arriving
 pub mod Entries
+pub mod Clear
+pub mod Clearing
+pub mod Raising
+pub mod Upward

@@ -20,23 +20,23 @@ fresh_below mid = grind (arith, nat_tests)
 fresh_same : (mid : ℕ) → number_near (2 ^ 32) (mid % 2 ^ 32) % 2 ^ 32 ≡ mid % 2 ^ 32
 fresh_same mid = grind (arith, nat_tests)
 
-read_at : (start base number mid : ℕ) → start < 2 ^ 32 → start ≤ mid → mid < start + 2 ^ 31 → base % 2 ^ 32 ≡ start % 2 ^ 32 → base + 2 ^ 33 < 2 ^ 64 → base ≤ number → number ≤ base + 2 ^ 31
+read_at : (start base number mid : ℕ) → start ≤ mid → mid < start + 2 ^ 31 → base % 2 ^ 32 ≡ start % 2 ^ 32 → base + 2 ^ 33 < 2 ^ 64 → base ≤ number → number ≤ base + 2 ^ 31
     → number_near number (mid % 2 ^ 32) ≡ base + (mid - start)
-read_at start base number mid small from below same room low high =
+read_at start base number mid from below same room low high =
     let here : base + (number - base) ≡ number = omega arith in
     let there : (base + (mid - start)) % 2 ^ 32 ≡ mid % 2 ^ 32 = omega arith in
     let exact = near_exact base (number - base) (mid - start) (omega arith) (omega arith) room in
     ap (λ (k : ℕ). number_near k (mid % 2 ^ 32)) (sym here) ∙ ap (number_near (base + (number - base))) (sym there) ∙ exact
 
 -- the base, where no message was received yet
-fresh_base : (start mid number : ℕ) → start < 2 ^ 32 → start ≤ mid → mid < start + 2 ^ 31 → 2 ^ 31 ≤ number → number % 2 ^ 32 ≡ mid % 2 ^ 32 → (number - (mid - start)) % 2 ^ 32 ≡ start % 2 ^ 32
-fresh_base start mid number small from below up same = omega (arith, same, up, from, below)
+fresh_base : (start mid number : ℕ) → start ≤ mid → mid < start + 2 ^ 31 → 2 ^ 31 ≤ number → number % 2 ^ 32 ≡ mid % 2 ^ 32 → (number - (mid - start)) % 2 ^ 32 ≡ start % 2 ^ 32
+fresh_base start mid number from below up same = omega (arith, same, up, from, below)
 
-module _ (start mid number : ℕ) (small : start < 2 ^ 32) (from : start ≤ mid) (below : mid < start + 2 ^ 31) where
+module _ (start mid number : ℕ) (from : start ≤ mid) (below : mid < start + 2 ^ 31) where
   -- the number that is read agrees with the MID
   pub near_read : IsNear start number → number_near number (mid % 2 ^ 32) % 2 ^ 32 ≡ mid % 2 ^ 32
   near_read (fresh is) = ap (λ (k : ℕ). number_near k (mid % 2 ^ 32) % 2 ^ 32) is ∙ fresh_same mid
-  near_read (near base same room low high) = (let read = read_at start base number mid small from below same room low high in omega (arith, read, same))
+  near_read (near base same room low high) = (let read = read_at start base number mid from below same room low high in omega (arith, read, same))
 
   -- and is near
   pub near_moves : IsNear start number → IsNear start (number_near number (mid % 2 ^ 32))
@@ -45,9 +45,9 @@ module _ (start mid number : ℕ) (small : start < 2 ^ 32) (from : start ≤ mid
       let up = fresh_up mid in
       let high = fresh_below mid in
       subst (λ (k : ℕ). IsNear start (number_near k (mid % 2 ^ 32))) (sym is)
-      (near (now - (mid - start)) (fresh_base start mid now small from below up (fresh_same mid)) (omega (arith, high)) (omega arith) (omega (arith, up)))
+      (near (now - (mid - start)) (fresh_base start mid now from below up (fresh_same mid)) (omega (arith, high)) (omega arith) (omega (arith, up)))
   near_moves (near base same room low high) =
-      let read = read_at start base number mid small from below same room low high in
+      let read = read_at start base number mid from below same room low high in
       near base same room (omega (arith, read)) (omega (arith, read))
 
   -- so is the number after it
@@ -73,8 +73,8 @@ module _ (start mid number : ℕ) (small : start < 2 ^ 32) (from : start ≤ mid
             (let more : 2 ^ 32 < now + 1 = e.1 in
             let past : next_past now (2 ^ 32) ≡ now + 1 = omega (arith, more, high) in
             subst (λ (k : ℕ). IsNear start k) (sym past)
-            (near (now - (mid - start)) (fresh_base start mid now small from below up (fresh_same mid)) (omega (arith, high)) (omega arith) (omega (arith, up))))
+            (near (now - (mid - start)) (fresh_base start mid now from below up (fresh_same mid)) (omega (arith, high)) (omega arith) (omega (arith, up))))
       ])
   near_past (near base same room low high) =
-      let read = read_at start base number mid small from below same room low high in
+      let read = read_at start base number mid from below same room low high in
       near base same room (omega (arith, read)) (omega (arith, read))

@@ -1,17 +1,17 @@
 -- The part out of a chunk that carries its piece.
-use Rattle.std.proofs.Common.{◌≡◌, ℕ, ◌%◌, ◌^◌, Bool, true, false, List, sym, ap, subst}
+use Rattle.std.proofs.Common.{◌≡◌, ℕ, ◌%◌, ◌^◌, Bool, true, false, sym, ap, subst}
 use Rattle.dcsctp_machine.specs.transfer.Numbers.{number_near, fragment_place}
 use Rattle.dcsctp_machine.specs.transfer.IncomingStreams.{ChunkModel, data_part}
-use Rattle.dcsctp_delivery_sending.specs.Log.{Piece, Slot}
+use Rattle.dcsctp_delivery_sending.specs.Log.{Piece, History}
 use Rattle.dcsctp_delivery_receiving.specs.Rows.{PlacedBy, IsPlaced, IsPart}
 use Rattle.dcsctp_delivery_receiving.specs.Ready.{IsNumberedAs, Reads, BearsPiece}
 use Rattle.dcsctp_delivery_receiving.proofs.Reading.{reads_moved, reads_agree}
 use Rattle.dcsctp_delivery_sending.specs.Numbers.{Told}
 
-module _ (log : List Slot) (base : ℕ) where
+module _ (history : History) (base : ℕ) where
   -- the part out of a chunk
-  abbrev pub part_of : (Named : Piece → ℕ → Type 0) (tsn_number place number : ℕ) (chunk : ChunkModel) (bears : BearsPiece log base tsn_number chunk) → IsPlaced base bears.offset bears.piece number place → Named bears.piece number
-      → IsPart log base Named (data_part chunk place number)
+  abbrev pub part_of : (Named : Piece → ℕ → Type 0) (tsn_number place number : ℕ) (chunk : ChunkModel) (bears : BearsPiece history base tsn_number chunk) → IsPlaced base bears.offset bears.piece number place → Named bears.piece number
+      → IsPart history.log base Named (data_part chunk place number)
   part_of Named tsn_number place number chunk bears placed named =
       record {
         offset = bears.offset;
@@ -26,20 +26,24 @@ module _ (log : List Slot) (base : ℕ) where
       }
 
   -- one of DATA
-  pub plain_placed : (tsn_number number : ℕ) (chunk : ChunkModel) (bears : BearsPiece log base tsn_number chunk) → bears.piece.is_interleaved ≡ false → IsPlaced base bears.offset bears.piece number tsn_number
+  pub plain_placed : (tsn_number number : ℕ) (chunk : ChunkModel) (bears : BearsPiece history base tsn_number chunk) → bears.piece.is_interleaved ≡ false → IsPlaced base bears.offset bears.piece number tsn_number
   plain_placed tsn_number number chunk bears kind = subst (λ (b : Bool). PlacedBy b base bears.offset bears.piece.fsn number tsn_number) (sym kind) bears.number
 
   -- one of I-DATA
-  pub apart_placed : (tsn_number number fsn : ℕ) (chunk : ChunkModel) (bears : BearsPiece log base tsn_number chunk) → bears.piece.is_interleaved ≡ true → fsn ≡ bears.piece.fsn % 2 ^ 32
+  pub apart_placed : (tsn_number number fsn : ℕ) (chunk : ChunkModel) (bears : BearsPiece history base tsn_number chunk) → bears.piece.is_interleaved ≡ true → fsn ≡ bears.piece.fsn % 2 ^ 32
       → IsPlaced base bears.offset bears.piece number (fragment_place number fsn)
   apart_placed tsn_number number fsn chunk bears kind is =
       subst (λ (b : Bool). PlacedBy b base bears.offset bears.piece.fsn number (fragment_place number fsn)) (sym kind) (ap (fragment_place number) is)
 
-module _ (log : List Slot) (base : ℕ) (told : Told log) where
+module _ (history : History) (base : ℕ) (told : Told history) where
   -- the number of a piece of I-DATA is read right
-  pub named_so : (tsn_number mid : ℕ) (is_unordered : Bool) (chunk : ChunkModel) (bears : BearsPiece log base tsn_number chunk) (number : ℕ) → bears.piece.is_interleaved ≡ true → bears.piece.message.is_unordered ≡ is_unordered
-      → mid ≡ bears.piece.mid % 2 ^ 32 → Reads log chunk.stream is_unordered number → IsNumberedAs is_unordered bears.piece (number_near number mid) × Reads log chunk.stream is_unordered (number_near number mid)
+  pub named_so : (tsn_number mid : ℕ) (is_unordered : Bool) (chunk : ChunkModel) (bears : BearsPiece history base tsn_number chunk) (number : ℕ) → bears.piece.is_interleaved ≡ true → bears.piece.message.is_unordered ≡ is_unordered
+      → mid ≡ bears.piece.mid % 2 ^ 32 → Reads history chunk.stream is_unordered number → IsNumberedAs history is_unordered bears.piece (number_near number mid) × Reads history chunk.stream is_unordered (number_near number mid)
   named_so tsn_number mid is_unordered chunk bears number kind unordered is reads = (
-    λ i. (unordered, subst (λ (k : ℕ). number_near number k % 2 ^ 32 ≡ bears.piece.mid % 2 ^ 32) (sym is) (reads_agree log chunk.stream is_unordered bears.offset bears.piece bears.at (sym bears.stream) unordered number reads told kind)),
-    subst (λ (k : ℕ). Reads log chunk.stream is_unordered (number_near number k)) (sym is) (reads_moved log chunk.stream is_unordered bears.offset bears.piece bears.at (sym bears.stream) unordered number reads),
+    λ i. (
+      unordered,
+      subst (λ (k : ℕ). number_near number k % 2 ^ 32 ≡ bears.piece.mid % 2 ^ 32) (sym is) (reads_agree history chunk.stream is_unordered bears.offset bears.piece bears.at (sym bears.stream) unordered (bears.current kind) number reads told kind),
+      bears.current kind,
+    ),
+    subst (λ (k : ℕ). Reads history chunk.stream is_unordered (number_near number k)) (sym is) (reads_moved history chunk.stream is_unordered bears.offset bears.piece bears.at (sym bears.stream) unordered (bears.current kind) number reads),
   )

@@ -1,5 +1,5 @@
 -- A DATA chunk and a FORWARD-TSN, with the tracker.
-use Rattle.std.proofs.Common.{◌≡◌, ℕ, Bool, true, false, List, [], ◌∷◌, ◌++◌, length, refl, sym, ◌∙◌, ap, subst, inl, inr}
+use Rattle.std.proofs.Common.{◌≡◌, ℕ, Bool, true, false, ◌<◌, ◌≤◌, ◌+◌, ◌%◌, ◌^◌, List, [], ◌∷◌, ◌++◌, length, refl, sym, ◌∙◌, ap, subst, inl, inr}
 use Rattle.std.specs.Prelude.{◌&&◌, not, if◌then◌else◌, Option, Some}
 use Rattle.std.proofs.lemmas.List.{append-nil}
 use Rattle.dcsctp_machine.specs.declared.arrivals.SkippedTo.{SkippedTo}
@@ -10,28 +10,29 @@ use Rattle.dcsctp_machine.specs.transfer.Tracker.{TrackerState, is_new_tsn, obse
 use Rattle.dcsctp_machine.specs.transfer.Transfer.{Transfer}
 use Rattle.dcsctp_machine.specs.turns.TransferMoves.{AddsWhere, ReceivesWhere, SkipsWhere, GoesForward, MovesWhere, ReceivesData, MovesForward, TakesData as TakesArrival}
 use Rattle.dcsctp_delivery_sending.specs.Places.{Has}
-use Rattle.dcsctp_delivery_sending.specs.Log.{Message, Slot, Cut}
-use Rattle.dcsctp_delivery_receiving.specs.Ready.{AreDistinct, NameAll}
+use Rattle.dcsctp_delivery_sending.specs.Log.{Message, History, Cut}
+use Rattle.dcsctp_delivery_receiving.specs.Ready.{AreDistinct, SkipAll}
 use Rattle.dcsctp_delivery_sending.specs.Numbers.{Told}
 use Rattle.dcsctp_delivery_receiving.specs.Tracked.{Tracks}
-use Rattle.dcsctp_delivery_receiving.specs.Received.{Carries, IsTsn, Defers, Received, Few}
+use Rattle.dcsctp_delivery_receiving.specs.Received.{Carries, CarriesCurrent, IsTsn, SkipsTo, WaitBeyond, Defers, Received, Few}
 use Rattle.dcsctp_delivery_sending.proofs.Places.{at_below}
 use Rattle.dcsctp_delivery_receiving.proofs.Distinct.{has_either, distinct_with}
-use Rattle.dcsctp_delivery_receiving.proofs.Tracked.{new_is_new, passing_keeps}
-use Rattle.dcsctp_delivery_receiving.proofs.Reassembled.{waiting_forward, forward_handled, waiting_data, data_handled}
+use Rattle.dcsctp_delivery_receiving.proofs.Tracked.{new_is_new, passing_keeps, observed_up, forward_up, new_beyond, forward_beyond}
+use Rattle.dcsctp_delivery_receiving.proofs.Current.{past_kept, carries_current, skips_to}
+use Rattle.dcsctp_delivery_receiving.proofs.Reassembled.{waiting_forward, forward_handled, waiting_data, data_handled, waiting_beyond, forward_waits_beyond}
 
-module _ (queued : List Message) (log : List Slot) (first : ℕ) (cut : Cut queued log) (told : Told log) (f : Few log first) (read : List ℕ) where
+module _ (queued : List Message) (history : History) (first : ℕ) (cut : Cut queued history.log) (told : Told history) (f : Few history first) (read : List ℕ) where
   -- a chunk whose TSN is new
-  added : (offset tsn : ℕ) (chunk : ChunkModel) (tracker now : TrackerState) (old new : ReassemblyState) → Carries log first offset tsn chunk → (r : Received queued log first read tracker old)
-      → Tracks first (length log) (offset ∷ r.taken) now → (Has offset r.taken → ⊥) → AddsData tsn chunk old new → Received queued log first read now new
-  added offset tsn chunk tracker now old new c r tracks fresh adds = go (can_count (length chunk.payload) old) refl (is_deferred tsn chunk.stream old.deferral) refl
+  added : (offset tsn : ℕ) (chunk : ChunkModel) (tracker now : TrackerState) (old new : ReassemblyState) → CarriesCurrent history first offset tsn chunk → (r : Received queued history first read tracker old)
+      → tracker.cumulative ≤ now.cumulative → Tracks first (length history.log) (offset ∷ r.taken) now → (Has offset r.taken → ⊥) → AddsData tsn chunk old new → Received queued history first read now new
+  added offset tsn chunk tracker now old new c r up tracks fresh adds = go (can_count (length chunk.payload) old) refl (is_deferred tsn chunk.stream old.deferral) refl
     where
       unhandled : Has offset r.got → ⊥
       unhandled h = fresh (r.got_taken offset h)
 
-      go : (counts : Bool) → can_count (length chunk.payload) old ≡ counts → (waits : Bool) → is_deferred tsn chunk.stream old.deferral ≡ waits → Received queued log first read now new
+      go : (counts : Bool) → can_count (length chunk.payload) old ≡ counts → (waits : Bool) → is_deferred tsn chunk.stream old.deferral ≡ waits → Received queued history first read now new
       go false counts waits deferred =
-          subst (λ (s : ReassemblyState). Received queued log first read now s) (sym (adds.too_much counts))
+          subst (λ (s : ReassemblyState). Received queued history first read now s) (sym (adds.too_much counts))
           (record {
             taken = offset ∷ r.taken;
             got = r.got;
@@ -43,9 +44,11 @@ module _ (queued : List Message) (log : List Slot) (first : ℕ) (cut : Cut queu
             distinct = r.distinct;
             holds = r.holds;
             defers = r.defers;
+            beyond = r.beyond;
+            old = past_kept history first tracker.cumulative now.cumulative up r.old;
           })
       go true counts true deferred =
-          subst (λ (s : ReassemblyState). Received queued log first read now s) (sym (adds.deferred counts deferred))
+          subst (λ (s : ReassemblyState). Received queued history first read now s) (sym (adds.deferred counts deferred))
           (record {
             taken = offset ∷ r.taken;
             got = r.got;
@@ -63,7 +66,9 @@ module _ (queued : List Message) (log : List Slot) (first : ℕ) (cut : Cut queu
             distinct = distinct_with offset r.later [] (subst (λ (l : List ℕ). AreDistinct l) (sym (append-nil r.later)) r.distinct)
                 (λ h. fresh (r.later_taken offset (subst (λ (l : List ℕ). Has offset l) (append-nil r.later) h)));
             holds = r.holds;
-            defers = waiting_data log first offset tsn chunk r.later old.deferral deferred c r.defers;
+            defers = waiting_data history first offset tsn chunk r.later old.deferral deferred c r.defers;
+            beyond = waiting_beyond tsn chunk old.deferral deferred r.beyond;
+            old = past_kept history first tracker.cumulative now.cumulative up r.old;
           })
       go true counts false deferred =
           let takes = adds.taken counts deferred in
@@ -76,63 +81,87 @@ module _ (queued : List Message) (log : List Slot) (first : ℕ) (cut : Cut queu
             later_taken = λ k h. inr (r.later_taken k h);
             apart = λ k h g. elim g [ inl e ↦ fresh (r.later_taken offset (subst (λ (j : ℕ). Has j r.later) e h)) | inr t ↦ r.apart k h t ];
             distinct = r.distinct;
-            holds = data_handled queued log first cut told f read r.got offset tsn chunk old.incoming new.incoming c unhandled r.holds takes.incoming;
-            defers = subst (λ (d : Option DeferralModel). Defers log first r.later (actions_of d)) (sym takes.deferral) r.defers;
+            holds = data_handled queued history first cut told f read r.got offset tsn chunk old.incoming new.incoming c unhandled r.holds takes.incoming;
+            defers = subst (λ (d : Option DeferralModel). Defers history first r.later (actions_of d)) (sym takes.deferral) r.defers;
+            beyond = subst (λ (d : Option DeferralModel). WaitBeyond d) (sym takes.deferral) r.beyond;
+            old = past_kept history first tracker.cumulative now.cumulative up r.old;
           }
 
   -- the tracker moves alone
-  tracked_on : (tracker now : TrackerState) (reassembly : ReassemblyState) (r : Received queued log first read tracker reassembly) (offset : ℕ) → Tracks first (length log) (offset ∷ r.taken) now → Received queued log first read now reassembly
-  tracked_on tracker now reassembly r offset tracks =
+  tracked_on : (tracker now : TrackerState) (reassembly : ReassemblyState) (r : Received queued history first read tracker reassembly) (taken : List ℕ) → ((k : ℕ) → Has k r.taken → Has k taken) → tracker.cumulative ≤ now.cumulative
+      → Tracks first (length history.log) taken now → Received queued history first read now reassembly
+  tracked_on tracker now reassembly r taken among up tracks =
       record {
-        taken = offset ∷ r.taken;
+        taken = taken;
         got = r.got;
         later = r.later;
         tracks = tracks;
-        got_taken = λ k h. inr (r.got_taken k h);
-        later_taken = λ k h. inr (r.later_taken k h);
+        got_taken = λ k h. among k (r.got_taken k h);
+        later_taken = λ k h. among k (r.later_taken k h);
         apart = r.apart;
         distinct = r.distinct;
         holds = r.holds;
         defers = r.defers;
+        beyond = r.beyond;
+        old = past_kept history first tracker.cumulative now.cumulative up r.old;
       }
 
-  taken_keeps : (offset : ℕ) (arrival : Arrival) (old new : Transfer) → Carries log first offset arrival.tsn arrival.chunk → Received queued log first read old.tracker old.reassembly → TakesArrival arrival old new
-      → Received queued log first read new.tracker new.reassembly
+  taken_keeps : (offset : ℕ) (arrival : Arrival) (old new : Transfer) → Carries history.log first offset arrival.tsn arrival.chunk → Received queued history first read old.tracker old.reassembly → TakesArrival arrival old new
+      → Received queued history first read new.tracker new.reassembly
   taken_keeps offset arrival old new c r takes =
-      let told = new_is_new first (length log) offset arrival.immediate_ack r.taken old.tracker f.small f.few (at_below offset (Some c.piece) log c.at) r.tracks in
-      let tracks : Tracks first (length log) (offset ∷ r.taken) (observed arrival.tsn arrival.immediate_ack old.tracker) =
-      subst (λ (t : ℕ). Tracks first (length log) (offset ∷ r.taken) (observed t arrival.immediate_ack old.tracker)) (sym c.is) told.0 in
-      subst (λ (t : TrackerState). Received queued log first read t new.reassembly) (sym (ap (λ (t : Transfer). t.tracker) takes.rest))
-      (go (is_new_tsn arrival.tsn old.tracker) refl tracks (λ new_tsn. told.1 (subst (λ (t : ℕ). is_new_tsn t old.tracker ≡ true) c.is new_tsn)) takes.reassembly)
+      subst (λ (t : TrackerState). Received queued history first read t new.reassembly) (sym (ap (λ (t : Transfer). t.tracker) takes.rest)) (go (is_new_tsn arrival.tsn old.tracker) refl takes.reassembly)
     where
-      go : (b : Bool) → is_new_tsn arrival.tsn old.tracker ≡ b → Tracks first (length log) (offset ∷ r.taken) (observed arrival.tsn arrival.immediate_ack old.tracker)
-          → (is_new_tsn arrival.tsn old.tracker ≡ true → Has offset r.taken → ⊥) → AddsWhere b arrival.tsn arrival.chunk old.reassembly new.reassembly
-          → Received queued log first read (observed arrival.tsn arrival.immediate_ack old.tracker) new.reassembly
-      go true is tracks fresh adds = added offset arrival.tsn arrival.chunk old.tracker (observed arrival.tsn arrival.immediate_ack old.tracker) old.reassembly new.reassembly c r tracks (fresh is) adds
-      go false is tracks fresh adds =
-          subst (λ (s : ReassemblyState). Received queued log first read (observed arrival.tsn arrival.immediate_ack old.tracker) s) (sym adds)
-          (tracked_on old.tracker (observed arrival.tsn arrival.immediate_ack old.tracker) old.reassembly r offset tracks)
+      now : TrackerState
+      now = observed arrival.tsn arrival.immediate_ack old.tracker
 
-  same_transfer : (old new : Transfer) → new ≡ old → Received queued log first read old.tracker old.reassembly → Received queued log first read new.tracker new.reassembly
-  same_transfer old new same r = subst (λ (t : Transfer). Received queued log first read t.tracker t.reassembly) (sym same) r
+      below : offset < length history.log
+      below = at_below offset (Some c.piece) history.log c.at
 
-  pub receiving_keeps : (offset : ℕ) (arrival : Arrival) (old new : Transfer) → Carries log first offset arrival.tsn arrival.chunk → Received queued log first read old.tracker old.reassembly → ReceivesData arrival old new
-      → Received queued log first read new.tracker new.reassembly
+      up : old.tracker.cumulative ≤ now.cumulative
+      up = observed_up arrival.tsn arrival.immediate_ack old.tracker r.tracks.beyond
+
+      tracks : Tracks first (length history.log) (offset ∷ r.taken) now
+      tracks =
+          subst (λ (t : ℕ). Tracks first (length history.log) (offset ∷ r.taken) (observed t arrival.immediate_ack old.tracker)) (sym c.is)
+          (new_is_new first (length history.log) offset arrival.immediate_ack r.taken old.tracker f.small f.few below r.tracks).0
+
+      by_offset : is_new_tsn arrival.tsn old.tracker ≡ true → is_new_tsn ((first + offset) % 2 ^ 32) old.tracker ≡ true
+      by_offset is = subst (λ (t : ℕ). is_new_tsn t old.tracker ≡ true) c.is is
+
+      fresh : is_new_tsn arrival.tsn old.tracker ≡ true → Has offset r.taken → ⊥
+      fresh is = (new_is_new first (length history.log) offset arrival.immediate_ack r.taken old.tracker f.small f.few below r.tracks).1 (by_offset is)
+
+      -- a piece whose TSN is new was sent since the last reset of its stream
+      current : is_new_tsn arrival.tsn old.tracker ≡ true → CarriesCurrent history first offset arrival.tsn arrival.chunk
+      current is =
+          carries_current history first old.tracker.cumulative r.old offset arrival.tsn arrival.chunk
+          (new_beyond first (length history.log) offset r.taken old.tracker f.small f.few below r.tracks (by_offset is)) c
+
+      go : (b : Bool) → is_new_tsn arrival.tsn old.tracker ≡ b → AddsWhere b arrival.tsn arrival.chunk old.reassembly new.reassembly
+          → Received queued history first read (observed arrival.tsn arrival.immediate_ack old.tracker) new.reassembly
+      go true is adds = added offset arrival.tsn arrival.chunk old.tracker now old.reassembly new.reassembly (current is) r up tracks (fresh is) adds
+      go false is adds = subst (λ (s : ReassemblyState). Received queued history first read now s) (sym adds) (tracked_on old.tracker now old.reassembly r (offset ∷ r.taken) (λ k h. inr h) up tracks)
+
+  same_transfer : (old new : Transfer) → new ≡ old → Received queued history first read old.tracker old.reassembly → Received queued history first read new.tracker new.reassembly
+  same_transfer old new same r = subst (λ (t : Transfer). Received queued history first read t.tracker t.reassembly) (sym same) r
+
+  pub receiving_keeps : (offset : ℕ) (arrival : Arrival) (old new : Transfer) → Carries history.log first offset arrival.tsn arrival.chunk → Received queued history first read old.tracker old.reassembly → ReceivesData arrival old new
+      → Received queued history first read new.tracker new.reassembly
   receiving_keeps offset arrival old new c r receives = go (not (is_above_watermark old.reassembly) && is_valid_tsn old.tracker.cumulative arrival.tsn) receives
     where
-      go : (b : Bool) → ReceivesWhere b arrival old new → Received queued log first read new.tracker new.reassembly
+      go : (b : Bool) → ReceivesWhere b arrival old new → Received queued history first read new.tracker new.reassembly
       go true takes = taken_keeps offset arrival old new c r takes
       go false same = same_transfer old new same r
 
   -- ---- a FORWARD-TSN
 
-  skipped_keeps : (tsn : ℕ) (entries : List SkippedTo) (tracker now : TrackerState) (old new : ReassemblyState) → IsTsn log first tsn → NameAll log entries → (r : Received queued log first read tracker old) → Tracks first (length log) r.taken now
-      → SkipsData tsn entries old new → Received queued log first read now new
-  skipped_keeps tsn entries tracker now old new t names r tracks skips = go (is_forward_deferred tsn old.deferral) refl
+  skipped_keeps : (tsn : ℕ) (entries : List SkippedTo) (tracker now : TrackerState) (old new : ReassemblyState) → SkipsTo history first tsn entries → (r : Received queued history first read tracker old) → tracker.cumulative ≤ now.cumulative
+      → Tracks first (length history.log) r.taken now → SkipsData tsn entries old new → Received queued history first read now new
+  skipped_keeps tsn entries tracker now old new skips_to' r up tracks skips = go (is_forward_deferred tsn old.deferral) refl
     where
-      go : (b : Bool) → is_forward_deferred tsn old.deferral ≡ b → Received queued log first read now new
+      go : (b : Bool) → is_forward_deferred tsn old.deferral ≡ b → Received queued history first read now new
       go true is =
-          subst (λ (s : ReassemblyState). Received queued log first read now s) (sym (skips.deferred is))
+          subst (λ (s : ReassemblyState). Received queued history first read now s) (sym (skips.deferred is))
           (record {
             taken = r.taken;
             got = r.got;
@@ -143,7 +172,9 @@ module _ (queued : List Message) (log : List Slot) (first : ℕ) (cut : Cut queu
             apart = r.apart;
             distinct = r.distinct;
             holds = r.holds;
-            defers = waiting_forward log first tsn entries r.later old.deferral is t names r.defers;
+            defers = waiting_forward history first tsn entries r.later old.deferral is skips_to' r.defers;
+            beyond = forward_waits_beyond tsn entries old.deferral is r.beyond;
+            old = past_kept history first tracker.cumulative now.cumulative up r.old;
           })
       go false is =
           let moved = skips.moved is in
@@ -156,54 +187,51 @@ module _ (queued : List Message) (log : List Slot) (first : ℕ) (cut : Cut queu
             later_taken = r.later_taken;
             apart = r.apart;
             distinct = r.distinct;
-            holds = forward_handled queued log first cut told f read r.got tsn entries old.incoming new.incoming t names r.holds moved.incoming;
-            defers = subst (λ (d : Option DeferralModel). Defers log first r.later (actions_of d)) (sym moved.deferral) r.defers;
+            holds = forward_handled queued history first cut told f read r.got tsn entries old.incoming new.incoming skips_to' r.holds moved.incoming;
+            defers = subst (λ (d : Option DeferralModel). Defers history first r.later (actions_of d)) (sym moved.deferral) r.defers;
+            beyond = subst (λ (d : Option DeferralModel). WaitBeyond d) (sym moved.deferral) r.beyond;
+            old = past_kept history first tracker.cumulative now.cumulative up r.old;
           }
 
-  delayed_tracks : (taken : List ℕ) (tracker : TrackerState) → Tracks first (length log) taken tracker → Tracks first (length log) taken (delay_over tracker)
+  delayed_tracks : (taken : List ℕ) (tracker : TrackerState) → Tracks first (length history.log) taken tracker → Tracks first (length history.log) taken (delay_over tracker)
   delayed_tracks taken tracker tracks = record { beyond = tracks.beyond; reached = tracks.reached; started = tracks.started; sent = tracks.sent; received = tracks.received }
 
-  with_tracks : (tracker now : TrackerState) (reassembly : ReassemblyState) (r : Received queued log first read tracker reassembly) → Tracks first (length log) r.taken now → Received queued log first read now reassembly
-  with_tracks tracker now reassembly r tracks =
-      record {
-        taken = r.taken;
-        got = r.got;
-        later = r.later;
-        tracks = tracks;
-        got_taken = r.got_taken;
-        later_taken = r.later_taken;
-        apart = r.apart;
-        distinct = r.distinct;
-        holds = r.holds;
-        defers = r.defers;
-      }
-
-  gone_forward : (tsn : ℕ) (entries : List SkippedTo) (old new : Transfer) → IsTsn log first tsn → NameAll log entries → Received queued log first read old.tracker old.reassembly → GoesForward tsn entries old new
-      → Received queued log first read new.tracker new.reassembly
-  gone_forward tsn entries old new t names r goes =
-      subst (λ (k : TrackerState). Received queued log first read k new.reassembly) (sym (ap (λ (k : Transfer). k.tracker) goes.rest)) (go (is_forward old.tracker.cumulative tsn) refl goes.reassembly)
+  gone_forward : (tsn : ℕ) (entries : List SkippedTo) (old new : Transfer) → (t : IsTsn history.log first tsn) → SkipAll history (t.offset + 1) entries → Received queued history first read old.tracker old.reassembly → GoesForward tsn entries old new
+      → Received queued history first read new.tracker new.reassembly
+  gone_forward tsn entries old new t skip r goes =
+      subst (λ (k : TrackerState). Received queued history first read k new.reassembly) (sym (ap (λ (k : Transfer). k.tracker) goes.rest)) (go (is_forward old.tracker.cumulative tsn) refl goes.reassembly)
     where
-      passed : is_forward old.tracker.cumulative tsn ≡ true → Tracks first (length log) r.taken (after_forward tsn old.tracker)
+      by_offset : is_forward old.tracker.cumulative tsn ≡ true → is_forward old.tracker.cumulative ((first + t.offset) % 2 ^ 32) ≡ true
+      by_offset is = subst (λ (n : ℕ). is_forward old.tracker.cumulative n ≡ true) t.is is
+
+      passed : is_forward old.tracker.cumulative tsn ≡ true → Tracks first (length history.log) r.taken (after_forward tsn old.tracker)
       passed is =
-          subst (λ (n : ℕ). Tracks first (length log) r.taken (after_forward n old.tracker)) (sym t.is)
-          (passing_keeps first (length log) t.offset r.taken old.tracker f.small f.few t.below r.tracks (subst (λ (n : ℕ). is_forward old.tracker.cumulative n ≡ true) t.is is))
+          subst (λ (n : ℕ). Tracks first (length history.log) r.taken (after_forward n old.tracker)) (sym t.is)
+          (passing_keeps first (length history.log) t.offset r.taken old.tracker f.small f.few t.below r.tracks (by_offset is))
+
+      up : old.tracker.cumulative ≤ (after_forward tsn old.tracker).cumulative
+      up = forward_up tsn old.tracker r.tracks.beyond
+
+      -- where the cumulative TSN moves, each message that is skipped was sent since the last reset of its stream
+      current : is_forward old.tracker.cumulative tsn ≡ true → SkipsTo history first tsn entries
+      current is =
+          skips_to history first old.tracker.cumulative r.old tsn entries t
+          (forward_beyond first (length history.log) t.offset r.taken old.tracker f.small f.few t.below r.tracks (by_offset is)) skip
 
       not_passed : (b : Bool) → is_forward old.tracker.cumulative tsn ≡ b → b ≡ false → after_forward tsn old.tracker ≡ delay_over old.tracker
       not_passed b is clear = subst (λ (c : Bool). (if c then moved_forward tsn old.tracker else delay_over old.tracker) ≡ delay_over old.tracker) (sym (is ∙ clear)) refl
 
-      go : (b : Bool) → is_forward old.tracker.cumulative tsn ≡ b → SkipsWhere b tsn entries old.reassembly new.reassembly → Received queued log first read (after_forward tsn old.tracker) new.reassembly
-      go true is skips = skipped_keeps tsn entries old.tracker (after_forward tsn old.tracker) old.reassembly new.reassembly t names r (passed is) skips
+      go : (b : Bool) → is_forward old.tracker.cumulative tsn ≡ b → SkipsWhere b tsn entries old.reassembly new.reassembly → Received queued history first read (after_forward tsn old.tracker) new.reassembly
+      go true is skips = skipped_keeps tsn entries old.tracker (after_forward tsn old.tracker) old.reassembly new.reassembly (current is) r up (passed is) skips
       go false is same =
-          subst (λ (s : ReassemblyState). Received queued log first read (after_forward tsn old.tracker) s) (sym same)
-          (with_tracks old.tracker (after_forward tsn old.tracker) old.reassembly r
-          (subst (λ (k : TrackerState). Tracks first (length log) r.taken k) (sym (not_passed false is refl)) (delayed_tracks r.taken old.tracker r.tracks)))
+          subst (λ (s : ReassemblyState). Received queued history first read (after_forward tsn old.tracker) s) (sym same)
+          (tracked_on old.tracker (after_forward tsn old.tracker) old.reassembly r r.taken (λ k h. h) up
+          (subst (λ (k : TrackerState). Tracks first (length history.log) r.taken k) (sym (not_passed false is refl)) (delayed_tracks r.taken old.tracker r.tracks)))
 
-  pub forwarding_keeps : (tsn : ℕ) (entries : List SkippedTo) (old new : Transfer) → IsTsn log first tsn → NameAll log entries → Received queued log first read old.tracker old.reassembly → MovesForward tsn entries old new
-      → Received queued log first read new.tracker new.reassembly
-  forwarding_keeps tsn entries old new t names r moves = go (is_valid_tsn old.tracker.cumulative tsn) moves
+  pub forwarding_keeps : (tsn : ℕ) (entries : List SkippedTo) (old new : Transfer) → (t : IsTsn history.log first tsn) → SkipAll history (t.offset + 1) entries → Received queued history first read old.tracker old.reassembly
+      → MovesForward tsn entries old new → Received queued history first read new.tracker new.reassembly
+  forwarding_keeps tsn entries old new t skip r moves = go (is_valid_tsn old.tracker.cumulative tsn) moves
     where
-      go : (b : Bool) → MovesWhere b tsn entries old new → Received queued log first read new.tracker new.reassembly
-      go true goes = gone_forward tsn entries old new t names r goes
+      go : (b : Bool) → MovesWhere b tsn entries old new → Received queued history first read new.tracker new.reassembly
+      go true goes = gone_forward tsn entries old new t skip r goes
       go false same = same_transfer old new same r
-
--- a FORWARD-TSN that passes nothing

@@ -12,7 +12,7 @@ use Rattle.dcsctp_machine.specs.transfer.Runs.{RunModel, WholeModel, behind_plac
 use Rattle.dcsctp_machine.specs.transfer.IncomingStreams.{StreamModel, new_stream, delivered_as, due, next_past, skipped_stream, skipped, skip_deliveries}
 use Rattle.dcsctp_machine.specs.transfer.Incoming.{IncomingModel, stream_on, skipped_on, skipped_by, deliveries_by, MovesOn, is_named, ResetsStreams}
 use Rattle.dcsctp_delivery_sending.specs.Places.{Has, set_at}
-use Rattle.dcsctp_delivery_sending.specs.Log.{Message, Piece, Slot}
+use Rattle.dcsctp_delivery_sending.specs.Log.{Message, Piece, History}
 use Rattle.dcsctp_delivery_receiving.specs.Rows.{AreRows}
 use Rattle.dcsctp_delivery_receiving.specs.Ready.{IsOn, IsApart, IsOfStream, fresh, Reads, Names, NameAll, StreamRows, AreDistinct, WereQueued, StreamHolds, HoldsAll, Holds}
 use Rattle.dcsctp_delivery_sending.proofs.Places.{decide, set_same, set_other}
@@ -21,33 +21,33 @@ use Rattle.dcsctp_delivery_receiving.proofs.Reading.{reads_moved, reads_past, re
 use Rattle.dcsctp_delivery_receiving.proofs.Waiting.{both_queued, other_streams, wait_on_stream, wait_spent, Split, split_due, Leaves, leaves_none}
 
 -- a stream on which nothing was received
-pub new_rows : (log : List Slot) (got : List ℕ) (base id : ℕ) → StreamRows log got base id (new_stream id)
-new_rows log got base id = record { is = refl; ordered = tt; unordered = tt; next = λ start w. fresh refl; last = λ start w. fresh refl }
+pub new_rows : (history : History) (got : List ℕ) (base id : ℕ) → StreamRows history got base id (new_stream id)
+new_rows history got base id = record { is = refl; ordered = tt; unordered = tt; next = λ start w. fresh refl; last = λ start w. fresh refl }
 
-module _ (queued : List Message) (log : List Slot) (got : List ℕ) (base : ℕ) (read : List ℕ) where
-  rows_filter : (Named : Piece → ℕ → Type 0) (test : RunModel → Bool) (runs : List RunModel) → AreRows log got base Named runs → AreRows log got base Named (filter test runs)
+module _ (queued : List Message) (history : History) (got : List ℕ) (base : ℕ) (read : List ℕ) where
+  rows_filter : (Named : Piece → ℕ → Type 0) (test : RunModel → Bool) (runs : List RunModel) → AreRows history.log got base Named runs → AreRows history.log got base Named (filter test runs)
   rows_filter Named test [] are = tt
   rows_filter Named test (r ∷ runs) are = go (test r) (rows_filter Named test runs are.1)
     where
-      go : (b : Bool) → AreRows log got base Named (filter test runs) → AreRows log got base Named (if b then r ∷ filter test runs else filter test runs)
+      go : (b : Bool) → AreRows history.log got base Named (filter test runs) → AreRows history.log got base Named (if b then r ∷ filter test runs else filter test runs)
       go true rest = (are.0, rest)
       go false rest = rest
 
-  rows_behind : (Named : Piece → ℕ → Type 0) (place : ℕ) (runs : List RunModel) → AreRows log got base Named runs → AreRows log got base Named (behind_place place runs)
+  rows_behind : (Named : Piece → ℕ → Type 0) (place : ℕ) (runs : List RunModel) → AreRows history.log got base Named runs → AreRows history.log got base Named (behind_place place runs)
   rows_behind Named place [] are = tt
   rows_behind Named place (r ∷ runs) are = go (nat_le r.first place) (rows_behind Named place runs are.1)
     where
-      go : (b : Bool) → AreRows log got base Named (behind_place place runs) → AreRows log got base Named (if b then behind_place place runs else r ∷ runs)
+      go : (b : Bool) → AreRows history.log got base Named (behind_place place runs) → AreRows history.log got base Named (if b then behind_place place runs else r ∷ runs)
       go true rest = rest
       go false rest = are
 
   -- streams that are the same
-  pub holds_same : (streams others : ℕ → StreamModel) (unordered : List RunModel) (ready : List MessageContent) → ((id : ℕ) → others id ≡ streams id) → HoldsAll queued log got base read streams unordered ready
-      → HoldsAll queued log got base read others unordered ready
+  pub holds_same : (streams others : ℕ → StreamModel) (unordered : List RunModel) (ready : List MessageContent) → ((id : ℕ) → others id ≡ streams id) → HoldsAll queued history got base read streams unordered ready
+      → HoldsAll queued history got base read others unordered ready
   holds_same streams others unordered ready same holds =
       record {
         waits = holds.waits;
-        streams_hold = λ id. subst (λ (s : StreamModel). StreamHolds queued log got base id (holds.waits id) s) (sym (same id)) (holds.streams_hold id);
+        streams_hold = λ id. subst (λ (s : StreamModel). StreamHolds queued history got base id (holds.waits id) s) (sym (same id)) (holds.streams_hold id);
         rows = holds.rows;
         places = holds.places;
         were_queued = holds.were_queued;
@@ -56,19 +56,19 @@ module _ (queued : List Message) (log : List Slot) (got : List ℕ) (base : ℕ)
       }
 
   -- one stream is left so
-  holds_left : (id : ℕ) (streams later : ℕ → StreamModel) (unordered : List RunModel) (ready after : List MessageContent) (holds : HoldsAll queued log got base read streams unordered ready)
-      → StreamRows log got base id (later id) → ((other : ℕ) → other ≢ id → later other ≡ streams other)
-      → Leaves queued log got (read ++ holds.places) holds.places id (later id).waiting after → HoldsAll queued log got base read later unordered after
+  holds_left : (id : ℕ) (streams later : ℕ → StreamModel) (unordered : List RunModel) (ready after : List MessageContent) (holds : HoldsAll queued history got base read streams unordered ready)
+      → StreamRows history got base id (later id) → ((other : ℕ) → other ≢ id → later other ≡ streams other)
+      → Leaves queued history got (read ++ holds.places) holds.places id (later id).waiting after → HoldsAll queued history got base read later unordered after
   holds_left id streams later unordered ready after holds rows others leaves =
       record {
         waits = set_at id leaves.waits holds.waits;
         streams_hold = λ other. elim (decide other id) [
           | inl e ↦
-              subst (λ (k : ℕ). StreamHolds queued log got base k (set_at id leaves.waits holds.waits k) (later k)) (sym e)
-              (subst (λ (l : List ℕ). StreamHolds queued log got base id l (later id)) (sym (set_same id leaves.waits holds.waits)) (record { rows = rows; wait = leaves.wait }))
+              subst (λ (k : ℕ). StreamHolds queued history got base k (set_at id leaves.waits holds.waits k) (later k)) (sym e)
+              (subst (λ (l : List ℕ). StreamHolds queued history got base id l (later id)) (sym (set_same id leaves.waits holds.waits)) (record { rows = rows; wait = leaves.wait }))
           | inr ne ↦
-              subst (λ (l : List ℕ). StreamHolds queued log got base other l (later other)) (sym (set_other id other leaves.waits holds.waits ne))
-              (subst (λ (s : StreamModel). StreamHolds queued log got base other (holds.waits other) s) (sym (others other ne)) (holds.streams_hold other))
+              subst (λ (l : List ℕ). StreamHolds queued history got base other l (later other)) (sym (set_other id other leaves.waits holds.waits ne))
+              (subst (λ (s : StreamModel). StreamHolds queued history got base other (holds.waits other) s) (sym (others other ne)) (holds.streams_hold other))
         ];
         rows = holds.rows;
         places = holds.places ++ leaves.more;
@@ -84,13 +84,13 @@ module _ (queued : List Message) (log : List Slot) (got : List ℕ) (base : ℕ)
               | inr ne ↦
                   subst (λ (l : List ℕ). AreDistinct (((read ++ holds.places) ++ leaves.more) ++ l)) (sym (set_other id other leaves.waits holds.waits ne))
                   (distinct_apart (read ++ holds.places) leaves.more (holds.waits other) (distinct_left ((read ++ holds.places) ++ leaves.more) leaves.waits leaves.once) (holds.once other)
-                  (λ q l r. other_streams queued id other q (leaves.on q l) (wait_on_stream queued log got other q (holds.waits other) (streams other).waiting (holds.streams_hold other).wait r) (λ same'. ne (sym same'))))
+                  (λ q l r. other_streams queued id other q (leaves.on q l) (wait_on_stream queued history got other q (holds.waits other) (streams other).waiting (holds.streams_hold other).wait r) (λ same'. ne (sym same'))))
             ]);
       }
 
   -- what is due becomes ready
-  leaves_due : (all places waits : List ℕ) (id next : ℕ) (stream : StreamModel) (before : List MessageContent) → StreamHolds queued log got base id waits stream → WereQueued queued places before → AreDistinct (all ++ waits)
-      → (left : List WholeModel) (split : Split queued log got id waits (due next stream.waiting) left) → Leaves queued log got all places id left (before ++ map (delivered_as stream.id) (due next stream.waiting))
+  leaves_due : (all places waits : List ℕ) (id next : ℕ) (stream : StreamModel) (before : List MessageContent) → StreamHolds queued history got base id waits stream → WereQueued queued places before → AreDistinct (all ++ waits)
+      → (left : List WholeModel) (split : Split queued history got id waits (due next stream.waiting) left) → Leaves queued history got all places id left (before ++ map (delivered_as stream.id) (due next stream.waiting))
   leaves_due all places waits id next stream before holds were once left split =
       record {
         more = split.front;
@@ -99,46 +99,46 @@ module _ (queued : List Message) (log : List Slot) (got : List ℕ) (base : ℕ)
             (subst (λ (k : ℕ). WereQueued queued split.front (map (delivered_as k) (due next stream.waiting))) (sym holds.rows.is) split.due_queued);
         wait = split.left_queued;
         once = subst (λ (l : List ℕ). AreDistinct l) (sym (appended all split.front split.back)) (subst (λ (l : List ℕ). AreDistinct (all ++ l)) split.parts once);
-        on = λ q h. wait_on_stream queued log got id q waits stream.waiting holds.wait (subst (λ (l : List ℕ). Has q l) (sym split.parts) (has_left q split.front split.back h));
-        spent = λ q h. wait_spent queued log got id q waits stream.waiting holds.wait (subst (λ (l : List ℕ). Has q l) (sym split.parts) (has_left q split.front split.back h));
+        on = λ q h. wait_on_stream queued history got id q waits stream.waiting holds.wait (subst (λ (l : List ℕ). Has q l) (sym split.parts) (has_left q split.front split.back h));
+        spent = λ q h. wait_spent queued history got id q waits stream.waiting holds.wait (subst (λ (l : List ℕ). Has q l) (sym split.parts) (has_left q split.front split.back h));
       }
 
-  skipped_leaves : (all places waits : List ℕ) (id : ℕ) (entry : SkippedTo) (stream : StreamModel) (before : List MessageContent) → StreamHolds queued log got base id waits stream → WereQueued queued places before → AreDistinct (all ++ waits)
-      → Leaves queued log got all places id (skipped entry stream).waiting (before ++ skip_deliveries entry stream)
+  skipped_leaves : (all places waits : List ℕ) (id : ℕ) (entry : SkippedTo) (stream : StreamModel) (before : List MessageContent) → StreamHolds queued history got base id waits stream → WereQueued queued places before → AreDistinct (all ++ waits)
+      → Leaves queued history got all places id (skipped entry stream).waiting (before ++ skip_deliveries entry stream)
   skipped_leaves all places waits id (Ssn on ssn) stream before holds were once =
       leaves_due all places waits id (next_past (short_number_near stream.next ssn) stream.next) stream before holds were once _
-      (split_due queued log got id (next_past (short_number_near stream.next ssn) stream.next) waits stream.waiting holds.wait)
+      (split_due queued history got id (next_past (short_number_near stream.next ssn) stream.next) waits stream.waiting holds.wait)
   skipped_leaves all places waits id (Mid on false mid) stream before holds were once =
       leaves_due all places waits id (next_past (number_near stream.next mid) stream.next) stream before holds were once _
-      (split_due queued log got id (next_past (number_near stream.next mid) stream.next) waits stream.waiting holds.wait)
+      (split_due queued history got id (next_past (number_near stream.next mid) stream.next) waits stream.waiting holds.wait)
   skipped_leaves all places waits id (Mid on true mid) stream before holds were once =
-      leaves_none queued log got all places waits id stream.waiting before (before ++ []) were holds.wait once (append-nil before)
+      leaves_none queued history got all places waits id stream.waiting before (before ++ []) were holds.wait once (append-nil before)
 
-  skipped_rows : (entry : SkippedTo) (waits : List ℕ) (stream : StreamModel) → Names log entry → StreamHolds queued log got base (skipped_stream entry) waits stream → StreamRows log got base (skipped_stream entry) (skipped entry stream)
-  skipped_rows (Ssn id ssn) waits stream (number, piece, at, kind) holds =
+  skipped_rows : (passed : ℕ) (entry : SkippedTo) (waits : List ℕ) (stream : StreamModel) → Names history passed entry → StreamHolds queued history got base (skipped_stream entry) waits stream → StreamRows history got base (skipped_stream entry) (skipped entry stream)
+  skipped_rows passed (Ssn id ssn) waits stream (skips, current) holds =
       record {
         is = holds.rows.is;
-        ordered = rows_filter (IsOn id.0) (λ run. not (nat_le run.number (short_number_near stream.next ssn))) stream.ordered holds.rows.ordered;
+        ordered = rows_filter (IsOn history id.0) (λ run. not (nat_le run.number (short_number_near stream.next ssn))) stream.ordered holds.rows.ordered;
         unordered = holds.rows.unordered;
-        next = λ start w. absurd (let clash : true ≡ false = sym (w.kinds number piece at) ∙ kind in cc);
+        next = λ start w. absurd (let clash : true ≡ false = sym (w.kinds skips.number skips.piece skips.at) ∙ skips.kind in cc);
         last = holds.rows.last;
       }
-  skipped_rows (Mid id false mid) waits stream (number, piece, at, on, unordered, is) holds =
+  skipped_rows passed (Mid id false mid) waits stream (skips, current) holds =
       record {
         is = holds.rows.is;
-        ordered = rows_filter (IsOn id.0) (λ run. not (nat_le run.number (number_near stream.next mid))) stream.ordered holds.rows.ordered;
+        ordered = rows_filter (IsOn history id.0) (λ run. not (nat_le run.number (number_near stream.next mid))) stream.ordered holds.rows.ordered;
         unordered = holds.rows.unordered;
-        next = reads_due queued log got id.0 (next_past (number_near stream.next mid) stream.next) waits stream.waiting holds.wait
-            (subst (λ (k : ℕ). Reads log id.0 false (next_past (number_near stream.next k) stream.next)) (sym is) (reads_past log id.0 false number piece at (sym on) (sym unordered) stream.next holds.rows.next));
+        next = reads_due queued history got id.0 (next_past (number_near stream.next mid) stream.next) waits stream.waiting holds.wait
+            (subst (λ (k : ℕ). Reads history id.0 false (next_past (number_near stream.next k) stream.next)) (sym skips.is) (reads_past history id.0 false skips.number skips.piece skips.at (sym skips.stream) (sym skips.unordered) current stream.next holds.rows.next));
         last = holds.rows.last;
       }
-  skipped_rows (Mid id true mid) waits stream (number, piece, at, on, unordered, is) holds =
+  skipped_rows passed (Mid id true mid) waits stream (skips, current) holds =
       record {
         is = holds.rows.is;
         ordered = holds.rows.ordered;
-        unordered = rows_filter (IsApart id.0) (λ run. not (nat_le run.number (number_near stream.last_unordered mid))) stream.unordered holds.rows.unordered;
+        unordered = rows_filter (IsApart history id.0) (λ run. not (nat_le run.number (number_near stream.last_unordered mid))) stream.unordered holds.rows.unordered;
         next = holds.rows.next;
-        last = subst (λ (k : ℕ). Reads log id.0 true (number_near stream.last_unordered k)) (sym is) (reads_moved log id.0 true number piece at (sym on) (sym unordered) stream.last_unordered holds.rows.last);
+        last = subst (λ (k : ℕ). Reads history id.0 true (number_near stream.last_unordered k)) (sym skips.is) (reads_moved history id.0 true skips.number skips.piece skips.at (sym skips.stream) (sym skips.unordered) current stream.last_unordered holds.rows.last);
       }
 
   on_itself : (entry : SkippedTo) (stream : StreamModel) → skipped_on entry (skipped_stream entry) stream ≡ skipped entry stream
@@ -155,41 +155,41 @@ module _ (queued : List Message) (log : List Slot) (got : List ℕ) (base : ℕ)
       go true e = absurd (cc)
       go false e = refl
 
-  one_skipped : (entry : SkippedTo) (streams : ℕ → StreamModel) (unordered : List RunModel) (ready : List MessageContent) → HoldsAll queued log got base read streams unordered ready
-      → Names log entry → HoldsAll queued log got base read (λ id. skipped_on entry id (streams id)) unordered (ready ++ skip_deliveries entry (streams (skipped_stream entry)))
-  one_skipped entry streams unordered ready holds names =
+  one_skipped : (passed : ℕ) (entry : SkippedTo) (streams : ℕ → StreamModel) (unordered : List RunModel) (ready : List MessageContent) → HoldsAll queued history got base read streams unordered ready
+      → Names history passed entry → HoldsAll queued history got base read (λ id. skipped_on entry id (streams id)) unordered (ready ++ skip_deliveries entry (streams (skipped_stream entry)))
+  one_skipped passed entry streams unordered ready holds names =
       let id : ℕ = skipped_stream entry in
-      let here : StreamHolds queued log got base id (holds.waits id) (streams id) = holds.streams_hold id in
+      let here : StreamHolds queued history got base id (holds.waits id) (streams id) = holds.streams_hold id in
       let is = on_itself entry (streams id) in
       holds_left id streams (λ other. skipped_on entry other (streams other)) unordered ready (ready ++ skip_deliveries entry (streams id)) holds
-      (subst (λ (s : StreamModel). StreamRows log got base id s) (sym is) (skipped_rows entry (holds.waits id) (streams id) names here))
+      (subst (λ (s : StreamModel). StreamRows history got base id s) (sym is) (skipped_rows passed entry (holds.waits id) (streams id) names here))
       (λ other ne. on_others entry other (streams other) ne)
-      (subst (λ (s : StreamModel). Leaves queued log got (read ++ holds.places) holds.places id s.waiting (ready ++ skip_deliveries entry (streams id))) (sym is)
+      (subst (λ (s : StreamModel). Leaves queued history got (read ++ holds.places) holds.places id s.waiting (ready ++ skip_deliveries entry (streams id))) (sym is)
       (skipped_leaves (read ++ holds.places) holds.places (holds.waits id) id entry (streams id) ready here holds.were_queued (holds.once id)))
 
-  all_skipped : (entries : List SkippedTo) (streams : ℕ → StreamModel) (unordered : List RunModel) (ready : List MessageContent) → HoldsAll queued log got base read streams unordered ready
-      → NameAll log entries → HoldsAll queued log got base read (λ id. skipped_by entries id (streams id)) unordered (ready ++ deliveries_by entries streams)
-  all_skipped [] streams unordered ready holds names = subst (λ (l : List MessageContent). HoldsAll queued log got base read streams unordered l) (sym (append-nil ready)) holds
-  all_skipped (entry ∷ entries) streams unordered ready holds names =
-      subst (λ (l : List MessageContent). HoldsAll queued log got base read (λ id. skipped_by (entry ∷ entries) id (streams id)) unordered l)
+  all_skipped : (passed : ℕ) (entries : List SkippedTo) (streams : ℕ → StreamModel) (unordered : List RunModel) (ready : List MessageContent) → HoldsAll queued history got base read streams unordered ready
+      → NameAll history passed entries → HoldsAll queued history got base read (λ id. skipped_by entries id (streams id)) unordered (ready ++ deliveries_by entries streams)
+  all_skipped passed [] streams unordered ready holds names = subst (λ (l : List MessageContent). HoldsAll queued history got base read streams unordered l) (sym (append-nil ready)) holds
+  all_skipped passed (entry ∷ entries) streams unordered ready holds names =
+      subst (λ (l : List MessageContent). HoldsAll queued history got base read (λ id. skipped_by (entry ∷ entries) id (streams id)) unordered l)
       (messages_appended ready (skip_deliveries entry (streams (skipped_stream entry))) (deliveries_by entries (λ id. skipped_on entry id (streams id))))
-      (all_skipped entries (λ id. skipped_on entry id (streams id)) unordered (ready ++ skip_deliveries entry (streams (skipped_stream entry))) (one_skipped entry streams unordered ready holds names.0) names.1)
+      (all_skipped passed entries (λ id. skipped_on entry id (streams id)) unordered (ready ++ skip_deliveries entry (streams (skipped_stream entry))) (one_skipped passed entry streams unordered ready holds names.0) names.1)
     where
       messages_appended : (xs ys zs : List MessageContent) → (xs ++ ys) ++ zs ≡ xs ++ (ys ++ zs)
       messages_appended [] ys zs = refl
       messages_appended (x ∷ xs) ys zs = ap (λ (l : List MessageContent). x ∷ l) (messages_appended xs ys zs)
 
   -- the runs of unordered messages are others
-  apart_rows : (streams : ℕ → StreamModel) (unordered others : List RunModel) (ready : List MessageContent) → HoldsAll queued log got base read streams unordered ready → AreRows log got base IsOfStream others
-      → HoldsAll queued log got base read streams others ready
+  apart_rows : (streams : ℕ → StreamModel) (unordered others : List RunModel) (ready : List MessageContent) → HoldsAll queued history got base read streams unordered ready → AreRows history.log got base IsOfStream others
+      → HoldsAll queued history got base read streams others ready
   apart_rows streams unordered others ready holds rows =
       record { waits = holds.waits; streams_hold = holds.streams_hold; rows = rows; places = holds.places; were_queued = holds.were_queued; spent = holds.spent; once = holds.once }
 
-  pub skips_on : (tsn : ℕ) (entries : List SkippedTo) (old new : IncomingModel) → NameAll log entries → Holds queued log got base read old → MovesOn tsn entries old new → Holds queued log got base read new
-  skips_on tsn entries old new names holds moves =
-      let skipped_all = all_skipped entries (λ id. stream_on id old.streams) old.unordered old.ready holds names in
-      let rows : AreRows log got base IsOfStream new.unordered = subst (λ (l : List RunModel). AreRows log got base IsOfStream l) (sym moves.unordered) (rows_behind IsOfStream (number_near old.last_tsn_number tsn) old.unordered holds.rows) in
-      subst (λ (l : List MessageContent). HoldsAll queued log got base read (λ id. stream_on id new.streams) new.unordered l) (sym moves.ready)
+  pub skips_on : (tsn passed : ℕ) (entries : List SkippedTo) (old new : IncomingModel) → NameAll history passed entries → Holds queued history got base read old → MovesOn tsn entries old new → Holds queued history got base read new
+  skips_on tsn passed entries old new names holds moves =
+      let skipped_all = all_skipped passed entries (λ id. stream_on id old.streams) old.unordered old.ready holds names in
+      let rows : AreRows history.log got base IsOfStream new.unordered = subst (λ (l : List RunModel). AreRows history.log got base IsOfStream l) (sym moves.unordered) (rows_behind IsOfStream (number_near old.last_tsn_number tsn) old.unordered holds.rows) in
+      subst (λ (l : List MessageContent). HoldsAll queued history got base read (λ id. stream_on id new.streams) new.unordered l) (sym moves.ready)
       (apart_rows (λ id. stream_on id new.streams) old.unordered new.unordered (old.ready ++ deliveries_by entries (λ id. stream_on id old.streams))
       (holds_same (λ id. skipped_by entries id (stream_on id old.streams)) (λ id. stream_on id new.streams) old.unordered (old.ready ++ deliveries_by entries (λ id. stream_on id old.streams)) moves.streams skipped_all) rows)
 
@@ -197,11 +197,11 @@ module _ (queued : List Message) (log : List Slot) (got : List ℕ) (base : ℕ)
 
   -- these streams are new, and the others unchanged
   renewed : (named : ℕ → Bool) (streams later : ℕ → StreamModel) (unordered others : List RunModel) (ready : List MessageContent) → ((id : ℕ) → later id ≡ (if named id then new_stream id else streams id))
-      → AreRows log got base IsOfStream others → HoldsAll queued log got base read streams unordered ready → HoldsAll queued log got base read later others ready
+      → AreRows history.log got base IsOfStream others → HoldsAll queued history got base read streams unordered ready → HoldsAll queued history got base read later others ready
   renewed named streams later unordered others ready are rows holds =
       record {
         waits = λ id. if named id then [] else holds.waits id;
-        streams_hold = λ id. subst (λ (s : StreamModel). StreamHolds queued log got base id (if named id then [] else holds.waits id) s) (sym (are id)) (left_stream id (named id));
+        streams_hold = λ id. subst (λ (s : StreamModel). StreamHolds queued history got base id (if named id then [] else holds.waits id) s) (sym (are id)) (left_stream id (named id));
         rows = rows;
         places = holds.places;
         were_queued = holds.were_queued;
@@ -209,20 +209,20 @@ module _ (queued : List Message) (log : List Slot) (got : List ℕ) (base : ℕ)
         once = λ id. left_once id (named id);
       }
     where
-      left_stream : (id : ℕ) (b : Bool) → StreamHolds queued log got base id (if b then [] else holds.waits id) (if b then new_stream id else streams id)
-      left_stream id true = record { rows = new_rows log got base id; wait = tt }
+      left_stream : (id : ℕ) (b : Bool) → StreamHolds queued history got base id (if b then [] else holds.waits id) (if b then new_stream id else streams id)
+      left_stream id true = record { rows = new_rows history got base id; wait = tt }
       left_stream id false = holds.streams_hold id
 
       left_once : (id : ℕ) (b : Bool) → AreDistinct ((read ++ holds.places) ++ (if b then [] else holds.waits id))
       left_once id true = distinct_front (read ++ holds.places) (holds.waits id) (holds.once id)
       left_once id false = holds.once id
 
-  pub resets_on : (streams : List ℕ) (old new : IncomingModel) → Holds queued log got base read old → ResetsStreams streams old new → Holds queued log got base read new
+  pub resets_on : (streams : List ℕ) (old new : IncomingModel) → Holds queued history got base read old → ResetsStreams streams old new → Holds queued history got base read new
   resets_on [] old new holds resets =
-      subst (λ (l : List MessageContent). HoldsAll queued log got base read (λ id. stream_on id new.streams) new.unordered l) (sym resets.kept.ready)
+      subst (λ (l : List MessageContent). HoldsAll queued history got base read (λ id. stream_on id new.streams) new.unordered l) (sym resets.kept.ready)
       (renewed (λ id. true) (λ id. stream_on id old.streams) (λ id. stream_on id new.streams) old.unordered new.unordered old.ready resets.streams
-      (subst (λ (l : List RunModel). AreRows log got base IsOfStream l) (sym resets.unordered) tt) holds)
+      (subst (λ (l : List RunModel). AreRows history.log got base IsOfStream l) (sym resets.unordered) tt) holds)
   resets_on (reset ∷ others) old new holds resets =
-      subst (λ (l : List MessageContent). HoldsAll queued log got base read (λ id. stream_on id new.streams) new.unordered l) (sym resets.kept.ready)
+      subst (λ (l : List MessageContent). HoldsAll queued history got base read (λ id. stream_on id new.streams) new.unordered l) (sym resets.kept.ready)
       (renewed (is_named (reset ∷ others)) (λ id. stream_on id old.streams) (λ id. stream_on id new.streams) old.unordered new.unordered old.ready resets.streams
-      (subst (λ (l : List RunModel). AreRows log got base IsOfStream l) (sym resets.unordered) (rows_filter IsOfStream (λ run. not (is_named (reset ∷ others) run.number)) old.unordered holds.rows)) holds)
+      (subst (λ (l : List RunModel). AreRows history.log got base IsOfStream l) (sym resets.unordered) (rows_filter IsOfStream (λ run. not (is_named (reset ∷ others) run.number)) old.unordered holds.rows)) holds)

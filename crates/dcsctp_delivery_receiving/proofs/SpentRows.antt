@@ -6,8 +6,8 @@ use Rattle.std.proofs.lemmas.Bool.Decides.{eqb_tells, leb_tells}
 use Rattle.dcsctp_machine.specs.transfer.Runs.{RunModel, PartModel, WholeModel, Assembled, part_dropped, part_kept, message_whole, AddsPart, AddsAt, entry_before, follows, following, run_before, run_behind, merged}
 use Rattle.dcsctp_delivery_sending.specs.Places.{Has, at_place}
 use Rattle.dcsctp_delivery_sending.specs.Log.{Message, Piece, Slot, Cut}
-use Rattle.dcsctp_delivery_sending.specs.Numbers.{Told}
 use Rattle.dcsctp_delivery_receiving.specs.Rows.{IsPart, IsRow, AreRows, Spent, MakesQueued}
+use Rattle.dcsctp_delivery_receiving.proofs.Chaining.{OneKind}
 use Rattle.dcsctp_delivery_receiving.proofs.Joining.{both}
 use Rattle.dcsctp_delivery_receiving.proofs.Rows.{outcome_rows}
 
@@ -129,7 +129,7 @@ module _ (queued : List Message) (log : List Slot) (cut : Cut queued log) (got :
   pub was_handled : (n : ℕ) (f : Piece) → at_place n log ≡ Some (Some f) → f.place ≡ place → Has n got
   was_handled n f at is = spent.covered n (not_before n f at is) (between n f at is)
 
-pub stay_rows : (queued : List Message) (log : List Slot) → Cut queued log → Told log
+pub stay_rows : (queued : List Message) (log : List Slot) → Cut queued log → OneKind log
     → (got : List ℕ) (base : ℕ) (Named : Piece → ℕ → Type 0)
     → ((m n : ℕ) (f g : Piece) (number : ℕ) → at_place m log ≡ Some (Some f) → at_place n log ≡ Some (Some g) → f.is_interleaved ≡ true → g.is_interleaved ≡ true → Named f number → Named g number → f.place ≡ g.place)
     → (part : PartModel) (old new : List RunModel) (outcome : Assembled)

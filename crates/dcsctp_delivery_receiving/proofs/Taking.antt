@@ -13,30 +13,32 @@ use Rattle.dcsctp_machine.specs.transfer.Tracker.{has_received, TrackerState, ne
 use Rattle.dcsctp_machine.specs.transfer.Transfer.{Transfer}
 use Rattle.dcsctp_machine.specs.turns.TransferMoves.{SkipsWhere, MovesWhere, MovesForward}
 use Rattle.dcsctp_delivery_sending.specs.Places.{Has}
-use Rattle.dcsctp_delivery_sending.specs.Log.{Message, Slot}
+use Rattle.dcsctp_delivery_sending.specs.Log.{Message, History}
+use Rattle.dcsctp_delivery_sending.specs.Numbers.{AreCurrent}
 use Rattle.dcsctp_delivery_receiving.specs.Ready.{AreDistinct, WereQueued, WasQueued, Holds}
 use Rattle.dcsctp_delivery_receiving.specs.Tracked.{tracked, Tracks}
-use Rattle.dcsctp_delivery_receiving.specs.Received.{Reassembles, untouched, placed, Defers, Received, Few, Reads}
+use Rattle.dcsctp_delivery_receiving.specs.Received.{Reassembles, untouched, placed, Defers, WaitBeyond, Received, Few, Reads}
+use Rattle.dcsctp_delivery_receiving.proofs.Current.{past_kept}
 use Rattle.dcsctp_delivery_receiving.proofs.Skipping.{new_rows}
 use Rattle.dcsctp_delivery_receiving.proofs.Distinct.{has_left, has_right, appended, distinct_left}
 
-nothing_passed : (first count cumulative tsn : ℕ) → first < 2 ^ 32 → count < 2 ^ 31 → cumulative + 1 ≤ tracked first count → tracked first 0 ≤ cumulative + 1 → tsn ≡ (first + 0 + (2 ^ 32 - 1)) % 2 ^ 32 → is_forward cumulative tsn ≡ false
+pub nothing_passed : (first count cumulative tsn : ℕ) → first < 2 ^ 32 → count < 2 ^ 31 → cumulative + 1 ≤ tracked first count → tracked first 0 ≤ cumulative + 1 → tsn ≡ (first + 0 + (2 ^ 32 - 1)) % 2 ^ 32 → is_forward cumulative tsn ≡ false
 nothing_passed first count cumulative tsn small few reached started is = grind (arith, nat_tests, is)
 
-pub passing_nothing : (queued : List Message) (log : List Slot) (first : ℕ) (f : Few log first) (read : List ℕ) (tsn : ℕ) (entries : List SkippedTo) (old new : Transfer) → tsn ≡ (first + 0 + (2 ^ 32 - 1)) % 2 ^ 32
-    → Received queued log first read old.tracker old.reassembly → MovesForward tsn entries old new → Received queued log first read new.tracker new.reassembly
-passing_nothing queued log first f read tsn entries old new is r moves = go (is_valid_tsn old.tracker.cumulative tsn) moves
+pub passing_nothing : (queued : List Message) (history : History) (first : ℕ) (f : Few history first) (read : List ℕ) (tsn : ℕ) (entries : List SkippedTo) (old new : Transfer) → tsn ≡ (first + 0 + (2 ^ 32 - 1)) % 2 ^ 32
+    → Received queued history first read old.tracker old.reassembly → MovesForward tsn entries old new → Received queued history first read new.tracker new.reassembly
+passing_nothing queued history first f read tsn entries old new is r moves = go (is_valid_tsn old.tracker.cumulative tsn) moves
   where
     none : is_forward old.tracker.cumulative tsn ≡ false
-    none = nothing_passed first (length log) old.tracker.cumulative tsn f.small f.few r.tracks.reached r.tracks.started is
+    none = nothing_passed first (length history.log) old.tracker.cumulative tsn f.small f.few r.tracks.reached r.tracks.started is
 
     now : after_forward tsn old.tracker ≡ delay_over old.tracker
     now = subst (λ (c : Bool). (if c then moved_forward tsn old.tracker else delay_over old.tracker) ≡ delay_over old.tracker) (sym none) refl
 
-    delayed : Tracks first (length log) r.taken (delay_over old.tracker)
+    delayed : Tracks first (length history.log) r.taken (delay_over old.tracker)
     delayed = record { beyond = r.tracks.beyond; reached = r.tracks.reached; started = r.tracks.started; sent = r.tracks.sent; received = r.tracks.received }
 
-    kept : Received queued log first read (delay_over old.tracker) old.reassembly
+    kept : Received queued history first read (delay_over old.tracker) old.reassembly
     kept =
         record {
           taken = r.taken;
@@ -49,27 +51,29 @@ passing_nothing queued log first f read tsn entries old new is r moves = go (is_
           distinct = r.distinct;
           holds = r.holds;
           defers = r.defers;
+          beyond = r.beyond;
+          old = r.old;
         }
 
-    go : (b : Bool) → MovesWhere b tsn entries old new → Received queued log first read new.tracker new.reassembly
-    go false same = subst (λ (t : Transfer). Received queued log first read t.tracker t.reassembly) (sym same) r
+    go : (b : Bool) → MovesWhere b tsn entries old new → Received queued history first read new.tracker new.reassembly
+    go false same = subst (λ (t : Transfer). Received queued history first read t.tracker t.reassembly) (sym same) r
     go true goes =
         let same : new.reassembly ≡ old.reassembly = subst (λ (c : Bool). SkipsWhere c tsn entries old.reassembly new.reassembly) none goes.reassembly in
-        subst (λ (k : TrackerState). Received queued log first read k new.reassembly) (sym (ap (λ (k : Transfer). k.tracker) goes.rest ∙ now))
-        (subst (λ (s : ReassemblyState). Received queued log first read (delay_over old.tracker) s) (sym same) kept)
+        subst (λ (k : TrackerState). Received queued history first read k new.reassembly) (sym (ap (λ (k : Transfer). k.tracker) goes.rest ∙ now))
+        (subst (λ (s : ReassemblyState). Received queued history first read (delay_over old.tracker) s) (sym same) kept)
 
 -- ---- what the user takes
 
 -- the first that is ready
-record Taken' (queued : List Message) (log : List Slot) (got : List ℕ) (base : ℕ) (read : List ℕ) (incoming : IncomingModel) (message : MessageContent) (messages : List MessageContent) : Type 0 where
+record Taken' (queued : List Message) (history : History) (got : List ℕ) (base : ℕ) (read : List ℕ) (incoming : IncomingModel) (message : MessageContent) (messages : List MessageContent) : Type 0 where
   place : ℕ
   was : WasQueued queued place message
   fresh : Has place read → ⊥
-  holds : Holds queued log got base (read ++ place ∷ []) (record incoming { ready = messages })
+  holds : Holds queued history got base (read ++ place ∷ []) (record incoming { ready = messages })
 
-taken_first : (queued : List Message) (log : List Slot) (got : List ℕ) (base : ℕ) (read : List ℕ) (incoming : IncomingModel) (message : MessageContent) (messages : List MessageContent) → incoming.ready ≡ message ∷ messages
-    → Holds queued log got base read incoming → Taken' queued log got base read incoming message messages
-taken_first queued log got base read incoming message messages is holds =
+taken_first : (queued : List Message) (history : History) (got : List ℕ) (base : ℕ) (read : List ℕ) (incoming : IncomingModel) (message : MessageContent) (messages : List MessageContent) → incoming.ready ≡ message ∷ messages
+    → Holds queued history got base read incoming → Taken' queued history got base read incoming message messages
+taken_first queued history got base read incoming message messages is holds =
     go holds.places refl (subst (λ (l : List MessageContent). WereQueued queued holds.places l) is holds.were_queued)
   where
     not_twice : (p : ℕ) (xs ys : List ℕ) → AreDistinct (xs ++ (p ∷ ys)) → Has p xs → ⊥
@@ -80,7 +84,7 @@ taken_first queued log got base read incoming message messages is holds =
           | inr t ↦ not_twice p xs ys distinct.1 t
         ]
 
-    go : (places : List ℕ) → holds.places ≡ places → WereQueued queued places (message ∷ messages) → Taken' queued log got base read incoming message messages
+    go : (places : List ℕ) → holds.places ≡ places → WereQueued queued places (message ∷ messages) → Taken' queued history got base read incoming message messages
     go [] e were = absurd were
     go (p ∷ places) e were =
         let all : read ++ holds.places ≡ (read ++ p ∷ []) ++ places = ap (λ (l : List ℕ). read ++ l) e ∙ sym (appended read (p ∷ []) places) in
@@ -99,13 +103,13 @@ taken_first queued log got base read incoming message messages is holds =
           };
         }
 
-pub reads_on : (queued : List Message) (log : List Slot) (first : ℕ) (read : List ℕ) (tracker : TrackerState) (reassembly : ReassemblyState) (message : MessageContent) (messages : List MessageContent)
-    → reassembly.incoming.ready ≡ message ∷ messages → Received queued log first read tracker reassembly → Reads queued log first read tracker reassembly message messages
-reads_on queued log first read tracker reassembly message messages is r = go r.holds
+pub reads_on : (queued : List Message) (history : History) (first : ℕ) (read : List ℕ) (tracker : TrackerState) (reassembly : ReassemblyState) (message : MessageContent) (messages : List MessageContent)
+    → reassembly.incoming.ready ≡ message ∷ messages → Received queued history first read tracker reassembly → Reads queued history first read tracker reassembly message messages
+reads_on queued history first read tracker reassembly message messages is r = go r.holds
   where
-    go : Reassembles queued log first r.got read reassembly.incoming → Reads queued log first read tracker reassembly message messages
+    go : Reassembles queued history first r.got read reassembly.incoming → Reads queued history first read tracker reassembly message messages
     go (placed base at holds) =
-        let t = taken_first queued log r.got base read reassembly.incoming message messages is holds in
+        let t = taken_first queued history r.got base read reassembly.incoming message messages is holds in
         record {
           place = t.place;
           sent = t.was.message;
@@ -125,17 +129,20 @@ reads_on queued log first read tracker reassembly message messages is r = go r.h
             distinct = r.distinct;
             holds = placed base at t.holds;
             defers = r.defers;
+            beyond = r.beyond;
+            old = r.old;
           };
         }
     go (untouched none last empty) =
-        let t = taken_first queued log [] 0 read reassembly.incoming message messages is (empty 0) in
+        let t = taken_first queued history [] 0 read reassembly.incoming message messages is (empty 0) in
         let spent = t.holds.spent t.place (has_left t.place (read ++ t.place ∷ []) t.holds.places (has_right t.place read (t.place ∷ []) (inl refl))) in
         absurd (spent.covered spent.offset (omega arith) spent.order)
 
 -- ---- a new association
 
-pub nothing_received : (options : Options) (queued : List Message) (log : List Slot) (first size : ℕ) → first < 2 ^ 32 → Received queued log first [] (new_tracker options first) (new_reassembly size)
-nothing_received options queued log first size small =
+pub nothing_received : (options : Options) (queued : List Message) (history : History) (first size : ℕ) → first < 2 ^ 32 → AreCurrent history history.log
+    → Received queued history first [] (new_tracker options first) (new_reassembly size)
+nothing_received options queued history first size small are =
     record {
       taken = [];
       got = [];
@@ -154,7 +161,7 @@ nothing_received options queued log first size small =
       holds = untouched refl refl
           (λ base. record {
             waits = λ id. [];
-            streams_hold = λ id. record { rows = new_rows log [] base id; wait = tt };
+            streams_hold = λ id. record { rows = new_rows history [] base id; wait = tt };
             rows = tt;
             places = [];
             were_queued = tt;
@@ -162,14 +169,16 @@ nothing_received options queued log first size small =
             once = λ id. tt;
           });
       defers = tt;
+      beyond = tt;
+      old = λ n f at kind aged. absurd (aged (are n f at kind));
     }
 
 -- ---- the rest of what a tracker and a deferral do
 
 -- when an acknowledgement is due is another matter
-pub tracked_so : (queued : List Message) (log : List Slot) (first : ℕ) (read : List ℕ) (tracker now : TrackerState) (reassembly : ReassemblyState) → now.cumulative ≡ tracker.cumulative → now.ranges ≡ tracker.ranges
-    → Received queued log first read tracker reassembly → Received queued log first read now reassembly
-tracked_so queued log first read tracker now reassembly same same' r =
+pub tracked_so : (queued : List Message) (history : History) (first : ℕ) (read : List ℕ) (tracker now : TrackerState) (reassembly : ReassemblyState) → now.cumulative ≡ tracker.cumulative → now.ranges ≡ tracker.ranges
+    → Received queued history first read tracker reassembly → Received queued history first read now reassembly
+tracked_so queued history first read tracker now reassembly same same' r =
     record {
       taken = r.taken;
       got = r.got;
@@ -187,14 +196,16 @@ tracked_so queued log first read tracker now reassembly same same' r =
       distinct = r.distinct;
       holds = r.holds;
       defers = r.defers;
+      beyond = r.beyond;
+      old = past_kept history first tracker.cumulative now.cumulative (omega (arith, same)) r.old;
     }
   where
     alike : (number : ℕ) → has_received now number ≡ has_received tracker number
     alike number = ap (λ (c : ℕ). is_received c number now.ranges) same ∙ ap (λ (l : List TsnRange). is_received tracker.cumulative number l) same'
 
-pub deferring_keeps : (queued : List Message) (log : List Slot) (first : ℕ) (read : List ℕ) (last_tsn : ℕ) (streams : List ℕ) (tracker : TrackerState) (reassembly : ReassemblyState) → Received queued log first read tracker reassembly
-    → Received queued log first read tracker (deferring last_tsn streams reassembly)
-deferring_keeps queued log first read last_tsn streams tracker reassembly r =
+pub deferring_keeps : (queued : List Message) (history : History) (first : ℕ) (read : List ℕ) (last_tsn : ℕ) (streams : List ℕ) (tracker : TrackerState) (reassembly : ReassemblyState) → Received queued history first read tracker reassembly
+    → Received queued history first read tracker (deferring last_tsn streams reassembly)
+deferring_keeps queued history first read last_tsn streams tracker reassembly r =
     record {
       taken = r.taken;
       got = r.got;
@@ -206,8 +217,14 @@ deferring_keeps queued log first read last_tsn streams tracker reassembly r =
       distinct = r.distinct;
       holds = r.holds;
       defers = go reassembly.deferral r.later r.defers;
+      beyond = still_beyond reassembly.deferral r.beyond;
+      old = r.old;
     }
   where
-    go : (d : Option DeferralModel) (later : List ℕ) → Defers log first later (actions_of d) → Defers log first later (actions_of (entered last_tsn streams d))
+    still_beyond : (d : Option DeferralModel) → WaitBeyond d → WaitBeyond (entered last_tsn streams d)
+    still_beyond None beyond = tt
+    still_beyond (Some d) beyond = beyond
+
+    go : (d : Option DeferralModel) (later : List ℕ) → Defers history first later (actions_of d) → Defers history first later (actions_of (entered last_tsn streams d))
     go None later defers = defers
     go (Some d) later defers = defers

@@ -10,7 +10,7 @@ use Rattle.dcsctp_machine.proofs.RangesLemmas.{received_beyond, received_members
 use Rattle.dcsctp_delivery_sending.specs.Places.{Has}
 use Rattle.dcsctp_delivery_receiving.specs.Tracked.{tracked, Tracks}
 
-number_is : (first count offset cumulative : ℕ) → first < 2 ^ 32 → count < 2 ^ 31 → offset < count → cumulative + 1 ≤ tracked first count → tracked first 0 ≤ cumulative + 1
+pub number_is : (first count offset cumulative : ℕ) → first < 2 ^ 32 → count < 2 ^ 31 → offset < count → cumulative + 1 ≤ tracked first count → tracked first 0 ≤ cumulative + 1
     → number_of cumulative ((first + offset) % 2 ^ 32) ≡ tracked first offset
 number_is first count offset cumulative small few below reached started = grind (arith, nat_tests)
 
@@ -34,10 +34,23 @@ is_itself cumulative ranges =
     let here : nat_le cumulative cumulative ≡ true = grind (arith, nat_tests) in
     grind (arith, here)
 
-up_to : (cumulative number : ℕ) (ranges : List TsnRange) → number ≤ cumulative → is_received cumulative number ranges ≡ true
+pub up_to : (cumulative number : ℕ) (ranges : List TsnRange) → number ≤ cumulative → is_received cumulative number ranges ≡ true
 up_to cumulative number ranges up =
     let here : nat_le number cumulative ≡ true = grind (arith, nat_tests) in
     grind (arith, here)
+
+-- where what is received grows, the number up to which all is received isn't lower
+not_lower : (old new : TrackerState) (Fresh : ℕ → Bool) → IsBeyond new.cumulative new.ranges → ((other : ℕ) → has_received new other ≡ (has_received old other || Fresh other)) → old.cumulative ≤ new.cumulative
+not_lower old new Fresh beyond members =
+    elim (leb_tells old.cumulative new.cumulative) [
+      | inl e ↦ e.1
+      | inr e ↦
+          (let less : new.cumulative < old.cumulative = e.1 in
+          let missing : has_received new (new.cumulative + 1) ≡ false = all_received new.cumulative 0 new.ranges beyond in
+          let there : has_received old (new.cumulative + 1) ≡ true = up_to old.cumulative (new.cumulative + 1) old.ranges (omega (arith, less)) in
+          let clash : true ≡ false = sym (ap (λ (b : Bool). b || Fresh (new.cumulative + 1)) there) ∙ sym (members (new.cumulative + 1)) ∙ missing in
+          absurd (cc))
+    ]
 
 -- a set of received numbers that grew by such as were sent
 grown : (first count : ℕ) (taken now : List ℕ) (old new : TrackerState) (Fresh : ℕ → Bool) → Tracks first count taken old → IsBeyond new.cumulative new.ranges
@@ -48,15 +61,7 @@ grown first count taken now old new Fresh tracks beyond members fresh received =
     record {
       beyond = beyond;
       reached = sent new.cumulative (is_itself new.cumulative new.ranges);
-      started = elim (leb_tells (tracked first 0) (new.cumulative + 1)) [
-        | inl e ↦ e.1
-        | inr e ↦
-            (let less : new.cumulative + 1 < tracked first 0 = e.1 in
-            let missing : has_received new (new.cumulative + 1) ≡ false = all_received new.cumulative 0 new.ranges beyond in
-            let there : has_received old (new.cumulative + 1) ≡ true = up_to old.cumulative (new.cumulative + 1) old.ranges (omega (arith, tracks.started)) in
-            let clash : true ≡ false = sym (ap (λ (b : Bool). b || Fresh (new.cumulative + 1)) there) ∙ sym (members (new.cumulative + 1)) ∙ missing in
-            absurd (cc))
-      ];
+      started = (let up = not_lower old new Fresh beyond members in omega (arith, up, tracks.started));
       sent = sent;
       received = received;
     }
@@ -78,6 +83,9 @@ equals n = grind (arith, nat_tests)
 
 is_equal : (m n : ℕ) → (m == n) ≡ true → m ≡ n
 is_equal m n e = grind (arith, nat_tests, e)
+
+is_ahead : (cumulative tsn : ℕ) → is_forward cumulative tsn ≡ true → cumulative < number_of cumulative tsn
+is_ahead cumulative tsn forward = grind (arith, nat_tests, forward)
 
 pub new_is_new : (first count offset : ℕ) (immediate : Bool) (taken : List ℕ) (tracker : TrackerState) → first < 2 ^ 32 → count < 2 ^ 31 → offset < count → Tracks first count taken tracker
     → Tracks first count (offset ∷ taken) (observed ((first + offset) % 2 ^ 32) immediate tracker)
@@ -124,7 +132,7 @@ passing_keeps first count offset taken tracker small few below tracks forward =
     here = number_is first count offset tracker.cumulative small few below tracks.reached tracks.started
 
     ahead : tracker.cumulative < number
-    ahead = grind (arith, nat_tests, forward)
+    ahead = is_ahead tracker.cumulative ((first + offset) % 2 ^ 32) forward
 
     moved : after_forward ((first + offset) % 2 ^ 32) tracker ≡ moved_forward ((first + offset) % 2 ^ 32) tracker
     moved = go (is_forward tracker.cumulative ((first + offset) % 2 ^ 32)) forward
@@ -132,6 +140,48 @@ passing_keeps first count offset taken tracker small few below tracks forward =
         go : (b : Bool) → b ≡ true → (if b then moved_forward ((first + offset) % 2 ^ 32) tracker else delay_over tracker) ≡ moved_forward ((first + offset) % 2 ^ 32) tracker
         go true e = refl
         go false e = absurd (cc)
+
+-- ---- the cumulative number
+
+pub observed_up : (tsn : ℕ) (immediate : Bool) (tracker : TrackerState) → IsBeyond tracker.cumulative tracker.ranges → tracker.cumulative ≤ (observed tsn immediate tracker).cumulative
+observed_up tsn immediate tracker beyond =
+    not_lower tracker (observed tsn immediate tracker) (λ other. other == number_of tracker.cumulative tsn) (received_beyond (number_of tracker.cumulative tsn) tracker.cumulative tracker.ranges beyond)
+    (received_members (number_of tracker.cumulative tsn) tracker.cumulative tracker.ranges beyond)
+
+pub forward_up : (tsn : ℕ) (tracker : TrackerState) → IsBeyond tracker.cumulative tracker.ranges → tracker.cumulative ≤ (after_forward tsn tracker).cumulative
+forward_up tsn tracker beyond = go (is_forward tracker.cumulative tsn) refl
+  where
+    moved : is_forward tracker.cumulative tsn ≡ true → tracker.cumulative ≤ (moved_forward tsn tracker).cumulative
+    moved is =
+        let ahead : tracker.cumulative < number_of tracker.cumulative tsn = is_ahead tracker.cumulative tsn is in
+        not_lower tracker (moved_forward tsn tracker) (λ other. nat_le other (number_of tracker.cumulative tsn)) (forwarded_beyond (number_of tracker.cumulative tsn) tracker.cumulative tracker.ranges beyond)
+        (forwarded_members (number_of tracker.cumulative tsn) tracker.cumulative tracker.ranges ahead beyond)
+
+    go : (b : Bool) → is_forward tracker.cumulative tsn ≡ b → tracker.cumulative ≤ (if b then moved_forward tsn tracker else delay_over tracker).cumulative
+    go true is = moved is
+    go false is = omega arith
+
+-- a TSN that is new lies beyond it
+pub new_beyond : (first count offset : ℕ) (taken : List ℕ) (tracker : TrackerState) → first < 2 ^ 32 → count < 2 ^ 31 → offset < count → Tracks first count taken tracker
+    → is_new_tsn ((first + offset) % 2 ^ 32) tracker ≡ true → tracker.cumulative < tracked first offset
+new_beyond first count offset taken tracker small few below tracks new =
+    let number : ℕ = number_of tracker.cumulative ((first + offset) % 2 ^ 32) in
+    let here : number ≡ tracked first offset = number_is first count offset tracker.cumulative small few below tracks.reached tracks.started in
+    elim (leb_tells number tracker.cumulative) [
+      | inl e ↦
+          (let known : has_received tracker number ≡ true = up_to tracker.cumulative number tracker.ranges e.1 in
+          let clash : false ≡ true = sym (ap not known) ∙ new in
+          absurd (cc))
+      | inr e ↦ (let beyond : tracker.cumulative < number = e.1 in omega (arith, beyond, here))
+    ]
+
+-- so does one to which a FORWARD-TSN moves it
+pub forward_beyond : (first count offset : ℕ) (taken : List ℕ) (tracker : TrackerState) → first < 2 ^ 32 → count < 2 ^ 31 → offset < count → Tracks first count taken tracker
+    → is_forward tracker.cumulative ((first + offset) % 2 ^ 32) ≡ true → tracker.cumulative < tracked first offset
+forward_beyond first count offset taken tracker small few below tracks forward =
+    let here : number_of tracker.cumulative ((first + offset) % 2 ^ 32) ≡ tracked first offset = number_is first count offset tracker.cumulative small few below tracks.reached tracks.started in
+    let ahead = is_ahead tracker.cumulative ((first + offset) % 2 ^ 32) forward in
+    omega (arith, here, ahead)
 
 pub more_given_out : (first count more : ℕ) (taken : List ℕ) (tracker : TrackerState) → count ≤ more → Tracks first count taken tracker → Tracks first more taken tracker
 more_given_out first count more taken tracker up tracks =

@@ -7,7 +7,7 @@ use Rattle.dcsctp_machine.specs.declared.arrivals.Taken.{Taken}
 use Rattle.dcsctp_machine.specs.transfer.Runs.{PartModel, WholeModel, Assembled, part_dropped, part_kept, message_whole}
 use Rattle.dcsctp_machine.specs.transfer.IncomingStreams.{StreamModel, delivered_as, next_after, due, not_due, ready_with, WaitsAmong, TakesWhole, OrderedOutcome, UnorderedOutcome}
 use Rattle.dcsctp_delivery_sending.specs.Places.{Has, at_place}
-use Rattle.dcsctp_delivery_sending.specs.Log.{Message, Piece, Slot}
+use Rattle.dcsctp_delivery_sending.specs.Log.{Message, Piece, Slot, History}
 use Rattle.dcsctp_delivery_receiving.specs.Rows.{Spent, IsQueued, MakesQueued}
 use Rattle.dcsctp_delivery_receiving.specs.Ready.{IsOn, IsApart, AreDistinct, WasQueued, WereQueued, WaitQueued, StreamRows, StreamHolds}
 use Rattle.dcsctp_delivery_receiving.proofs.SpentRows.{rows_got, spent_got}
@@ -37,9 +37,9 @@ module _ (queued : List Message) where
 abbrev pub OfStream : ℕ → Piece → ℕ → Type 0
 OfStream id piece number = piece.message.stream ≡ id
 
-module _ (queued : List Message) (log : List Slot) (got : List ℕ) where
+module _ (queued : List Message) (history : History) (got : List ℕ) where
   -- the same under less of a name
-  pub renamed : (Named Other : Piece → ℕ → Type 0) → ((f : Piece) (number : ℕ) → Named f number → Other f number) → (place : ℕ) (outcome : Assembled) → MakesQueued queued log got Named place outcome → MakesQueued queued log got Other place outcome
+  pub renamed : (Named Other : Piece → ℕ → Type 0) → ((f : Piece) (number : ℕ) → Named f number → Other f number) → (place : ℕ) (outcome : Assembled) → MakesQueued queued history.log got Named place outcome → MakesQueued queued history.log got Other place outcome
   renamed Named Other less place part_dropped makes = tt
   renamed Named Other less place part_kept makes = tt
   renamed Named Other less place (message_whole whole) makes =
@@ -55,18 +55,18 @@ module _ (queued : List Message) (log : List Slot) (got : List ℕ) where
         spent = makes.spent;
       }
 
-  only_on : (id place : ℕ) (whole : WholeModel) → IsQueued queued log got (IsOn id) place whole → IsQueued queued log got (OfStream id) place whole
-  only_on id place whole is = renamed (IsOn id) (OfStream id) (λ f number named. named.0) place (message_whole whole) is
+  only_on : (id place : ℕ) (whole : WholeModel) → IsQueued queued history.log got (IsOn history id) place whole → IsQueued queued history.log got (OfStream id) place whole
+  only_on id place whole is = renamed (IsOn history id) (OfStream id) (λ f number named. named.0) place (message_whole whole) is
 
   -- a whole message as it is delivered
-  delivered : (id place : ℕ) (whole : WholeModel) → IsQueued queued log got (OfStream id) place whole → WasQueued queued place (delivered_as id whole)
+  delivered : (id place : ℕ) (whole : WholeModel) → IsQueued queued history.log got (OfStream id) place whole → WasQueued queued place (delivered_as id whole)
   delivered id place whole is = record { message = is.head.message; at = is.queued_at; stream = sym is.number; ppid = is.ppid; payload = is.payload }
 
-  on_stream : (id place : ℕ) (whole : WholeModel) → IsQueued queued log got (OfStream id) place whole → OnStream queued id place
+  on_stream : (id place : ℕ) (whole : WholeModel) → IsQueued queued history.log got (OfStream id) place whole → OnStream queued id place
   unfolding OnStream
   on_stream id place whole is = (is.head.message, is.queued_at, is.number)
 
-  pub wait_on_stream : (id p : ℕ) (places : List ℕ) (wholes : List WholeModel) → WaitQueued queued log got id places wholes → Has p places → OnStream queued id p
+  pub wait_on_stream : (id p : ℕ) (places : List ℕ) (wholes : List WholeModel) → WaitQueued queued history got id places wholes → Has p places → OnStream queued id p
   wait_on_stream id p [] [] wait h = absurd h
   wait_on_stream id p [] (w ∷ wholes) wait h = absurd h
   wait_on_stream id p (q ∷ places) [] wait h = absurd wait
@@ -76,13 +76,13 @@ module _ (queued : List Message) (log : List Slot) (got : List ℕ) where
         | inr t ↦ wait_on_stream id p places wholes wait.1 t
       ]
 
-  pub wait_spent : (id p : ℕ) (places : List ℕ) (wholes : List WholeModel) → WaitQueued queued log got id places wholes → Has p places → Spent log got p
+  pub wait_spent : (id p : ℕ) (places : List ℕ) (wholes : List WholeModel) → WaitQueued queued history got id places wholes → Has p places → Spent history.log got p
   wait_spent id p [] [] wait h = absurd h
   wait_spent id p [] (w ∷ wholes) wait h = absurd h
   wait_spent id p (q ∷ places) [] wait h = absurd wait
   wait_spent id p (q ∷ places) (w ∷ wholes) wait h =
       elim h [
-        | inl e ↦ subst (λ (k : ℕ). Spent log got k) (sym e) wait.0.spent
+        | inl e ↦ subst (λ (k : ℕ). Spent history.log got k) (sym e) wait.0.spent
         | inr t ↦ wait_spent id p places wholes wait.1 t
       ]
 
@@ -92,9 +92,9 @@ module _ (queued : List Message) (log : List Slot) (got : List ℕ) where
     pub back : List ℕ
     pub parts : places ≡ front ++ back
     pub due_queued : WereQueued queued front (map (delivered_as id) ahead)
-    pub left_queued : WaitQueued queued log got id back offset
+    pub left_queued : WaitQueued queued history got id back offset
 
-  pub split_due : (id next : ℕ) (places : List ℕ) (waiting : List WholeModel) → WaitQueued queued log got id places waiting → Split id places (due next waiting) (not_due next waiting)
+  pub split_due : (id next : ℕ) (places : List ℕ) (waiting : List WholeModel) → WaitQueued queued history got id places waiting → Split id places (due next waiting) (not_due next waiting)
   split_due id next [] [] wait = record { front = []; back = []; parts = refl; due_queued = tt; left_queued = tt }
   split_due id next [] (w ∷ waiting) wait = absurd wait
   split_due id next (p ∷ places) [] wait = absurd wait
@@ -113,8 +113,8 @@ module _ (queued : List Message) (log : List Slot) (got : List ℕ) where
       go false rest = record { front = []; back = p ∷ places; parts = refl; due_queued = tt; left_queued = wait }
 
   -- one that waits among others
-  wait_among : (id p k : ℕ) (whole : WholeModel) (places : List ℕ) (wholes : List WholeModel) → IsQueued queued log got (IsOn id) p whole → WaitQueued queued log got id places wholes
-      → WaitQueued queued log got id (take k places ++ p ∷ drop k places) (take k wholes ++ whole ∷ drop k wholes)
+  wait_among : (id p k : ℕ) (whole : WholeModel) (places : List ℕ) (wholes : List WholeModel) → IsQueued queued history.log got (IsOn history id) p whole → WaitQueued queued history got id places wholes
+      → WaitQueued queued history got id (take k places ++ p ∷ drop k places) (take k wholes ++ whole ∷ drop k wholes)
   wait_among id p zero whole places wholes is wait = (is, wait)
   wait_among id p (suc k) whole [] [] is wait = (is, tt)
   wait_among id p (suc k) whole [] (w ∷ wholes) is wait = absurd wait
@@ -133,12 +133,12 @@ module _ (queued : List Message) (log : List Slot) (got : List ℕ) where
     pub more : List ℕ
     pub waits : List ℕ
     pub were : WereQueued queued (places ++ more) after
-    pub wait : WaitQueued queued log got id waits waiting
+    pub wait : WaitQueued queued history got id waits waiting
     pub once : AreDistinct ((all ++ more) ++ waits)
     pub on : (q : ℕ) → Has q more → OnStream queued id q
-    pub spent : (q : ℕ) → Has q more → Spent log got q
+    pub spent : (q : ℕ) → Has q more → Spent history.log got q
 
-  pub leaves_none : (all places waits : List ℕ) (id : ℕ) (waiting : List WholeModel) (before after : List MessageContent) → WereQueued queued places before → WaitQueued queued log got id waits waiting → AreDistinct (all ++ waits)
+  pub leaves_none : (all places waits : List ℕ) (id : ℕ) (waiting : List WholeModel) (before after : List MessageContent) → WereQueued queued places before → WaitQueued queued history got id waits waiting → AreDistinct (all ++ waits)
       → after ≡ before → Leaves all places id waiting after
   leaves_none all places waits id waiting before after were wait once same =
       record {
@@ -151,8 +151,8 @@ module _ (queued : List Message) (log : List Slot) (got : List ℕ) where
         spent = λ q h. absurd h;
       }
 
-  leaves_one : (all places waits : List ℕ) (on id p : ℕ) (whole : WholeModel) (waiting : List WholeModel) (before after : List MessageContent) → id ≡ on → WereQueued queued places before → WaitQueued queued log got id waits waiting
-      → IsQueued queued log got (OfStream id) p whole → AreDistinct (all ++ waits) → (Has p (all ++ waits) → ⊥) → after ≡ before ++ delivered_as on whole ∷ [] → Leaves all places id waiting after
+  leaves_one : (all places waits : List ℕ) (on id p : ℕ) (whole : WholeModel) (waiting : List WholeModel) (before after : List MessageContent) → id ≡ on → WereQueued queued places before → WaitQueued queued history got id waits waiting
+      → IsQueued queued history.log got (OfStream id) p whole → AreDistinct (all ++ waits) → (Has p (all ++ waits) → ⊥) → after ≡ before ++ delivered_as on whole ∷ [] → Leaves all places id waiting after
   leaves_one all places waits on id p whole waiting before after same were wait is once fresh e =
       record {
         more = p ∷ [];
@@ -162,11 +162,11 @@ module _ (queued : List Message) (log : List Slot) (got : List ℕ) where
         wait = wait;
         once = subst (λ (l : List ℕ). AreDistinct l) (sym (appended all (p ∷ []) waits)) (distinct_with p all waits once fresh);
         on = λ q h. elim h [ inl e' ↦ subst (λ (k : ℕ). OnStream queued id k) (sym e') (on_stream id p whole is) | inr t ↦ absurd t ];
-        spent = λ q h. elim h [ inl e' ↦ subst (λ (k : ℕ). Spent log got k) (sym e') is.spent | inr t ↦ absurd t ];
+        spent = λ q h. elim h [ inl e' ↦ subst (λ (k : ℕ). Spent history.log got k) (sym e') is.spent | inr t ↦ absurd t ];
       }
 
   leaves_whole : (all places waits : List ℕ) (id p size : ℕ) (whole : WholeModel) (old new : StreamModel) (before after : List MessageContent) (taken : Taken) → id ≡ old.id → WereQueued queued places before
-      → WaitQueued queued log got id waits old.waiting → IsQueued queued log got (IsOn id) p whole → AreDistinct (all ++ waits) → (Has p (all ++ waits) → ⊥) → TakesWhole whole old before size taken new after
+      → WaitQueued queued history got id waits old.waiting → IsQueued queued history.log got (IsOn history id) p whole → AreDistinct (all ++ waits) → (Has p (all ++ waits) → ⊥) → TakesWhole whole old before size taken new after
       → Leaves all places id new.waiting after
   leaves_whole all places waits id p size whole old new before after taken same were wait is once fresh takes = go (whole.number == old.next) takes.ready takes.waiting
     where
@@ -180,7 +180,7 @@ module _ (queued : List Message) (log : List Slot) (got : List ℕ) where
             were = subst (λ (l : List MessageContent). WereQueued queued (places ++ (p ∷ split.front)) l) (sym e)
                 (both_queued queued places (p ∷ split.front) before (ready_with old whole) were
                 (subst (λ (k : ℕ). WereQueued queued (p ∷ split.front) (delivered_as k whole ∷ map (delivered_as k) (due (next_after old.next whole) old.waiting))) same (delivered id p whole (only_on id p whole is), split.due_queued)));
-            wait = subst (λ (l : List WholeModel). WaitQueued queued log got id split.back l) (sym left) split.left_queued;
+            wait = subst (λ (l : List WholeModel). WaitQueued queued history got id split.back l) (sym left) split.left_queued;
             once = subst (λ (l : List ℕ). AreDistinct l) (sym (appended all (p ∷ split.front) split.back))
                 (subst (λ (l : List ℕ). AreDistinct (all ++ (p ∷ l))) split.parts (distinct_with p all waits once fresh));
             on = λ q h. elim h [
@@ -188,7 +188,7 @@ module _ (queued : List Message) (log : List Slot) (got : List ℕ) where
               | inr t ↦ wait_on_stream id q waits old.waiting wait (subst (λ (l : List ℕ). Has q l) (sym split.parts) (has_left q split.front split.back t))
             ];
             spent = λ q h. elim h [
-              | inl e' ↦ subst (λ (k : ℕ). Spent log got k) (sym e') is.spent
+              | inl e' ↦ subst (λ (k : ℕ). Spent history.log got k) (sym e') is.spent
               | inr t ↦ wait_spent id q waits old.waiting wait (subst (λ (l : List ℕ). Has q l) (sym split.parts) (has_left q split.front split.back t))
             ];
           }
@@ -196,25 +196,25 @@ module _ (queued : List Message) (log : List Slot) (got : List ℕ) where
           let whole_waits : take among.at waits ++ drop among.at waits ≡ waits = take_drop among.at waits in
           let split_all : (all ++ take among.at waits) ++ drop among.at waits ≡ all ++ waits = appended all (take among.at waits) (drop among.at waits) ∙ ap (λ (l : List ℕ). all ++ l) whole_waits in
           leaves_none all places (take among.at waits ++ p ∷ drop among.at waits) id new.waiting before after were
-          (subst (λ (l : List WholeModel). WaitQueued queued log got id (take among.at waits ++ p ∷ drop among.at waits) l) (sym among.waiting) (wait_among id p among.at whole waits old.waiting is wait))
+          (subst (λ (l : List WholeModel). WaitQueued queued history got id (take among.at waits ++ p ∷ drop among.at waits) l) (sym among.waiting) (wait_among id p among.at whole waits old.waiting is wait))
           (subst (λ (l : List ℕ). AreDistinct l) (appended all (take among.at waits) (p ∷ drop among.at waits))
           (distinct_with p (all ++ take among.at waits) (drop among.at waits) (subst (λ (l : List ℕ). AreDistinct l) (sym split_all) once) (λ h. fresh (subst (λ (l : List ℕ). Has p l) split_all h))))
           e
 
   -- an ordered part
   pub leaves_ordered : (all places waits : List ℕ) (id p : ℕ) (part : PartModel) (old new : StreamModel) (before after : List MessageContent) (outcome : Assembled) (taken : Taken) → id ≡ old.id
-      → WereQueued queued places before → WaitQueued queued log got id waits old.waiting → MakesQueued queued log got (IsOn id) p outcome → AreDistinct (all ++ waits) → (Has p (all ++ waits) → ⊥)
+      → WereQueued queued places before → WaitQueued queued history got id waits old.waiting → MakesQueued queued history.log got (IsOn history id) p outcome → AreDistinct (all ++ waits) → (Has p (all ++ waits) → ⊥)
       → OrderedOutcome part old before outcome taken new after → Leaves all places id new.waiting after
   leaves_ordered all places waits id p part old new before after part_dropped taken same were wait makes once fresh does =
-      leaves_none all places waits id new.waiting before after were (subst (λ (s : StreamModel). WaitQueued queued log got id waits s.waiting) (sym does.0) wait) once does.1
+      leaves_none all places waits id new.waiting before after were (subst (λ (s : StreamModel). WaitQueued queued history got id waits s.waiting) (sym does.0) wait) once does.1
   leaves_ordered all places waits id p part old new before after part_kept taken same were wait makes once fresh does =
-      leaves_none all places waits id new.waiting before after were (subst (λ (l : List WholeModel). WaitQueued queued log got id waits l) (sym does.1) wait) once does.2
+      leaves_none all places waits id new.waiting before after were (subst (λ (l : List WholeModel). WaitQueued queued history got id waits l) (sym does.1) wait) once does.2
   leaves_ordered all places waits id p part old new before after (message_whole whole) taken same were wait makes once fresh does =
       leaves_whole all places waits id p (length part.payload) whole old new before after taken same were wait makes once fresh does
 
   -- one under a number that another has
   pub leaves_repeated : (all places waits : List ℕ) (on id p : ℕ) (part : PartModel) (waiting : List WholeModel) (before after : List MessageContent) (outcome : Assembled) (taken : Taken) → id ≡ on
-      → WereQueued queued places before → WaitQueued queued log got id waits waiting → MakesQueued queued log got (OfStream id) p outcome → AreDistinct (all ++ waits) → (Has p (all ++ waits) → ⊥)
+      → WereQueued queued places before → WaitQueued queued history got id waits waiting → MakesQueued queued history.log got (OfStream id) p outcome → AreDistinct (all ++ waits) → (Has p (all ++ waits) → ⊥)
       → UnorderedOutcome part (delivered_as on) before outcome taken after → Leaves all places id waiting after
   leaves_repeated all places waits on id p part waiting before after part_dropped taken same were wait makes once fresh does = leaves_none all places waits id waiting before after were wait once does.0
   leaves_repeated all places waits on id p part waiting before after part_kept taken same were wait makes once fresh does = leaves_none all places waits id waiting before after were wait once does.0
@@ -227,22 +227,22 @@ queued_got : (queued : List Message) (log : List Slot) (got : List ℕ) (n : ℕ
 queued_got queued log got n Named place whole is =
     record { offset = is.offset; head = is.head; at = is.at; is = is.is; queued_at = is.queued_at; number = is.number; ppid = is.ppid; payload = is.payload; spent = spent_got log got n place is.spent }
 
-pub wait_got : (queued : List Message) (log : List Slot) (got : List ℕ) (n id : ℕ) (places : List ℕ) (wholes : List WholeModel) → WaitQueued queued log got id places wholes → WaitQueued queued log (n ∷ got) id places wholes
-wait_got queued log got n id [] [] wait = tt
-wait_got queued log got n id [] (w ∷ wholes) wait = absurd wait
-wait_got queued log got n id (p ∷ places) [] wait = absurd wait
-wait_got queued log got n id (p ∷ places) (w ∷ wholes) wait = (queued_got queued log got n (IsOn id) p w wait.0, wait_got queued log got n id places wholes wait.1)
+pub wait_got : (queued : List Message) (history : History) (got : List ℕ) (n id : ℕ) (places : List ℕ) (wholes : List WholeModel) → WaitQueued queued history got id places wholes → WaitQueued queued history (n ∷ got) id places wholes
+wait_got queued history got n id [] [] wait = tt
+wait_got queued history got n id [] (w ∷ wholes) wait = absurd wait
+wait_got queued history got n id (p ∷ places) [] wait = absurd wait
+wait_got queued history got n id (p ∷ places) (w ∷ wholes) wait = (queued_got queued history.log got n (IsOn history id) p w wait.0, wait_got queued history got n id places wholes wait.1)
 
-pub stream_rows_got : (log : List Slot) (got : List ℕ) (n base id : ℕ) (stream : StreamModel) → StreamRows log got base id stream → StreamRows log (n ∷ got) base id stream
-stream_rows_got log got n base id stream rows =
+pub stream_rows_got : (history : History) (got : List ℕ) (n base id : ℕ) (stream : StreamModel) → StreamRows history got base id stream → StreamRows history (n ∷ got) base id stream
+stream_rows_got history got n base id stream rows =
     record {
       is = rows.is;
-      ordered = rows_got log got n base (IsOn id) stream.ordered rows.ordered;
-      unordered = rows_got log got n base (IsApart id) stream.unordered rows.unordered;
+      ordered = rows_got history.log got n base (IsOn history id) stream.ordered rows.ordered;
+      unordered = rows_got history.log got n base (IsApart history id) stream.unordered rows.unordered;
       next = rows.next;
       last = rows.last;
     }
 
-pub stream_got : (queued : List Message) (log : List Slot) (got : List ℕ) (n base id : ℕ) (places : List ℕ) (stream : StreamModel) → StreamHolds queued log got base id places stream → StreamHolds queued log (n ∷ got) base id places stream
-stream_got queued log got n base id places stream holds =
-    record { rows = stream_rows_got log got n base id stream holds.rows; wait = wait_got queued log got n id places stream.waiting holds.wait }
+pub stream_got : (queued : List Message) (history : History) (got : List ℕ) (n base id : ℕ) (places : List ℕ) (stream : StreamModel) → StreamHolds queued history got base id places stream → StreamHolds queued history (n ∷ got) base id places stream
+stream_got queued history got n base id places stream holds =
+    record { rows = stream_rows_got history got n base id stream holds.rows; wait = wait_got queued history got n id places stream.waiting holds.wait }

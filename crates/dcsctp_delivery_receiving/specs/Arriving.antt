@@ -4,9 +4,9 @@ use Rattle.std.specs.Prelude.{◌≢◌, ℕ, List, [], true, false}
 use Rattle.std.specs.List.{AllByRecursion}
 use Rattle.dcsctp_wire.specs.Content.{DataContent, IDataContent}
 use Rattle.dcsctp_machine.specs.transfer.Arrivals.{data_arrival, i_data_arrival, skipped_in, messages_skipped_in}
-use Rattle.dcsctp_delivery_sending.specs.Log.{Message, Slot, Cut, Fits}
+use Rattle.dcsctp_delivery_sending.specs.Log.{Message, Slot, History, Cut, Fits}
 use Rattle.dcsctp_delivery_sending.specs.Flushes.{IsData, IsInterleaved, IsForward}
-use Rattle.dcsctp_delivery_receiving.specs.Ready.{NameAll}
+use Rattle.dcsctp_delivery_receiving.specs.Ready.{SkipAll}
 use Rattle.dcsctp_delivery_receiving.specs.Received.{Carries}
 
 -- A DATA chunk of the log with a payload carries its piece.
@@ -21,11 +21,12 @@ InterleavedCarryPieces =
     (queued : List Message) (log : List Slot) (first : ℕ) (chunk : IDataContent) → Cut queued log → AllByRecursion Fits queued → (is : IsInterleaved log first chunk) → chunk.payload ≢ []
     → Carries log first is.number (i_data_arrival chunk).tsn (i_data_arrival chunk).chunk
 
--- A FORWARD-TSN names what its log has,
-abbrev pub ForwardsName : Type 0
-ForwardsName = (log : List Slot) (first tsn : ℕ) (streams : List ℕ) → IsForward false log first tsn streams → NameAll log (skipped_in streams)
+-- A FORWARD-TSN skips what its log has,
+abbrev pub ForwardsSkip : Type 0
+ForwardsSkip = (history : History) (first tsn : ℕ) (streams : List ℕ) → (is : IsForward false history first tsn streams) → SkipAll history is.passed.passed (skipped_in streams)
 
 -- and so does an I-FORWARD-TSN.
-abbrev pub InterleavedForwardsName : Type 0
-InterleavedForwardsName =
-    (queued : List Message) (log : List Slot) (first tsn : ℕ) (streams : List ℕ) → Cut queued log → AllByRecursion Fits queued → IsForward true log first tsn streams → NameAll log (messages_skipped_in streams)
+abbrev pub InterleavedForwardsSkip : Type 0
+InterleavedForwardsSkip =
+    (queued : List Message) (history : History) (first tsn : ℕ) (streams : List ℕ) → Cut queued history.log → AllByRecursion Fits queued → (is : IsForward true history first tsn streams)
+    → SkipAll history is.passed.passed (messages_skipped_in streams)

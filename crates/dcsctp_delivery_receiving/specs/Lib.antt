@@ -3,3 +3,4 @@ pub mod Ready
 pub mod Tracked
 pub mod Received
 pub mod Arriving
+pub mod Clear

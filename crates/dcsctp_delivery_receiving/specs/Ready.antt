@@ -9,34 +9,36 @@ use Rattle.dcsctp_machine.specs.transfer.Runs.{RunModel, WholeModel}
 use Rattle.dcsctp_machine.specs.transfer.IncomingStreams.{StreamModel, ChunkModel}
 use Rattle.dcsctp_machine.specs.declared.arrivals.SkippedTo.{SkippedTo}
 use Rattle.dcsctp_machine.specs.declared.arrivals.SkippedTo.TheVariants.{Ssn, Mid}
-use Rattle.dcsctp_delivery_sending.specs.Numbers.{AreOfKind, Told}
+use Rattle.dcsctp_delivery_sending.specs.Numbers.{AreOfKind, Told, IsCurrent}
 use Rattle.dcsctp_machine.specs.transfer.Incoming.{IncomingModel, stream_on, TakesData, MovesOn, ResetsStreams}
 use Rattle.dcsctp_delivery_sending.specs.Places.{Has, at_place}
-use Rattle.dcsctp_delivery_sending.specs.Log.{Message, Piece, Slot, is_beginning, is_end, bytes_of, Cut}
+use Rattle.dcsctp_delivery_sending.specs.Log.{Message, Piece, Mark, History, Resets, is_beginning, is_end, bytes_of, Cut}
 use Rattle.dcsctp_delivery_receiving.specs.Rows.{AreRows, Spent, IsQueued}
 
--- With interleaving the piece is of an ordered or of an unordered message, and its part has the number of that, without wrap.
-abbrev pub IsNumberedAs : Bool → Piece → ℕ → Type 0
-IsNumberedAs is_unordered piece number = piece.is_interleaved ≡ true → (piece.message.is_unordered ≡ is_unordered) × (number % 2 ^ 32 ≡ piece.mid % 2 ^ 32)
+-- With interleaving the piece is of an ordered or of an unordered message, sent since the last reset of its stream, and its part has the
+-- number of that, without wrap.
+abbrev pub IsNumberedAs : History → Bool → Piece → ℕ → Type 0
+IsNumberedAs history is_unordered piece number =
+    piece.is_interleaved ≡ true → (piece.message.is_unordered ≡ is_unordered) × (number % 2 ^ 32 ≡ piece.mid % 2 ^ 32) × IsCurrent history piece
 
 -- The piece is of the stream, among the parts of ordered messages, whatever its number without interleaving;
-abbrev pub IsOn : ℕ → Piece → ℕ → Type 0
-IsOn stream piece number = (piece.message.stream ≡ stream) × IsNumberedAs false piece number
+abbrev pub IsOn : History → ℕ → Piece → ℕ → Type 0
+IsOn history stream piece number = (piece.message.stream ≡ stream) × IsNumberedAs history false piece number
 
 -- or among those of unordered messages of I-DATA.
-abbrev pub IsApart : ℕ → Piece → ℕ → Type 0
-IsApart stream piece number = (piece.message.stream ≡ stream) × IsNumberedAs true piece number
+abbrev pub IsApart : History → ℕ → Piece → ℕ → Type 0
+IsApart history stream piece number = (piece.message.stream ≡ stream) × IsNumberedAs history true piece number
 
 -- Parts of unordered messages of DATA have the number of their stream.
 abbrev pub IsOfStream : Piece → ℕ → Type 0
 IsOfStream piece number = (piece.message.stream ≡ number) × (piece.is_interleaved ≡ false)
 
--- The log is of I-DATA, and the messages of a stream, ordered or not, have numbers from this one on, fewer than 2^31.
-pub record IsWindow (log : List Slot) (id : ℕ) (is_unordered : Bool) (start : ℕ) : Type 0 where
-  pub kinds : AreOfKind true log
-  pub small : start < 2 ^ 32
-  pub from : (n : ℕ) (f : Piece) → at_place n log ≡ Some (Some f) → f.message.stream ≡ id → f.message.is_unordered ≡ is_unordered → start ≤ f.mid
-  pub below : (n : ℕ) (f : Piece) → at_place n log ≡ Some (Some f) → f.message.stream ≡ id → f.message.is_unordered ≡ is_unordered → f.mid < start + 2 ^ 31
+-- The log is of I-DATA, and the messages of a stream, ordered or not, that were sent since its last reset have numbers from this one on,
+-- fewer than 2^31.
+pub record IsWindow (history : History) (id : ℕ) (is_unordered : Bool) (start : ℕ) : Type 0 where
+  pub kinds : AreOfKind true history.log
+  pub from : (n : ℕ) (f : Piece) → at_place n history.log ≡ Some (Some f) → f.message.stream ≡ id → f.message.is_unordered ≡ is_unordered → IsCurrent history f → start ≤ f.mid
+  pub below : (n : ℕ) (f : Piece) → at_place n history.log ≡ Some (Some f) → f.message.stream ≡ id → f.message.is_unordered ≡ is_unordered → IsCurrent history f → f.mid < start + 2 ^ 31
 
 -- No message was received yet; or the number is near those from `start` on, as the reassembly queue has them.
 pub data IsNear (start number : ℕ) : Type 0 where
@@ -44,8 +46,8 @@ pub data IsNear (start number : ℕ) : Type 0 where
   near : (base : ℕ) → base % 2 ^ 32 ≡ start % 2 ^ 32 → base + 2 ^ 33 < 2 ^ 64 → base ≤ number → number ≤ base + 2 ^ 31 → IsNear start number
 
 -- So MIDs of the stream are read right, next to this number.
-abbrev pub Reads : List Slot → ℕ → Bool → ℕ → Type 0
-Reads log id is_unordered number = (start : ℕ) → IsWindow log id is_unordered start → IsNear start number
+abbrev pub Reads : History → ℕ → Bool → ℕ → Type 0
+Reads history id is_unordered number = (start : ℕ) → IsWindow history id is_unordered start → IsNear start number
 
 -- None of these comes twice.
 abbrev pub AreDistinct : List ℕ → Type 0
@@ -68,41 +70,41 @@ WereQueued queued (place ∷ places) [] = ⊥
 WereQueued queued (place ∷ places) (content ∷ contents) = WasQueued queued place content × WereQueued queued places contents
 
 -- Each message that waits for its turn was queued at its place.
-abbrev pub WaitQueued : List Message → List Slot → List ℕ → ℕ → List ℕ → List WholeModel → Type 0
-WaitQueued queued log got stream [] [] = Unit {0}
-WaitQueued queued log got stream [] (whole ∷ wholes) = ⊥
-WaitQueued queued log got stream (place ∷ places) [] = ⊥
-WaitQueued queued log got stream (place ∷ places) (whole ∷ wholes) =
-    IsQueued queued log got (IsOn stream) place whole × WaitQueued queued log got stream places wholes
+abbrev pub WaitQueued : List Message → History → List ℕ → ℕ → List ℕ → List WholeModel → Type 0
+WaitQueued queued history got stream [] [] = Unit {0}
+WaitQueued queued history got stream [] (whole ∷ wholes) = ⊥
+WaitQueued queued history got stream (place ∷ places) [] = ⊥
+WaitQueued queued history got stream (place ∷ places) (whole ∷ wholes) =
+    IsQueued queued history.log got (IsOn history stream) place whole × WaitQueued queued history got stream places wholes
 
 -- A stream holds rows of pieces of its messages,
-pub record StreamRows (log : List Slot) (got : List ℕ) (base id : ℕ) (stream : StreamModel) : Type 0 where
+pub record StreamRows (history : History) (got : List ℕ) (base id : ℕ) (stream : StreamModel) : Type 0 where
   pub is : stream.id ≡ id
-  pub ordered : AreRows log got base (IsOn id) stream.ordered
-  pub unordered : AreRows log got base (IsApart id) stream.unordered
-  pub next : Reads log id false stream.next
-  pub last : Reads log id true stream.last_unordered
+  pub ordered : AreRows history.log got base (IsOn history id) stream.ordered
+  pub unordered : AreRows history.log got base (IsApart history id) stream.unordered
+  pub next : Reads history id false stream.next
+  pub last : Reads history id true stream.last_unordered
 
 -- and whole messages that wait.
-pub record StreamHolds (queued : List Message) (log : List Slot) (got : List ℕ) (base id : ℕ) (places : List ℕ) (stream : StreamModel) : Type 0 where
-  pub rows : StreamRows log got base id stream
-  pub wait : WaitQueued queued log got id places stream.waiting
+pub record StreamHolds (queued : List Message) (history : History) (got : List ℕ) (base id : ℕ) (places : List ℕ) (stream : StreamModel) : Type 0 where
+  pub rows : StreamRows history got base id stream
+  pub wait : WaitQueued queued history got id places stream.waiting
 
 -- All that is held of what was received is of what the peer's user queued. `got` has the offsets of the TSNs that were handled, and `read`
 -- the places of the messages that the user has read. No message was read, is ready or waits twice.
-pub record HoldsAll (queued : List Message) (log : List Slot) (got : List ℕ) (base : ℕ) (read : List ℕ) (streams : ℕ → StreamModel) (unordered : List RunModel) (ready : List MessageContent) : Type 0 where
+pub record HoldsAll (queued : List Message) (history : History) (got : List ℕ) (base : ℕ) (read : List ℕ) (streams : ℕ → StreamModel) (unordered : List RunModel) (ready : List MessageContent) : Type 0 where
   pub waits : ℕ → List ℕ
-  pub streams_hold : (id : ℕ) → StreamHolds queued log got base id (waits id) (streams id)
-  pub rows : AreRows log got base IsOfStream unordered
+  pub streams_hold : (id : ℕ) → StreamHolds queued history got base id (waits id) (streams id)
+  pub rows : AreRows history.log got base IsOfStream unordered
   pub places : List ℕ
   pub were_queued : WereQueued queued places ready
-  pub spent : (place : ℕ) → Has place (read ++ places) → Spent log got place
+  pub spent : (place : ℕ) → Has place (read ++ places) → Spent history.log got place
   pub once : (id : ℕ) → AreDistinct ((read ++ places) ++ waits id)
 
 -- So it is of the received messages of an association.
-abbrev pub Holds : List Message → List Slot → List ℕ → ℕ → List ℕ → IncomingModel → Type 0
-Holds queued log got base read incoming =
-    HoldsAll queued log got base read (λ id. stream_on id incoming.streams) incoming.unordered incoming.ready
+abbrev pub Holds : List Message → History → List ℕ → ℕ → List ℕ → IncomingModel → Type 0
+Holds queued history got base read incoming =
+    HoldsAll queued history got base read (λ id. stream_on id incoming.streams) incoming.unordered incoming.ready
 
 -- The chunk of a piece is numbered by whether its message is unordered; that of an interleaved one says two of the piece's numbers.
 abbrev pub IsNumbered : Piece → Numbering → Type 0
@@ -113,23 +115,55 @@ IsNumbered piece (InterleavedOrdered mid fsn) =
 IsNumbered piece (InterleavedUnordered mid fsn) =
     (piece.is_interleaved ≡ true) × (piece.message.is_unordered ≡ true) × (mid ≡ piece.mid % 2 ^ 32) × (fsn ≡ piece.fsn % 2 ^ 32)
 
--- The message of the entry is one of the log; a FORWARD-TSN skips what it likes, where DATA was sent.
-abbrev pub Names : List Slot → SkippedTo → Type 0
-Names log (Ssn id ssn) = (number : ℕ) × (piece : Piece) × (at_place number log ≡ Some (Some piece)) × (piece.is_interleaved ≡ false)
-Names log (Mid id is_unordered mid) =
-    (number : ℕ) × (piece : Piece) × (at_place number log ≡ Some (Some piece))
-    × (id.0 ≡ piece.message.stream) × (is_unordered ≡ piece.message.is_unordered) × (mid ≡ piece.mid % 2 ^ 32)
+-- DATA was sent: a FORWARD-TSN skips what it likes.
+pub record SkipsPlain (history : History) : Type 0 where
+  pub number : ℕ
+  pub piece : Piece
+  pub at : at_place number history.log ≡ Some (Some piece)
+  pub kind : piece.is_interleaved ≡ false
 
--- So it is of each entry.
-abbrev pub NameAll : List Slot → List SkippedTo → Type 0
-NameAll log [] = Unit {0}
-NameAll log (entry ∷ entries) = Names log entry × NameAll log entries
+-- The message of the entry of an I-FORWARD-TSN is one of the log. So many TSNs are passed, none together with one before a reset that names
+-- the stream.
+pub record SkipsMessage (history : History) (passed id : ℕ) (is_unordered : Bool) (mid : ℕ) : Type 0 where
+  pub number : ℕ
+  pub piece : Piece
+  pub at : at_place number history.log ≡ Some (Some piece)
+  pub kind : piece.is_interleaved ≡ true
+  pub stream : id ≡ piece.message.stream
+  pub unordered : is_unordered ≡ piece.message.is_unordered
+  pub is : mid ≡ piece.mid % 2 ^ 32
+  pub within : (mark : Mark) → Has mark history.marks → Resets mark piece.message.stream → number < mark.bound → passed ≤ mark.bound
+
+-- So it is of an entry,
+abbrev pub Skips : History → ℕ → SkippedTo → Type 0
+Skips history passed (Ssn id ssn) = SkipsPlain history
+Skips history passed (Mid id is_unordered mid) = SkipsMessage history passed id.0 is_unordered mid
+
+-- and of each.
+abbrev pub SkipAll : History → ℕ → List SkippedTo → Type 0
+SkipAll history passed [] = Unit {0}
+SkipAll history passed (entry ∷ entries) = Skips history passed entry × SkipAll history passed entries
+
+-- The message was sent since the last reset of its stream.
+abbrev pub SkipsCurrent : (history : History) (passed : ℕ) (entry : SkippedTo) → Skips history passed entry → Type 0
+SkipsCurrent history passed (Ssn id ssn) skips = Unit {0}
+SkipsCurrent history passed (Mid id is_unordered mid) skips = IsCurrent history skips.piece
+
+-- So it is of an entry,
+abbrev pub Names : History → ℕ → SkippedTo → Type 0
+Names history passed entry = (skips : Skips history passed entry) × SkipsCurrent history passed entry skips
+
+-- and of each.
+abbrev pub NameAll : History → ℕ → List SkippedTo → Type 0
+NameAll history passed [] = Unit {0}
+NameAll history passed (entry ∷ entries) = Names history passed entry × NameAll history passed entries
 
 -- The chunk carries the piece of its TSN.
-pub record BearsPiece (log : List Slot) (base tsn_number : ℕ) (chunk : ChunkModel) : Type 0 where
+pub record BearsPiece (history : History) (base tsn_number : ℕ) (chunk : ChunkModel) : Type 0 where
   pub offset : ℕ
   pub piece : Piece
-  pub at : at_place offset log ≡ Some (Some piece)
+  pub at : at_place offset history.log ≡ Some (Some piece)
+  pub current : piece.is_interleaved ≡ true → IsCurrent history piece
   pub number : tsn_number ≡ base + offset
   pub stream : chunk.stream ≡ piece.message.stream
   pub numbered : IsNumbered piece chunk.numbering
@@ -141,20 +175,20 @@ pub record BearsPiece (log : List Slot) (base tsn_number : ℕ) (chunk : ChunkMo
 -- A chunk whose TSN is new, and that carries the piece of its TSN, leaves only what was queued, each message once.
 abbrev pub ReadyWasQueued : Type 0
 ReadyWasQueued =
-    (queued : List Message) (log : List Slot) → Cut queued log → Told log
+    (queued : List Message) (history : History) → Cut queued history.log → Told history
     → (got : List ℕ) (base tsn : ℕ) (read : List ℕ) (chunk : ChunkModel) (old new : IncomingModel)
-    → (bears : BearsPiece log base (number_near old.last_tsn_number tsn) chunk) → (Has bears.offset got → ⊥)
-    → Holds queued log got base read old → TakesData tsn chunk old new
-    → Holds queued log (bears.offset ∷ got) base read new
+    → (bears : BearsPiece history base (number_near old.last_tsn_number tsn) chunk) → (Has bears.offset got → ⊥)
+    → Holds queued history got base read old → TakesData tsn chunk old new
+    → Holds queued history (bears.offset ∷ got) base read new
 
 -- So does a FORWARD-TSN, whatever it skips, or an I-FORWARD-TSN,
 abbrev pub SkippingKeeps : Type 0
 SkippingKeeps =
-    (queued : List Message) (log : List Slot) (got : List ℕ) (base tsn : ℕ) (read : List ℕ) (entries : List SkippedTo) (old new : IncomingModel)
-    → NameAll log entries → Holds queued log got base read old → MovesOn tsn entries old new → Holds queued log got base read new
+    (queued : List Message) (history : History) (got : List ℕ) (base tsn passed : ℕ) (read : List ℕ) (entries : List SkippedTo) (old new : IncomingModel)
+    → NameAll history passed entries → Holds queued history got base read old → MovesOn tsn entries old new → Holds queued history got base read new
 
 -- and a reset of streams, whichever.
 abbrev pub ResettingKeeps : Type 0
 ResettingKeeps =
-    (queued : List Message) (log : List Slot) (got : List ℕ) (base : ℕ) (read : List ℕ) (streams : List ℕ) (old new : IncomingModel)
-    → Holds queued log got base read old → ResetsStreams streams old new → Holds queued log got base read new
+    (queued : List Message) (history : History) (got : List ℕ) (base : ℕ) (read : List ℕ) (streams : List ℕ) (old new : IncomingModel)
+    → Holds queued history got base read old → ResetsStreams streams old new → Holds queued history got base read new

@@ -1,21 +1,23 @@
 -- What an association has received of its peer's messages, with the data tracker, and with what waits for the end of a deferred reset
 -- (RFC 6525, section 5.2.2).
-use Rattle.std.specs.Prelude.{◌≡◌, ◌<◌, ◌+◌, ◌%◌, ◌^◌, ℕ, true, Some, List, [], ◌∷◌, ◌++◌, length}
+use Rattle.std.specs.Prelude.{◌≡◌, ◌<◌, ◌≤◌, ◌+◌, ◌%◌, ◌^◌, ℕ, Bool, true, Option, None, Some, List, [], ◌∷◌, ◌++◌, length}
 use Rattle.dcsctp_machine.specs.declared.arrivals.SkippedTo.{SkippedTo}
 use Rattle.dcsctp_machine.specs.declared.options.Options.{Options}
 use Rattle.dcsctp_machine.specs.transfer.Arrivals.{Arrival}
 use Rattle.dcsctp_machine.specs.transfer.Messages.{MessageContent}
 use Rattle.dcsctp_machine.specs.transfer.IncomingStreams.{ChunkModel}
 use Rattle.dcsctp_machine.specs.transfer.Incoming.{IncomingModel}
-use Rattle.dcsctp_machine.specs.transfer.Reassembly.{WaitingModel, arrived, skipping, ReassemblyState, actions_of, with_ready, new_reassembly, Leaves}
+use Rattle.dcsctp_machine.specs.transfer.Reassembly.{WaitingModel, DeferralModel, arrived, skipping, ReassemblyState, actions_of, with_ready, new_reassembly, Leaves}
 use Rattle.dcsctp_machine.specs.transfer.Tracker.{TrackerState, new_tracker}
 use Rattle.dcsctp_machine.specs.transfer.Transfer.{Transfer}
 use Rattle.dcsctp_machine.specs.turns.TransferMoves.{ReceivesData, MovesForward}
 use Rattle.dcsctp_delivery_sending.specs.Places.{Has, at_place}
-use Rattle.dcsctp_delivery_sending.specs.Log.{Message, Piece, Slot, is_beginning, is_end, bytes_of, Cut}
-use Rattle.dcsctp_delivery_receiving.specs.Ready.{AreDistinct, IsNumbered, NameAll, Holds}
-use Rattle.dcsctp_delivery_sending.specs.Numbers.{Told}
-use Rattle.dcsctp_delivery_receiving.specs.Tracked.{Tracks}
+use Rattle.dcsctp_machine.specs.transfer.Numbers.{is_tsn_beyond}
+use Rattle.dcsctp_machine.specs.turns.BegunResets.{BegunReset}
+use Rattle.dcsctp_delivery_sending.specs.Log.{Message, Piece, Slot, Mark, History, Resets, grown, with_mark, new_history, is_beginning, is_end, bytes_of, Cut}
+use Rattle.dcsctp_delivery_receiving.specs.Ready.{AreDistinct, IsNumbered, SkipAll, NameAll, Holds}
+use Rattle.dcsctp_delivery_sending.specs.Numbers.{Told, IsCurrent, AreCurrent}
+use Rattle.dcsctp_delivery_receiving.specs.Tracked.{tracked, Tracks}
 
 -- The chunk carries the piece of the TSN of this offset from the first.
 pub record Carries (log : List Slot) (first offset tsn : ℕ) (chunk : ChunkModel) : Type 0 where
@@ -44,71 +46,114 @@ pub record Placed (first base last : ℕ) : Type 0 where
   pub is : last ≡ base + worked
 
 -- No TSN was handled yet; or the number of the first is known, and all that is held was queued.
-pub data Reassembles (queued : List Message) (log : List Slot) (first : ℕ) (got read : List ℕ) (incoming : IncomingModel) : Type 0 where
-  untouched : got ≡ [] → incoming.last_tsn_number ≡ 2 ^ 32 → ((base : ℕ) → Holds queued log [] base read incoming) → Reassembles queued log first got read incoming
-  placed : (base : ℕ) → Placed first base incoming.last_tsn_number → Holds queued log got base read incoming → Reassembles queued log first got read incoming
+pub data Reassembles (queued : List Message) (history : History) (first : ℕ) (got read : List ℕ) (incoming : IncomingModel) : Type 0 where
+  untouched : got ≡ [] → incoming.last_tsn_number ≡ 2 ^ 32 → ((base : ℕ) → Holds queued history [] base read incoming) → Reassembles queued history first got read incoming
+  placed : (base : ℕ) → Placed first base incoming.last_tsn_number → Holds queued history got base read incoming → Reassembles queued history first got read incoming
+
+-- So does one that was sent since the last reset of its stream.
+pub record CarriesCurrent (history : History) (first offset tsn : ℕ) (chunk : ChunkModel) : Type 0 where
+  pub carries : Carries history.log first offset tsn chunk
+  pub current : carries.piece.is_interleaved ≡ true → IsCurrent history carries.piece
+
+-- The TSN was assigned; up to it each message of the entries may be skipped.
+pub record SkipsTo (history : History) (first tsn : ℕ) (entries : List SkippedTo) : Type 0 where
+  pub tsn_is : IsTsn history.log first tsn
+  pub names : NameAll history (tsn_is.offset + 1) entries
 
 -- What waits for the end of a deferred reset, and the offsets of its TSNs.
-abbrev pub Defers : List Slot → ℕ → List ℕ → List WaitingModel → Type 0
-Defers log first [] [] = Unit {0}
-Defers log first (offset ∷ others) [] = ⊥
-Defers log first [] (arrived tsn chunk ∷ actions) = ⊥
-Defers log first (offset ∷ others) (arrived tsn chunk ∷ actions) = Carries log first offset tsn chunk × Defers log first others actions
-Defers log first [] (skipping tsn entries ∷ actions) = IsTsn log first tsn × NameAll log entries × Defers log first [] actions
-Defers log first (offset ∷ others) (skipping tsn entries ∷ actions) = IsTsn log first tsn × NameAll log entries × Defers log first (offset ∷ others) actions
+abbrev pub Defers : History → ℕ → List ℕ → List WaitingModel → Type 0
+Defers history first [] [] = Unit {0}
+Defers history first (offset ∷ others) [] = ⊥
+Defers history first [] (arrived tsn chunk ∷ actions) = ⊥
+Defers history first (offset ∷ others) (arrived tsn chunk ∷ actions) = CarriesCurrent history first offset tsn chunk × Defers history first others actions
+Defers history first [] (skipping tsn entries ∷ actions) = SkipsTo history first tsn entries × Defers history first [] actions
+Defers history first (offset ∷ others) (skipping tsn entries ∷ actions) = SkipsTo history first tsn entries × Defers history first (offset ∷ others) actions
+
+-- All that waits lies beyond the last TSN before the deferred reset.
+abbrev pub AreBeyond : ℕ → List WaitingModel → Type 0
+AreBeyond last_tsn [] = Unit {0}
+AreBeyond last_tsn (arrived tsn chunk ∷ actions) = (is_tsn_beyond tsn last_tsn ≡ true) × AreBeyond last_tsn actions
+AreBeyond last_tsn (skipping tsn entries ∷ actions) = (is_tsn_beyond tsn last_tsn ≡ true) × AreBeyond last_tsn actions
+
+abbrev pub WaitBeyond : Option DeferralModel → Type 0
+WaitBeyond None = Unit {0}
+WaitBeyond (Some deferral) = AreBeyond deferral.last_tsn deferral.waiting
+
+-- The TSN of a stream came before a reset of that, up to which all was received.
+pub record IsPast (history : History) (first cumulative id number : ℕ) : Type 0 where
+  pub mark : Mark
+  pub has : Has mark history.marks
+  pub names : Resets mark id
+  pub below : number < mark.bound
+  pub passed : tracked first mark.bound ≤ cumulative + 1
 
 -- All that an association has received whose peer has this log. `taken` has the offsets that the tracker knows, `got` those that the
 -- reassembly queue has handled, and `later` those that wait for the end of a deferred reset.
-pub record Received (queued : List Message) (log : List Slot) (first : ℕ) (read : List ℕ) (tracker : TrackerState) (reassembly : ReassemblyState) : Type 0 where
+pub record Received (queued : List Message) (history : History) (first : ℕ) (read : List ℕ) (tracker : TrackerState) (reassembly : ReassemblyState) : Type 0 where
   pub taken : List ℕ
   pub got : List ℕ
   pub later : List ℕ
-  pub tracks : Tracks first (length log) taken tracker
+  pub tracks : Tracks first (length history.log) taken tracker
   pub got_taken : (k : ℕ) → Has k got → Has k taken
   pub later_taken : (k : ℕ) → Has k later → Has k taken
   pub apart : (k : ℕ) → Has k later → Has k got → ⊥
   pub distinct : AreDistinct later
-  pub holds : Reassembles queued log first got read reassembly.incoming
-  pub defers : Defers log first later (actions_of reassembly.deferral)
+  pub holds : Reassembles queued history first got read reassembly.incoming
+  pub defers : Defers history first later (actions_of reassembly.deferral)
+  pub beyond : WaitBeyond reassembly.deferral
+  pub old : (n : ℕ) (f : Piece) → at_place n history.log ≡ Some (Some f) → f.is_interleaved ≡ true → (IsCurrent history f → ⊥) → IsPast history first tracker.cumulative f.message.stream n
 
 -- Fewer than 2^31 TSNs were assigned.
-pub record Few (log : List Slot) (first : ℕ) : Type 0 where
+pub record Few (history : History) (first : ℕ) : Type 0 where
   pub small : first < 2 ^ 32
-  pub few : length log < 2 ^ 31
+  pub few : length history.log < 2 ^ 31
 
 -- A chunk that carries the piece of its TSN leaves only what was queued, each message once, whether its TSN is new or not.
 abbrev pub ReceivingKeeps : Type 0
 ReceivingKeeps =
-    (queued : List Message) (log : List Slot) (first : ℕ) (read : List ℕ) (offset : ℕ) (arrival : Arrival) (old new : Transfer) → Cut queued log → Told log → Few log first
-    → Carries log first offset arrival.tsn arrival.chunk → Received queued log first read old.tracker old.reassembly → ReceivesData arrival old new
-    → Received queued log first read new.tracker new.reassembly
+    (queued : List Message) (history : History) (first : ℕ) (read : List ℕ) (offset : ℕ) (arrival : Arrival) (old new : Transfer) → Cut queued history.log → Told history → Few history first
+    → Carries history.log first offset arrival.tsn arrival.chunk → Received queued history first read old.tracker old.reassembly → ReceivesData arrival old new
+    → Received queued history first read new.tracker new.reassembly
 
 -- So does a FORWARD-TSN.
 abbrev pub ForwardingKeeps : Type 0
 ForwardingKeeps =
-    (queued : List Message) (log : List Slot) (first : ℕ) (read : List ℕ) (tsn : ℕ) (entries : List SkippedTo) (old new : Transfer) → Cut queued log → Told log → Few log first → IsTsn log first tsn → NameAll log entries
-    → Received queued log first read old.tracker old.reassembly → MovesForward tsn entries old new → Received queued log first read new.tracker new.reassembly
+    (queued : List Message) (history : History) (first : ℕ) (read : List ℕ) (tsn : ℕ) (entries : List SkippedTo) (old new : Transfer) → Cut queued history.log → Told history → Few history first
+    → (is : IsTsn history.log first tsn) → SkipAll history (is.offset + 1) entries → Received queued history first read old.tracker old.reassembly → MovesForward tsn entries old new
+    → Received queued history first read new.tracker new.reassembly
 
 -- So does a reset of streams, with all that waited for it, or some.
 abbrev pub LeavingKeeps : Type 0
 LeavingKeeps =
-    (queued : List Message) (log : List Slot) (first : ℕ) (read : List ℕ) (streams : List ℕ) (tracker : TrackerState) (old new : ReassemblyState) → Cut queued log → Told log → Few log first
-    → Received queued log first read tracker old → Leaves streams old new → Received queued log first read tracker new
+    (queued : List Message) (history : History) (first : ℕ) (read : List ℕ) (streams : List ℕ) (tracker : TrackerState) (old new : ReassemblyState) → Cut queued history.log → Told history → Few history first
+    → Received queued history first read tracker old → Leaves streams old new → Received queued history first read tracker new
 
--- The peer may queue more and assign more TSNs.
+-- The peer may queue more and assign more TSNs,
 abbrev pub GrowingKeeps : Type 0
 GrowingKeeps =
-    (queued more : List Message) (log later : List Slot) (first : ℕ) (read : List ℕ) (tracker : TrackerState) (reassembly : ReassemblyState) → Received queued log first read tracker reassembly
-    → Received (more ++ queued) (later ++ log) first read tracker reassembly
+    (queued more : List Message) (history : History) (later : List Slot) (first : ℕ) (read : List ℕ) (tracker : TrackerState) (reassembly : ReassemblyState) → AreCurrent history later
+    → Received queued history first read tracker reassembly → Received (more ++ queued) (grown later history) first read tracker reassembly
+
+-- and may begin a reset of its streams, when so many TSNs were assigned.
+abbrev pub AskingKeeps : Type 0
+AskingKeeps =
+    (queued : List Message) (history : History) (begun : Option BegunReset) (ids : List ℕ) (bound first : ℕ) (read : List ℕ) (tracker : TrackerState) (reassembly : ReassemblyState) → length history.log ≤ bound
+    → Received queued history first read tracker reassembly → Received queued (with_mark begun ids bound history) first read tracker reassembly
 
 -- An association that was just begun has received nothing.
 abbrev pub BeginningReceives : Type 0
 BeginningReceives =
-    (options : Options) (queued : List Message) (log : List Slot) (first size : ℕ) → first < 2 ^ 32
-    → Received queued log first [] (new_tracker options first) (new_reassembly size)
+    (options : Options) (queued : List Message) (history : History) (first size : ℕ) → first < 2 ^ 32 → AreCurrent history history.log
+    → Received queued history first [] (new_tracker options first) (new_reassembly size)
+
+-- What was received of a peer that has assigned no TSN yet may begin with any floors.
+abbrev pub AwaitingReceives : Type 0
+AwaitingReceives =
+    (queued : List Message) (history : History) (floors : ℕ → Bool → ℕ) (first : ℕ) (read : List ℕ) (tracker : TrackerState) (reassembly : ReassemblyState) → history.log ≡ []
+    → Received queued history first read tracker reassembly → Received queued (new_history floors) first read tracker reassembly
 
 -- The message that the user reads was queued, and wasn't read before.
-pub record Reads (queued : List Message) (log : List Slot) (first : ℕ) (read : List ℕ) (tracker : TrackerState) (reassembly : ReassemblyState) (message : MessageContent) (messages : List MessageContent) : Type 0 where
+pub record Reads (queued : List Message) (history : History) (first : ℕ) (read : List ℕ) (tracker : TrackerState) (reassembly : ReassemblyState) (message : MessageContent) (messages : List MessageContent) : Type 0 where
   pub place : ℕ
   pub sent : Message
   pub at : at_place place queued ≡ Some sent
@@ -116,10 +161,10 @@ pub record Reads (queued : List Message) (log : List Slot) (first : ℕ) (read :
   pub ppid : message.ppid ≡ sent.ppid
   pub payload : message.payload ≡ sent.payload
   pub fresh : Has place read → ⊥
-  pub received : Received queued log first (read ++ place ∷ []) tracker (with_ready messages reassembly)
+  pub received : Received queued history first (read ++ place ∷ []) tracker (with_ready messages reassembly)
 
 -- So it is of the first message that is ready.
 abbrev pub TakingReads : Type 0
 TakingReads =
-    (queued : List Message) (log : List Slot) (first : ℕ) (read : List ℕ) (tracker : TrackerState) (reassembly : ReassemblyState) (message : MessageContent) (messages : List MessageContent)
-    → reassembly.incoming.ready ≡ message ∷ messages → Received queued log first read tracker reassembly → Reads queued log first read tracker reassembly message messages
+    (queued : List Message) (history : History) (first : ℕ) (read : List ℕ) (tracker : TrackerState) (reassembly : ReassemblyState) (message : MessageContent) (messages : List MessageContent)
+    → reassembly.incoming.ready ≡ message ∷ messages → Received queued history first read tracker reassembly → Reads queued history first read tracker reassembly message messages

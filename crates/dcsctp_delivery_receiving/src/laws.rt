@@ -1,9 +1,10 @@
 //! The laws of this crate.
 
-ghost use Rattle.dcsctp_delivery_receiving.specs.Arriving.{ChunksCarryPieces, InterleavedCarryPieces, ForwardsName, InterleavedForwardsName};
+ghost use Rattle.dcsctp_delivery_receiving.specs.Arriving.{ChunksCarryPieces, InterleavedCarryPieces, ForwardsSkip, InterleavedForwardsSkip};
 ghost use Rattle.dcsctp_delivery_receiving.specs.Ready.{ReadyWasQueued, SkippingKeeps, ResettingKeeps};
-ghost use Rattle.dcsctp_delivery_receiving.specs.Received.{ReceivingKeeps, ForwardingKeeps, LeavingKeeps, GrowingKeeps, BeginningReceives, TakingReads};
+ghost use Rattle.dcsctp_delivery_receiving.specs.Received.{ReceivingKeeps, ForwardingKeeps, LeavingKeeps, GrowingKeeps, AskingKeeps, BeginningReceives, AwaitingReceives, TakingReads};
 ghost use Rattle.dcsctp_delivery_receiving.specs.Tracked.{NewTsnsAreNew, PassingKeeps, MoreAreAssigned, TsnsAreRead};
+ghost use Rattle.dcsctp_delivery_receiving.specs.Clear.{ClearThroughData, ClearThroughForward, ClearThroughResets, ClearThroughRest, PerformingClears, RaisingKeeps};
 
 /// What becomes ready by a chunk of data whose TSN is new was queued by the peer's user, each message once.
 pub fn ready_was_queued()
@@ -34,8 +35,8 @@ pub fn tsns_are_told_apart()
 pub fn chunks_carry_pieces()
     ensures data { ChunksCarryPieces }
     ensures interleaved { InterleavedCarryPieces }
-    ensures forward { ForwardsName }
-    ensures forward_interleaved { InterleavedForwardsName }
+    ensures forward { ForwardsSkip }
+    ensures forward_interleaved { InterleavedForwardsSkip }
 {}
 
 /// Whatever is received of what the peer sent, in any order and as often as it likes, leaves what was queued, each
@@ -45,6 +46,23 @@ pub fn receiving_keeps()
     ensures forward { ForwardingKeeps }
     ensures reset { LeavingKeeps }
     ensures more { GrowingKeeps }
+    ensures asked { AskingKeeps }
     ensures begun { BeginningReceives }
+    ensures awaited { AwaitingReceives }
     ensures read { TakingReads }
+{}
+
+/// A stream that was reset stays clear, whatever comes of what the peer sent before the reset or on other streams.
+pub fn streams_stay_clear()
+    ensures data { ClearThroughData }
+    ensures forward { ClearThroughForward }
+    ensures reset { ClearThroughResets }
+    ensures rest { ClearThroughRest }
+{}
+
+/// A stream is clear once its reset was performed. The peer may number the messages of such streams from 0 again, and
+/// of those on which it sent nothing.
+pub fn resets_clear()
+    ensures cleared { PerformingClears }
+    ensures raised { RaisingKeeps }
 {}

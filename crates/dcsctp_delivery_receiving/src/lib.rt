@@ -5,6 +5,6 @@
 mod laws;
 
 pub use laws::{
-    chunks_carry_pieces, ready_was_queued, receiving_keeps, resetting_keeps, skipping_keeps,
-    tsns_are_told_apart,
+    chunks_carry_pieces, ready_was_queued, receiving_keeps, resets_clear, resetting_keeps,
+    skipping_keeps, streams_stay_clear, tsns_are_told_apart,
 };

@@ -10,32 +10,32 @@ use Rattle.dcsctp_machine.specs.transfer.Acknowledging.{is_sack_valid, Acknowled
 use Rattle.dcsctp_machine.specs.transfer.Items.{Item, marked_items, changed_between}
 use Rattle.dcsctp_machine.specs.transfer.Outstanding.{OutstandingState, acknowledged_by, reported, tsn_at}
 use Rattle.dcsctp_machine.specs.transfer.Retransmission.{RetransmissionState, with_items, outstanding_count, after_expiry}
-use Rattle.dcsctp_delivery_sending.specs.Log.{Slot}
-use Rattle.dcsctp_delivery_sending.specs.Stages.{SaysAt, Bears}
+use Rattle.dcsctp_delivery_sending.specs.Log.{History}
+use Rattle.dcsctp_delivery_sending.specs.Stages.{SaysAt, IsNamed, Bears}
 use Rattle.dcsctp_delivery_sending.proofs.Stages.{changed_length, bears_changed}
 
 -- with these items
-abbrev Having : List Slot → ℕ → ℕ → OutstandingState → List Item → Type 0
-Having log first acknowledged outstanding items = Bears log first acknowledged (record outstanding { items = items })
+abbrev Having : History → ℕ → ℕ → OutstandingState → List Item → Type 0
+Having history first acknowledged outstanding items = Bears history first acknowledged (record outstanding { items = items })
 
-reported_bear : (log : List Slot) (first acknowledged count : ℕ) (blocks : List GapAckBlock) (outstanding : OutstandingState) → Bears log first acknowledged outstanding → Having log first acknowledged outstanding (reported count blocks outstanding.items)
-reported_bear log first acknowledged count [] outstanding b = b
-reported_bear log first acknowledged count (block ∷ blocks) outstanding b =
-    reported_bear log first acknowledged count blocks (record outstanding { items = changed_between Acknowledge (count + block.start - 1) (count + block.end) outstanding.items })
-    (bears_changed log first acknowledged Acknowledge (count + block.start - 1) (count + block.end) outstanding b)
+reported_bear : (history : History) (first acknowledged count : ℕ) (blocks : List GapAckBlock) (outstanding : OutstandingState) → Bears history first acknowledged outstanding → Having history first acknowledged outstanding (reported count blocks outstanding.items)
+reported_bear history first acknowledged count [] outstanding b = b
+reported_bear history first acknowledged count (block ∷ blocks) outstanding b =
+    reported_bear history first acknowledged count blocks (record outstanding { items = changed_between Acknowledge (count + block.start - 1) (count + block.end) outstanding.items })
+    (bears_changed history first acknowledged Acknowledge (count + block.start - 1) (count + block.end) outstanding b)
 
-covered_bear : (log : List Slot) (first acknowledged count : ℕ) (blocks : List GapAckBlock) (outstanding : OutstandingState) → Bears log first acknowledged outstanding → Having log first acknowledged outstanding (covered count blocks outstanding.items)
-covered_bear log first acknowledged count blocks outstanding b =
-    reported_bear log first acknowledged count blocks (record outstanding { items = changed_between Acknowledge 0 count outstanding.items }) (bears_changed log first acknowledged Acknowledge 0 count outstanding b)
+covered_bear : (history : History) (first acknowledged count : ℕ) (blocks : List GapAckBlock) (outstanding : OutstandingState) → Bears history first acknowledged outstanding → Having history first acknowledged outstanding (covered count blocks outstanding.items)
+covered_bear history first acknowledged count blocks outstanding b =
+    reported_bear history first acknowledged count blocks (record outstanding { items = changed_between Acknowledge 0 count outstanding.items }) (bears_changed history first acknowledged Acknowledge 0 count outstanding b)
 
-missed_bear : (log : List Slot) (first acknowledged count limit : ℕ) (newest : Option ℕ) (state : RetransmissionState) → Bears log first acknowledged state.outstanding → Bears log first acknowledged (missed_until count limit newest state).outstanding
-missed_bear log first acknowledged count limit newest state b =
-    go (nat_lt (marked_items state.outstanding.items) (marked_items (changed_between (Miss newest) count limit state.outstanding.items))) (bears_changed log first acknowledged (Miss newest) count limit state.outstanding b)
+missed_bear : (history : History) (first acknowledged count limit : ℕ) (newest : Option ℕ) (state : RetransmissionState) → Bears history first acknowledged state.outstanding → Bears history first acknowledged (missed_until count limit newest state).outstanding
+missed_bear history first acknowledged count limit newest state b =
+    go (nat_lt (marked_items state.outstanding.items) (marked_items (changed_between (Miss newest) count limit state.outstanding.items))) (bears_changed history first acknowledged (Miss newest) count limit state.outstanding b)
   where
     items : List Item
     items = changed_between (Miss newest) count limit state.outstanding.items
 
-    go : (c : Bool) → Having log first acknowledged state.outstanding items → Bears log first acknowledged (if c then lossy (with_items items state) else with_items items state).outstanding
+    go : (c : Bool) → Having history first acknowledged state.outstanding items → Bears history first acknowledged (if c then lossy (with_items items state) else with_items items state).outstanding
     go true b' = b'
     go false b' = b'
 
@@ -51,15 +51,24 @@ dropped_at (suc count) (suc k) (suc n) [] e = refl
 dropped_at (suc count) k zero (item ∷ items) e = absurd (omega arith)
 dropped_at (suc count) k (suc n) (item ∷ items) e = dropped_at count k n items (omega arith)
 
-first_bear : (log : List Slot) (first acknowledged count : ℕ) (state : RetransmissionState) → count ≤ length state.outstanding.items → Bears log first acknowledged state.outstanding → Bears log first (acknowledged + count) (without_first count state).outstanding
-first_bear log first acknowledged count state le b =
+first_bear : (history : History) (first acknowledged count : ℕ) (state : RetransmissionState) → count ≤ length state.outstanding.items → Bears history first acknowledged state.outstanding → Bears history first (acknowledged + count) (without_first count state).outstanding
+first_bear history first acknowledged count state le b =
     record {
       tsn = (let at = b.tsn in grind (arith, at));
       count = omega (arith, b.count, dropped_length count state.outstanding.items le);
       items = λ k item at. (
           let there = b.items (count + k) item (sym (dropped_at count k (count + k) state.outstanding.items refl) ∙ at) in
           let same : acknowledged + (count + k) ≡ acknowledged + count + k = omega arith in
-          subst (λ (n : ℕ). SaysAt log n item.fragment) same there
+          subst (λ (n : ℕ). SaysAt history.log n item.fragment) same there
+          );
+      named = λ k item at. (
+          let there = b.named (count + k) item (sym (dropped_at count k (count + k) state.outstanding.items refl) ∙ at) in
+          let same : acknowledged + (count + k) ≡ acknowledged + count + k = omega arith in
+          subst (λ (n : ℕ). IsNamed history n item.fragment) same there
+          );
+      splits = λ mark has k item at is. (
+          let same : acknowledged + (count + k) ≡ mark.bound = omega (arith, is) in
+          b.splits mark has (count + k) item (sym (dropped_at count k (count + k) state.outstanding.items refl) ∙ at) same
           );
     }
 
@@ -84,10 +93,10 @@ missed_items count limit newest state =
     go true = changed_length (Miss newest) count limit state.outstanding.items
     go false = changed_length (Miss newest) count limit state.outstanding.items
 
-pub acknowledged_bear : (log : List Slot) (first acknowledged now cumulative window : ℕ) (blocks : List GapAckBlock) (old new : RetransmissionState) → is_sack_valid old cumulative ≡ true → Bears log first acknowledged old.outstanding
-    → AcknowledgesItems now cumulative window blocks old new → Bears log first (acknowledged + acknowledged_by old.outstanding cumulative) new.outstanding
-acknowledged_bear log first acknowledged now cumulative window blocks old new valid b acknowledges =
-    subst (λ (s : RetransmissionState). Bears log first (acknowledged + acknowledged_by old.outstanding cumulative) s.outstanding) (sym acknowledges.is) (first_bear log first acknowledged count missed (omega (arith, within, missed_length)) missed_b)
+pub acknowledged_bear : (history : History) (first acknowledged now cumulative window : ℕ) (blocks : List GapAckBlock) (old new : RetransmissionState) → is_sack_valid old cumulative ≡ true → Bears history first acknowledged old.outstanding
+    → AcknowledgesItems now cumulative window blocks old new → Bears history first (acknowledged + acknowledged_by old.outstanding cumulative) new.outstanding
+acknowledged_bear history first acknowledged now cumulative window blocks old new valid b acknowledges =
+    subst (λ (s : RetransmissionState). Bears history first (acknowledged + acknowledged_by old.outstanding cumulative) s.outstanding) (sym acknowledges.is) (first_bear history first acknowledged count missed (omega (arith, within, missed_length)) missed_b)
   where
     count : ℕ
     count = acknowledged_by old.outstanding cumulative
@@ -98,11 +107,11 @@ acknowledged_bear log first acknowledged now cumulative window blocks old new va
     missed : RetransmissionState
     missed = missed_until count acknowledges.limit (option_map (tsn_at old.outstanding) acknowledges.newest) start
 
-    start_b : Bears log first acknowledged start.outstanding
-    start_b = covered_bear log first acknowledged count blocks old.outstanding b
+    start_b : Bears history first acknowledged start.outstanding
+    start_b = covered_bear history first acknowledged count blocks old.outstanding b
 
-    missed_b : Bears log first acknowledged missed.outstanding
-    missed_b = missed_bear log first acknowledged count acknowledges.limit (option_map (tsn_at old.outstanding) acknowledges.newest) start start_b
+    missed_b : Bears history first acknowledged missed.outstanding
+    missed_b = missed_bear history first acknowledged count acknowledges.limit (option_map (tsn_at old.outstanding) acknowledges.newest) start start_b
 
     within : count ≤ length old.outstanding.items
     within = grind (arith, nat_tests, valid)
@@ -125,5 +134,22 @@ acknowledged_kind now cumulative window blocks old new acknowledges =
         go true = refl
         go false = refl
 
-pub lost_bear : (log : List Slot) (first acknowledged now : ℕ) (state : RetransmissionState) → Bears log first acknowledged state.outstanding → Bears log first acknowledged (after_expiry now state).outstanding
-lost_bear log first acknowledged now state b = bears_changed log first acknowledged Mark 0 (outstanding_count state) state.outstanding b
+-- what is sent next says as before whether a reset was begun before it
+pub acknowledged_pends : (now cumulative window : ℕ) (blocks : List GapAckBlock) (old new : RetransmissionState) → AcknowledgesItems now cumulative window blocks old new → new.reset_begun ≡ old.reset_begun
+acknowledged_pends now cumulative window blocks old new acknowledges =
+    ap (λ (s : RetransmissionState). s.reset_begun) acknowledges.is
+    ∙ missed (acknowledged_by old.outstanding cumulative) acknowledges.limit (option_map (tsn_at old.outstanding) acknowledges.newest)
+    (with_items (covered (acknowledged_by old.outstanding cumulative) blocks old.outstanding.items) (exiting cumulative old))
+  where
+    missed : (count limit : ℕ) (newest : Option ℕ) (state : RetransmissionState) → (missed_until count limit newest state).reset_begun ≡ state.reset_begun
+    missed count limit newest state = go (nat_lt (marked_items state.outstanding.items) (marked_items (changed_between (Miss newest) count limit state.outstanding.items)))
+      where
+        go : (c : Bool) → (let items = changed_between (Miss newest) count limit state.outstanding.items in (if c then lossy (with_items items state) else with_items items state).reset_begun ≡ state.reset_begun)
+        go true = refl
+        go false = refl
+
+pub lost_pends : (now : ℕ) (state : RetransmissionState) → (after_expiry now state).reset_begun ≡ state.reset_begun
+lost_pends now state = refl
+
+pub lost_bear : (history : History) (first acknowledged now : ℕ) (state : RetransmissionState) → Bears history first acknowledged state.outstanding → Bears history first acknowledged (after_expiry now state).outstanding
+lost_bear history first acknowledged now state b = bears_changed history first acknowledged Mark 0 (outstanding_count state) state.outstanding b

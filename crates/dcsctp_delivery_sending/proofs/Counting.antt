@@ -1,11 +1,11 @@
 -- How the MIDs of an association are counted.
-use Rattle.std.proofs.Common.{◌≡◌, ◌==◌, ℕ, Bool, true, false, ◌<◌, ◌+◌, ◌%◌, ◌^◌, List, [], length, refl, sym, ◌∙◌, ap, arith, inl, inr}
+use Rattle.std.proofs.Common.{◌≡◌, ◌==◌, ℕ, Bool, true, false, ◌<◌, ◌+◌, ◌%◌, ◌^◌, List, length, refl, sym, ◌∙◌, ap, arith, inl, inr}
 use Rattle.std.specs.Prelude.{◌⊎◌, Option, None, Some, if◌then◌else◌}
 use Rattle.std.proofs.lemmas.Bool.Decides.{eqb_tells}
 use Rattle.dcsctp_machine.specs.declared.sending.UnderWay.{UnderWay}
 use Rattle.dcsctp_machine.specs.transfer.SendStreams.{Waiting, Stream, front_of}
 use Rattle.dcsctp_machine.specs.transfer.SendQueue.{SendQueueState}
-use Rattle.dcsctp_delivery_sending.specs.Log.{Slot}
+use Rattle.dcsctp_delivery_sending.specs.Log.{History, new_history}
 use Rattle.dcsctp_delivery_sending.specs.Numbers.{stream_named, next_mid, LastIs, Counts, CountsWhere, AreOfKind, Numbered, Told, plain, interleaved}
 
 -- ---- tables
@@ -52,70 +52,72 @@ is_or_other id kind other b = elim (eqb_tells other id) [ inl e ↦ go kind b e.
 
 -- ---- an association begins
 
-begun_starts : List Stream → ℕ → Bool → ℕ
-begun_starts streams id b = next_mid b (stream_named id streams) % 2 ^ 32
+-- The messages of these streams are counted, from some floors.
+pub record Begins (is_interleaved : Bool) (streams : List Stream) (under_way : Option UnderWay) : Type 0 where
+  pub floors : ℕ → Bool → ℕ
+  pub counts : CountsWhere is_interleaved (new_history floors) streams under_way
+
+first_floors : List Stream → ℕ → Bool → ℕ
+first_floors streams id b = next_mid b (stream_named id streams) % 2 ^ 32
 
 -- no message is under way
-pub counts_idle : (streams : List Stream) → Counts [] streams None
-unfolding begun_starts
+pub counts_idle : (streams : List Stream) → Begins true streams None
+unfolding first_floors
 counts_idle streams =
     record {
-      starts = begun_starts streams;
-      counts = λ id b. 0;
-      small = λ id b. omega arith;
-      few = λ id b. omega arith;
-      next = λ id b. omega arith;
-      from = λ n f at. absurd (cc);
-      below = λ n f at. absurd (cc);
-      apart = λ m n f g at at'. absurd (cc);
-      going = tt;
+      floors = first_floors streams;
+      counts = record {
+        counts = λ id b. 0;
+        few = λ id b. omega arith;
+        next = λ id b. omega arith;
+        below = λ n f at. absurd (cc);
+        apart = λ m n f g at at'. absurd (cc);
+        going = tt;
+      };
     }
 
 -- the rest of a message is, which has the last number
 pub counts_rest : (streams : List Stream) (u : UnderWay) (waiting : Waiting) (mid : ℕ) → front_of (stream_named u.stream_id.0 streams).messages ≡ Some waiting → u.mid % 2 ^ 32 ≡ mid % 2 ^ 32
-    → next_mid waiting.is_unordered (stream_named u.stream_id.0 streams) % 2 ^ 32 ≡ (mid + 1) % 2 ^ 32 → Counts [] streams (Some u)
-unfolding begun_starts
+    → next_mid waiting.is_unordered (stream_named u.stream_id.0 streams) % 2 ^ 32 ≡ (mid + 1) % 2 ^ 32 → Begins true streams (Some u)
+unfolding first_floors
 counts_rest streams u waiting mid front is next =
     record {
-      starts = starts;
-      counts = counts;
-      small = λ id b. elim (is_or_other u.stream_id.0 waiting.is_unordered id b) [
-        | inl e ↦ rw e.0 (rw e.1 (rw starts_here (omega arith)))
-        | inr other ↦ rw (starts_else id b other) (omega arith)
-      ];
-      few = λ id b. elim (is_or_other u.stream_id.0 waiting.is_unordered id b) [
-        | inl e ↦ rw e.0 (rw e.1 (rw counts_here (omega arith)))
-        | inr other ↦ rw (counts_else id b other) (omega arith)
-      ];
-      next = λ id b. elim (is_or_other u.stream_id.0 waiting.is_unordered id b) [
-        | inl e ↦ rw e.0 (rw e.1 (rw counts_here (rw starts_here (next ∙ omega arith))))
-        | inr other ↦ rw (counts_else id b other) (rw (starts_else id b other) (omega arith))
-      ];
-      from = λ n f at. absurd (cc);
-      below = λ n f at. absurd (cc);
-      apart = λ m n f g at at'. absurd (cc);
-      going = record {
-        waiting = waiting;
-        front = front;
-        mid = mid % 2 ^ 32;
-        is = is ∙ omega arith;
-        from = rw starts_here (omega arith);
-        last = rw counts_here (rw starts_here (omega arith));
-        came = λ f e. absurd (cc);
+      floors = floors;
+      counts = record {
+        counts = counts;
+        few = λ id b. elim (is_or_other u.stream_id.0 waiting.is_unordered id b) [
+          | inl e ↦ rw e.0 (rw e.1 (rw counts_here (omega arith)))
+          | inr other ↦ rw (counts_else id b other) (omega arith)
+        ];
+        next = λ id b. elim (is_or_other u.stream_id.0 waiting.is_unordered id b) [
+          | inl e ↦ rw e.0 (rw e.1 (rw counts_here (rw floors_here (next ∙ omega arith))))
+          | inr other ↦ rw (counts_else id b other) (rw (floors_else id b other) (omega arith))
+        ];
+        below = λ n f at. absurd (cc);
+        apart = λ m n f g at at'. absurd (cc);
+        going = record {
+          waiting = waiting;
+          front = front;
+          mid = mid % 2 ^ 32;
+          is = is ∙ omega arith;
+          from = rw floors_here (omega arith);
+          last = rw counts_here (rw floors_here (omega arith));
+          came = λ f e. absurd (cc);
+        };
       };
     }
   where
-    starts : ℕ → Bool → ℕ
-    starts = set_both u.stream_id.0 waiting.is_unordered (mid % 2 ^ 32) (begun_starts streams)
+    floors : ℕ → Bool → ℕ
+    floors = set_both u.stream_id.0 waiting.is_unordered (mid % 2 ^ 32) (first_floors streams)
 
     counts : ℕ → Bool → ℕ
     counts = set_both u.stream_id.0 waiting.is_unordered 1 (λ id b. 0)
 
-    starts_here : starts u.stream_id.0 waiting.is_unordered ≡ mid % 2 ^ 32
-    starts_here = set_here u.stream_id.0 waiting.is_unordered (mid % 2 ^ 32) (begun_starts streams)
+    floors_here : floors u.stream_id.0 waiting.is_unordered ≡ mid % 2 ^ 32
+    floors_here = set_here u.stream_id.0 waiting.is_unordered (mid % 2 ^ 32) (first_floors streams)
 
-    starts_else : (id : ℕ) (b : Bool) → Other u.stream_id.0 waiting.is_unordered id b → starts id b ≡ begun_starts streams id b
-    starts_else id b other = set_elsewhere u.stream_id.0 waiting.is_unordered (mid % 2 ^ 32) (begun_starts streams) id b other
+    floors_else : (id : ℕ) (b : Bool) → Other u.stream_id.0 waiting.is_unordered id b → floors id b ≡ first_floors streams id b
+    floors_else id b other = set_elsewhere u.stream_id.0 waiting.is_unordered (mid % 2 ^ 32) (first_floors streams) id b other
 
     counts_here : counts u.stream_id.0 waiting.is_unordered ≡ 1
     counts_here = set_here u.stream_id.0 waiting.is_unordered 1 (λ id b. 0)
@@ -124,21 +126,21 @@ counts_rest streams u waiting mid front is next =
     counts_else id b other = set_elsewhere u.stream_id.0 waiting.is_unordered 1 (λ id b. 0) id b other
 
 -- so it is of what waits, and of what an earlier association left under way
-pub counts_anew : (log : List Slot) (streams : List Stream) (u : Option UnderWay) → Counts log streams u → Counts [] streams u
-counts_anew log streams u counts = go u counts.going
+pub counts_anew : (history : History) (streams : List Stream) (u : Option UnderWay) → Counts history streams u → Begins true streams u
+counts_anew history streams u counts = go u counts.going
   where
-    go : (v : Option UnderWay) → LastIs log streams counts.starts counts.counts v → Counts [] streams v
+    go : (v : Option UnderWay) → LastIs history streams counts.counts v → Begins true streams v
     go None last = counts_idle streams
     go (Some v) last =
         counts_rest streams v last.waiting last.mid last.front last.is
         (counts.next v.stream_id.0 last.waiting.is_unordered ∙ ap (λ (k : ℕ). k % 2 ^ 32) (sym last.last))
 
 -- what a receiver knows of the log
-pub told : (log : List Slot) (queue : SendQueueState) → Numbered log queue → length log < 2 ^ 31 → Told log
-told log queue numbers small = go queue.is_interleaved numbers.kinds numbers.counts
+pub told : (history : History) (queue : SendQueueState) → Numbered history queue → length history.log < 2 ^ 31 → Told history
+told history queue numbers small = go queue.is_interleaved numbers.kinds numbers.counts
   where
-    go : (b : Bool) → AreOfKind b log → CountsWhere b log queue.streams queue.under_way → Told log
+    go : (b : Bool) → AreOfKind b history.log → CountsWhere b history queue.streams queue.under_way → Told history
     go false kinds counts = plain kinds
     go true kinds c =
-        interleaved kinds small c.starts c.small c.from
+        interleaved kinds small
         (λ n f at. (let below = c.below n f at in let few = c.few f.message.stream f.message.is_unordered in omega (arith, below, few, small))) c.apart

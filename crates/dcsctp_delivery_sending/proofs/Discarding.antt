@@ -8,7 +8,7 @@ use Rattle.dcsctp_machine.specs.transfer.SendStreams.{Waiting, Stream, front_of,
 use Rattle.dcsctp_machine.specs.transfer.SendQueue.{SendQueueState}
 use Rattle.dcsctp_machine.specs.transfer.Sending.{Fragment, Drops, none, more, reduced, without_rest, Takes, Discards, IsNamed}
 use Rattle.dcsctp_delivery_sending.specs.Places.{at_place}
-use Rattle.dcsctp_delivery_sending.specs.Log.{Message, Piece, Slot}
+use Rattle.dcsctp_delivery_sending.specs.Log.{Message, Piece, Slot, History, with_slot}
 use Rattle.dcsctp_delivery_sending.specs.Pieces.{AllBeyond, IsGoing, HoldsQueued}
 use Rattle.dcsctp_delivery_sending.specs.Numbers.{Numbered}
 use Rattle.dcsctp_delivery_sending.specs.Weights.{HasRoom}
@@ -98,12 +98,12 @@ pub takes_kind : {P : Type 0} (now max : ℕ) (old new : SendQueueState) (before
 takes_kind now max old new before after part takes =
     ap (λ (q : SendQueueState). q.is_interleaved) takes.left ∙ produced_kind takes.place max takes.message takes.under_way takes.queue ∙ kind_dropped now old takes.drops.events takes.queue takes.drops.drops
 
-pub discards_numbered : {P : Type 0} (log : List Slot) (old new : SendQueueState) (stream message_id : ℕ) (before after : List (Event P)) → Numbered log old → Discards old stream message_id before new after → Numbered (None ∷ log) new
-discards_numbered log old new stream message_id before after numbers discards =
+pub discards_numbered : {P : Type 0} (history : History) (old new : SendQueueState) (stream message_id : ℕ) (before after : List (Event P)) → Numbered history old → Discards old stream message_id before new after → Numbered (with_slot None history) new
+discards_numbered history old new stream message_id before after numbers discards =
     let rest : ℕ = length discards.named.message.payload - discards.named.under_way.sent in
     let between : SendQueueState = reduced discards.named.place rest old in
-    subst (λ (b : SendQueueState). Numbered (None ∷ log) b) (sym discards.left)
-    (numbered_ended log old (record (without_rest discards.named.place discards.named.under_way.sent discards.named.message old) { under_way = None }) refl refl
+    subst (λ (b : SendQueueState). Numbered (with_slot None history) b) (sym discards.left)
+    (numbered_ended history old (record (without_rest discards.named.place discards.named.under_way.sent discards.named.message old) { under_way = None }) refl refl
     (numbers_then None old.streams between.streams (without_rest discards.named.place discards.named.under_way.sent discards.named.message old).streams (numbers_reduced None discards.named.place rest old)
     (numbers_without discards.named.place between.streams)) numbers)
 

@@ -1,13 +1,15 @@
 -- The entries of a FORWARD-TSN or I-FORWARD-TSN name messages of the log.
-use Rattle.std.proofs.Common.{◌≡◌, ◌==◌, ℕ, zero, suc, Bool, true, false, ◌%◌, ◌^◌, List, [], ◌∷◌, take, refl, sym, ◌∙◌, ap, subst, inl, inr}
+use Rattle.std.proofs.Common.{◌≡◌, ◌==◌, ℕ, zero, suc, Bool, true, false, ◌<◌, ◌+◌, ◌-◌, ◌≤◌, ◌%◌, ◌^◌, List, [], ◌∷◌, length, take, refl, sym, ◌∙◌, ap, arith, subst, inl, inr}
 use Rattle.std.specs.Prelude.{◌&&◌, ◌||◌, not, Option, None, Some, slice_get, if◌then◌else◌}
 use Rattle.std.specs.Option.{option_map, option_or}
 use Rattle.std.proofs.lemmas.Bool.{eqb-true, eq-eqb}
+use Rattle.std.proofs.lemmas.Bool.Decides.{eqb_tells, leb_tells}
+use Rattle.dcsctp_machine.specs.transfer.Progress.{is_abandoned}
 use Rattle.dcsctp_machine.specs.transfer.Outstanding.{OutstandingState}
 use Rattle.dcsctp_machine.specs.transfer.Items.{Item}
-use Rattle.dcsctp_machine.specs.transfer.Skipping.{is_same, last_on, last_listed, entry_for, NoneTwice, number_of}
+use Rattle.dcsctp_machine.specs.transfer.Skipping.{goes_on, is_same, last_on, last_listed, entry_for, NoneTwice, number_of}
 use Rattle.dcsctp_delivery_sending.specs.Places.{Has}
-use Rattle.dcsctp_delivery_sending.specs.Log.{Slot}
+use Rattle.dcsctp_delivery_sending.specs.Log.{Mark, History}
 use Rattle.dcsctp_delivery_sending.specs.Numbers.{AreOfKind}
 use Rattle.dcsctp_delivery_sending.specs.Stages.{IsNamed, Bears}
 use Rattle.dcsctp_delivery_sending.specs.Flushes.{IsEntry, AreEntries}
@@ -22,23 +24,54 @@ both true true e = (refl, refl)
 both true false e = absurd (cc)
 both false y e = absurd (cc)
 
-module _ (log : List Slot) (first : ℕ) where
+-- the item at a place within a row
+item_at : (place : ℕ) (items : List Item) → place < length items → (item : Item) × (slice_get items place ≡ Some item)
+item_at place [] below = absurd (omega arith)
+item_at zero (item ∷ items) below = (item, refl)
+item_at (suc place) (i ∷ items) below = item_at place items (omega arith)
+
+-- It doesn't begin after a reset unless it is the first.
+begins_none : (place : ℕ) (item : Item) → 0 < place → goes_on place item ≡ true → item.begins_after_reset ≡ true → ⊥
+begins_none place item some on begins =
+    let later : (place == 0) ≡ false = elim (eqb_tells place 0) [ inl e ↦ (let zero : place ≡ 0 = e.1 in absurd (omega arith)) | inr e ↦ e.0 ] in
+    let one : ((place == 0) || not item.begins_after_reset) ≡ true = (both (is_abandoned item.progress.state) ((place == 0) || not item.begins_after_reset) on).1 in
+    let none : false ≡ true = ap (λ (b : Bool). false || not b) (sym begins) ∙ ap (λ (b : Bool). b || not item.begins_after_reset) (sym later) ∙ one in
+    absurd (cc)
+
+module _ (history : History) (first : ℕ) where
   -- an item that is skipped names the message of its entry
-  record OfItem (outstanding : OutstandingState) (entry : (ℕ × Bool) × ℕ) : Type 0 where
+  record OfItem (count : ℕ) (outstanding : OutstandingState) (entry : (ℕ × Bool) × ℕ) : Type 0 where
     place : ℕ
     item : Item
     at : slice_get outstanding.items place ≡ Some item
+    within : place < count
     stream : entry.0.0 ≡ item.fragment.stream
     unordered : entry.0.1 ≡ item.fragment.is_unordered
     number : entry.1 ≡ number_of outstanding.is_interleaved item
 
-  of_item : (acknowledged : ℕ) (outstanding : OutstandingState) (entry : (ℕ × Bool) × ℕ) → AreOfKind outstanding.is_interleaved log → Bears log first acknowledged outstanding → OfItem outstanding entry → IsEntry outstanding.is_interleaved log entry
-  of_item acknowledged outstanding entry kinds b of =
-      let named : IsNamed log of.item.fragment = (b.items of.place of.item of.at).named in
+  -- No reset of the stream lies between an item of the row and its end, where the row would have ended.
+  not_split : (acknowledged count : ℕ) (outstanding : OutstandingState) → Bears history first acknowledged outstanding → count ≤ length outstanding.items → ((place : ℕ) (item : Item) → place < count → slice_get outstanding.items place ≡ Some item → goes_on place item ≡ true)
+      → (place : ℕ) → (mark : Mark) → Has mark history.marks → acknowledged + place < mark.bound → acknowledged + count ≤ mark.bound
+  not_split acknowledged count outstanding b within each place mark has less =
+      elim (leb_tells (acknowledged + count) mark.bound) [
+        | inl e ↦ e.1
+        | inr e ↦
+            (let below : mark.bound < acknowledged + count = e.1 in
+            let inner : mark.bound - acknowledged < count = omega arith in
+            let here : acknowledged + (mark.bound - acknowledged) ≡ mark.bound = omega arith in
+            let (item, at) = item_at (mark.bound - acknowledged) outstanding.items (omega arith) in
+            absurd (begins_none (mark.bound - acknowledged) item (omega arith) (each (mark.bound - acknowledged) item inner at) (b.splits mark has (mark.bound - acknowledged) item at here)))
+      ]
+
+  of_item : (acknowledged count : ℕ) (outstanding : OutstandingState) (entry : (ℕ × Bool) × ℕ) → AreOfKind outstanding.is_interleaved history.log → Bears history first acknowledged outstanding → count ≤ length outstanding.items
+      → ((place : ℕ) (item : Item) → place < count → slice_get outstanding.items place ≡ Some item → goes_on place item ≡ true) → OfItem count outstanding entry → IsEntry outstanding.is_interleaved history (acknowledged + count) entry
+  of_item acknowledged count outstanding entry kinds b within each of =
+      let named : IsNamed history (acknowledged + of.place) of.item.fragment = b.named of.place of.item of.at in
       record {
         number = named.number;
         piece = named.piece;
         at = named.at;
+        within = λ mark has names less. not_split acknowledged count outstanding b within each of.place mark has (named.whole mark has names less);
         kind = kinds named.number named.piece named.at;
         stream = of.stream ∙ named.stream;
         unordered = of.unordered ∙ named.unordered;
@@ -66,7 +99,7 @@ module _ (log : List Slot) (first : ℕ) where
       go (Some last) is rest e = (let (place, at, same, kind) = rest (is ∙ e) in (suc place, at, same, kind))
 
   listed_item : (outstanding : OutstandingState) (count : ℕ) (entry : (ℕ × Bool) × ℕ) → Some entry.1 ≡ option_map (number_of outstanding.is_interleaved) (last_listed outstanding.is_interleaved entry.0.0 entry.0.1 (take count outstanding.items))
-      → OfItem outstanding entry
+      → OfItem count outstanding entry
   listed_item outstanding count entry is = go (outstanding.is_interleaved || not entry.0.1) is
     where
       among : (k place : ℕ) (items : List Item) (item : Item) → slice_get (take k items) place ≡ Some item → slice_get items place ≡ Some item
@@ -76,24 +109,32 @@ module _ (log : List Slot) (first : ℕ) where
       among (suc k) zero (i ∷ items) item at = at
       among (suc k) (suc place) (i ∷ items) item at = among k place items item at
 
-      found : (o : Option Item) → last_on entry.0.0 entry.0.1 (take count outstanding.items) ≡ o → Some entry.1 ≡ option_map (number_of outstanding.is_interleaved) o → OfItem outstanding entry
+      before : (k place : ℕ) (items : List Item) (item : Item) → slice_get (take k items) place ≡ Some item → place < k
+      before zero zero items item at = absurd (cc)
+      before zero (suc place) items item at = absurd (cc)
+      before (suc k) place [] item at = absurd (cc)
+      before (suc k) zero (i ∷ items) item at = omega arith
+      before (suc k) (suc place) (i ∷ items) item at = omega (arith, before k place items item at)
+
+      found : (o : Option Item) → last_on entry.0.0 entry.0.1 (take count outstanding.items) ≡ o → Some entry.1 ≡ option_map (number_of outstanding.is_interleaved) o → OfItem count outstanding entry
       found None e same = absurd (cc)
       found (Some item) e same =
           let (place, at, stream, unordered) = found_last entry.0.0 entry.0.1 (take count outstanding.items) item e in
-          record { place = place; item = item; at = among count place outstanding.items item at; stream = stream; unordered = unordered; number = cc }
+          record { place = place; item = item; at = among count place outstanding.items item at; within = before count place outstanding.items item at; stream = stream; unordered = unordered; number = cc }
 
-      go : (b : Bool) → Some entry.1 ≡ option_map (number_of outstanding.is_interleaved) (if b then last_on entry.0.0 entry.0.1 (take count outstanding.items) else None) → OfItem outstanding entry
+      go : (b : Bool) → Some entry.1 ≡ option_map (number_of outstanding.is_interleaved) (if b then last_on entry.0.0 entry.0.1 (take count outstanding.items) else None) → OfItem count outstanding entry
       go false same = absurd (cc)
       go true same = found (last_on entry.0.0 entry.0.1 (take count outstanding.items)) refl same
 
   -- so each entry does
-  pub listed_entries : (acknowledged count : ℕ) (outstanding : OutstandingState) → AreOfKind outstanding.is_interleaved log → Bears log first acknowledged outstanding → (all entries : List ((ℕ × Bool) × ℕ))
+  pub listed_entries : (acknowledged count : ℕ) (outstanding : OutstandingState) → AreOfKind outstanding.is_interleaved history.log → Bears history first acknowledged outstanding → count ≤ length outstanding.items
+      → ((place : ℕ) (item : Item) → place < count → slice_get outstanding.items place ≡ Some item → goes_on place item ≡ true) → (all entries : List ((ℕ × Bool) × ℕ))
       → ((stream : ℕ) (unordered : Bool) → entry_for stream unordered all ≡ option_map (number_of outstanding.is_interleaved) (last_listed outstanding.is_interleaved stream unordered (take count outstanding.items)))
-      → ((entry : (ℕ × Bool) × ℕ) → Has entry entries → entry_for entry.0.0 entry.0.1 all ≡ Some entry.1) → AreEntries outstanding.is_interleaved log entries
-  listed_entries acknowledged count outstanding kinds b all [] lists found = tt
-  listed_entries acknowledged count outstanding kinds b all (entry ∷ entries) lists found = (
-    of_item acknowledged outstanding entry kinds b (listed_item outstanding count entry (sym (found entry (inl refl)) ∙ lists entry.0.0 entry.0.1)),
-    listed_entries acknowledged count outstanding kinds b all entries lists (λ other has. found other (inr has)),
+      → ((entry : (ℕ × Bool) × ℕ) → Has entry entries → entry_for entry.0.0 entry.0.1 all ≡ Some entry.1) → AreEntries outstanding.is_interleaved history (acknowledged + count) entries
+  listed_entries acknowledged count outstanding kinds b within each all [] lists found = tt
+  listed_entries acknowledged count outstanding kinds b within each all (entry ∷ entries) lists found = (
+    of_item acknowledged count outstanding entry kinds b within each (listed_item outstanding count entry (sym (found entry (inl refl)) ∙ lists entry.0.0 entry.0.1)),
+    listed_entries acknowledged count outstanding kinds b within each all entries lists (λ other has. found other (inr has)),
   )
 
 -- an entry of a list in which no stream has two is the one that is found

@@ -4,12 +4,12 @@ use Rattle.std.specs.Prelude.{Option, None, Some, if◌then◌else◌}
 use Rattle.dcsctp_machine.specs.declared.sending.UnderWay.{UnderWay}
 use Rattle.dcsctp_machine.specs.transfer.SendStreams.{Stream, stream_at, unused, begun_anew, raised}
 use Rattle.dcsctp_machine.specs.transfer.SendQueue.{SendQueueState, changed, put_back, restarted}
-use Rattle.dcsctp_delivery_sending.specs.Log.{Message, Slot}
+use Rattle.dcsctp_delivery_sending.specs.Log.{Message, Slot, History, new_history}
 use Rattle.dcsctp_delivery_sending.specs.Pieces.{Going, HoldsQueued}
-use Rattle.dcsctp_delivery_sending.specs.Queueing.{QueueHolds}
+use Rattle.dcsctp_delivery_sending.specs.Queueing.{QueueHolds, QueueWaits}
 use Rattle.dcsctp_delivery_sending.proofs.Streams.{Alike, alike_hold}
-use Rattle.dcsctp_delivery_sending.specs.Numbers.{CountsWhere, Numbered}
-use Rattle.dcsctp_delivery_sending.proofs.Counting.{counts_idle, counts_anew}
+use Rattle.dcsctp_delivery_sending.specs.Numbers.{KeptWhere, CountsWhere, Numbered}
+use Rattle.dcsctp_delivery_sending.proofs.Counting.{Begins, counts_idle, counts_anew}
 
 -- ---- another association
 
@@ -19,34 +19,37 @@ fresh_going queued log streams (Some u) g =
     record { place = g.place; message = g.message; at = g.at; unfinished = g.unfinished; begun = g.begun; there = g.there; came = inl refl; front = g.front }
 
 -- the numbers go on
-counts_anew_where : (b : Bool) (log : List Slot) (streams : List Stream) (u : Option UnderWay) → CountsWhere b log streams u → CountsWhere b [] streams u
-counts_anew_where true log streams u counts = counts_anew log streams u counts
-counts_anew_where false log streams u counts = tt
-
-pub numbered_anew_log : (log : List Slot) (queue : SendQueueState) → Numbered log queue → Numbered [] queue
-numbered_anew_log log queue numbers = record { kinds = λ n f at. absurd (cc); counts = counts_anew_where queue.is_interleaved log queue.streams queue.under_way numbers.counts }
+pub begins_again : (b : Bool) (history : History) (streams : List Stream) (u : Option UnderWay) → CountsWhere b history streams u → Begins b streams u
+begins_again true history streams u counts = counts_anew history streams u counts
+begins_again false history streams u counts = record { floors = λ id is_unordered. 0; counts = tt }
 
 -- with no message under way they may begin anywhere
-pub numbered_idle : (queue : SendQueueState) → queue.under_way ≡ None → Numbered [] queue
-numbered_idle queue idle = record { kinds = λ n f at. absurd (cc); counts = subst (λ (u : Option UnderWay). CountsWhere queue.is_interleaved [] queue.streams u) (sym idle) (go queue.is_interleaved) }
-  where
-    go : (b : Bool) → CountsWhere b [] queue.streams None
-    go true = counts_idle queue.streams
-    go false = tt
+pub begins_idle : (b : Bool) (streams : List Stream) → Begins b streams None
+begins_idle true streams = counts_idle streams
+begins_idle false streams = record { floors = λ id is_unordered. 0; counts = tt }
 
-pub kept_hold : (queued : List Message) (log : List Slot) (queue : SendQueueState) → QueueHolds queued log queue → QueueHolds queued [] queue
-kept_hold queued log queue queues =
+-- so they are numbered
+pub numbered_new : (queue : SendQueueState) (begins : Begins queue.is_interleaved queue.streams queue.under_way) → KeptWhere queue.streams queue.under_way → Numbered (new_history begins.floors) queue
+numbered_new queue begins kept = record { kinds = λ n f at. absurd (cc); counts = begins.counts; kept = kept }
+
+-- what waits is held also where an association begins
+kept_queued : (queued : List Message) (log : List Slot) (streams : List Stream) (u : Option UnderWay) → HoldsQueued queued log streams u → HoldsQueued queued [] streams u
+kept_queued queued log streams u queue_holds =
     record {
-      queue_holds = record {
-        wait = queues.queue_holds.wait;
-        ascend = queues.queue_holds.ascend;
-        beyond = λ q n f at of. absurd (cc);
-        distinct = queues.queue_holds.distinct;
-        going = fresh_going queued log queue.streams queue.under_way queues.queue_holds.going;
-        room = (let room = queues.queue_holds.room in record { whole = room.whole; count = omega (arith, room.whole) });
-      };
-      next = queues.next;
-      numbers = numbered_anew_log log queue queues.numbers;
+      wait = queue_holds.wait;
+      ascend = queue_holds.ascend;
+      beyond = λ q n f at of. absurd (cc);
+      distinct = queue_holds.distinct;
+      going = fresh_going queued log streams u queue_holds.going;
+      room = (let room = queue_holds.room in record { whole = room.whole; count = omega (arith, room.whole) });
+    }
+
+pub kept_hold : (queued : List Message) (history : History) (queue : SendQueueState) → QueueHolds queued history queue → QueueWaits queued queue
+kept_hold queued history queue queues =
+    let begins = begins_again queue.is_interleaved history queue.streams queue.under_way queues.numbers.counts in
+    record {
+      floors = begins.floors;
+      holds = record { queue_holds = kept_queued queued history.log queue.streams queue.under_way queues.queue_holds; next = queues.next; numbers = numbered_new queue begins queues.numbers.kept };
     }
 
 -- streams of which numbers and amounts alone changed
@@ -103,16 +106,21 @@ back_next : (u : Option UnderWay) (queue : SendQueueState) → (put_back u queue
 back_next None queue = refl
 back_next (Some u) queue = refl
 
-pub restarted_hold : (queued : List Message) (log : List Slot) (queue : SendQueueState) → QueueHolds queued log queue → QueueHolds queued [] (restarted queue)
-restarted_hold queued log queue queues =
-    let kept = kept_hold queued log queue queues in
-    let back = back_streams queued queue.under_way queue (idle_hold queued queue.streams queue.under_way kept.queue_holds) in
+pub restarted_hold : (queued : List Message) (history : History) (queue : SendQueueState) → QueueHolds queued history queue → QueueWaits queued (restarted queue)
+restarted_hold queued history queue queues =
+    let kept = kept_queued queued history.log queue.streams queue.under_way queues.queue_holds in
+    let back = back_streams queued queue.under_way queue (idle_hold queued queue.streams queue.under_way kept) in
+    let idle = back_idle queue.under_way queue refl in
+    let begins = subst (λ (u : Option UnderWay). Begins (restarted queue).is_interleaved (restarted queue).streams u) (sym idle) (begins_idle (restarted queue).is_interleaved (restarted queue).streams) in
     record {
-      queue_holds = subst (λ (u : Option UnderWay). HoldsQueued queued [] (map begun_anew (put_back queue.under_way queue).streams) u) (sym (back_idle queue.under_way queue refl))
-          (alike_hold queued [] None (put_back queue.under_way queue).streams (map begun_anew (put_back queue.under_way queue).streams)
-          (mapped_alike begun_anew (λ s. refl) (λ s. refl) refl (put_back queue.under_way queue).streams) back);
-      next = back_next queue.under_way queue ∙ queues.next;
-      numbers = numbered_idle (restarted queue) (back_idle queue.under_way queue refl);
+      floors = begins.floors;
+      holds = record {
+        queue_holds = subst (λ (u : Option UnderWay). HoldsQueued queued [] (map begun_anew (put_back queue.under_way queue).streams) u) (sym idle)
+            (alike_hold queued [] None (put_back queue.under_way queue).streams (map begun_anew (put_back queue.under_way queue).streams)
+            (mapped_alike begun_anew (λ s. refl) (λ s. refl) refl (put_back queue.under_way queue).streams) back);
+        next = back_next queue.under_way queue ∙ queues.next;
+        numbers = numbered_new (restarted queue) begins (subst (λ (u : Option UnderWay). KeptWhere (restarted queue).streams u) (sym idle) tt);
+      };
     }
 
 pub one_set : (f : Stream → Stream) → ((s : Stream) → (f s).id ≡ s.id) → ((s : Stream) → (f s).messages ≡ s.messages) → (id : ℕ) (streams : List Stream) → Alike streams (changed id f streams)

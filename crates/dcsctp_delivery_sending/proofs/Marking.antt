@@ -9,7 +9,7 @@ use Rattle.dcsctp_delivery_sending.specs.Places.{at_place}
 use Rattle.dcsctp_delivery_sending.specs.Log.{Message, Fits}
 use Rattle.dcsctp_delivery_sending.specs.Pieces.{AllQueued, Going}
 use Rattle.dcsctp_delivery_sending.specs.Marking.{NoneNamed, WaitsNoLonger, marked}
-use Rattle.dcsctp_delivery_sending.specs.Queueing.{QueueHolds}
+use Rattle.dcsctp_delivery_sending.specs.Queueing.{QueueWaits}
 use Rattle.dcsctp_delivery_sending.specs.Weights.{total}
 use Rattle.std.specs.List.{AllByRecursion}
 
@@ -101,19 +101,23 @@ going_marked queued place streams (Some u) others g =
       front = g.front;
     }
 
-pub marking_hold : (queued : List Message) (place : ℕ) (queue : SendQueueState) → WaitsNoLonger place queue.streams → QueueHolds queued [] queue → QueueHolds (marked place queued) [] queue
-marking_hold queued place queue others queues =
+pub marking_hold : (queued : List Message) (place : ℕ) (queue : SendQueueState) → WaitsNoLonger place queue.streams → QueueWaits queued queue → QueueWaits (marked place queued) queue
+marking_hold queued place queue others waits =
+    let queues = waits.holds in
     record {
-      queue_holds = record {
-        wait = λ q. wait_marked queued place (stream_at queue.streams q).id (stream_at queue.streams q).messages (others q) (queues.queue_holds.wait q);
-        ascend = queues.queue_holds.ascend;
-        beyond = λ q n f at of. absurd (cc);
-        distinct = queues.queue_holds.distinct;
-        going = going_marked queued place queue.streams queue.under_way others queues.queue_holds.going;
-        room = (let room = queues.queue_holds.room in let same = marked_total place queued in record { whole = omega (arith, room.whole, same); count = omega (arith, room.count, same) });
+      floors = waits.floors;
+      holds = record {
+        queue_holds = record {
+          wait = λ q. wait_marked queued place (stream_at queue.streams q).id (stream_at queue.streams q).messages (others q) (queues.queue_holds.wait q);
+          ascend = queues.queue_holds.ascend;
+          beyond = λ q n f at of. absurd (cc);
+          distinct = queues.queue_holds.distinct;
+          going = going_marked queued place queue.streams queue.under_way others queues.queue_holds.going;
+          room = (let room = queues.queue_holds.room in let same = marked_total place queued in record { whole = omega (arith, room.whole, same); count = omega (arith, room.count, same) });
+        };
+        next = queues.next ∙ sym (marked_length place queued);
+        numbers = queues.numbers;
       };
-      next = queues.next ∙ sym (marked_length place queued);
-      numbers = queues.numbers;
     }
 
 pub marking_fits : (place : ℕ) (queued : List Message) → AllByRecursion Fits queued → AllByRecursion Fits (marked place queued)

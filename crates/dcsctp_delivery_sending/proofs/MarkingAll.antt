@@ -8,7 +8,7 @@ use Rattle.dcsctp_machine.specs.transfer.SendQueue.{SendQueueState}
 use Rattle.dcsctp_delivery_sending.specs.Places.{at_place}
 use Rattle.dcsctp_delivery_sending.specs.Log.{Message, Fits}
 use Rattle.dcsctp_delivery_sending.specs.Weights.{total}
-use Rattle.dcsctp_delivery_sending.specs.Queueing.{QueueHolds}
+use Rattle.dcsctp_delivery_sending.specs.Queueing.{QueueWaits}
 use Rattle.dcsctp_delivery_sending.specs.Marking.{NoneNamed, WaitsNoLonger, marked, is_waiting, waits_in, all_marked, IsMarkOf, FindsMarked, AreMarked, IsMarked}
 use Rattle.dcsctp_delivery_sending.proofs.Places.{decide, at_new, at_cases, at_stays}
 use Rattle.dcsctp_delivery_sending.proofs.Marking.{marked_length, marked_total, marked_spent, marking_hold, marking_fits}
@@ -106,12 +106,12 @@ all_are_marked (suc count) streams queued = go (waits_in count streams) (all_are
               );
         }
 
-pub all_marked_keep : (count : ℕ) (queued : List Message) (queue : SendQueueState) → QueueHolds queued [] queue → QueueHolds (all_marked count queue.streams queued) [] queue
+pub all_marked_keep : (count : ℕ) (queued : List Message) (queue : SendQueueState) → QueueWaits queued queue → QueueWaits (all_marked count queue.streams queued) queue
 all_marked_keep zero queued queue holds = holds
 all_marked_keep (suc count) queued queue holds = go (waits_in count queue.streams) refl (all_marked_keep count queued queue holds)
   where
-    go : (b : Bool) → waits_in count queue.streams ≡ b → QueueHolds (all_marked count queue.streams queued) [] queue
-        → QueueHolds (if b then all_marked count queue.streams queued else marked count (all_marked count queue.streams queued)) [] queue
+    go : (b : Bool) → waits_in count queue.streams ≡ b → QueueWaits (all_marked count queue.streams queued) queue
+        → QueueWaits (if b then all_marked count queue.streams queued else marked count (all_marked count queue.streams queued)) queue
     go true e rest = rest
     go false e rest = marking_hold (all_marked count queue.streams queued) count queue (waits_none count queue.streams e) rest
 

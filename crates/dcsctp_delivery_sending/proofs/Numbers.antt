@@ -1,13 +1,14 @@
 -- The MIDs of the messages of a stream.
-use Rattle.std.proofs.Common.{◌≡◌, ◌==◌, ℕ, Bool, true, false, ◌-◌, ◌%◌, ◌^◌, List, ◌∷◌, length, map, refl, sym, ◌∙◌, ap, arith, subst}
+use Rattle.std.proofs.Common.{◌≡◌, ◌==◌, ℕ, Bool, true, false, ◌-◌, ◌%◌, ◌^◌, List, length, map, refl, sym, ◌∙◌, ap, arith, subst}
 use Rattle.std.specs.Prelude.{Option, None, Some, slice_set, if◌then◌else◌}
+use Rattle.std.proofs.lemmas.Bool.{eqb-true}
 use Rattle.dcsctp_machine.specs.declared.sending.UnderWay.{UnderWay}
 use Rattle.dcsctp_machine.specs.transfer.SendStreams.{Waiting, Stream, front_of, without_front, stream_at, unused}
 use Rattle.dcsctp_machine.specs.transfer.SendQueue.{SendQueueState, changed, used}
 use Rattle.dcsctp_machine.specs.Event.{Event}
 use Rattle.dcsctp_machine.specs.transfer.Sending.{Drops, none as drops_none, more as drops_more, reduced, without_rest}
-use Rattle.dcsctp_delivery_sending.specs.Log.{Slot}
-use Rattle.dcsctp_delivery_sending.specs.Numbers.{stream_named, next_mid, LastIs, Counts, CountsWhere, Numbered}
+use Rattle.dcsctp_delivery_sending.specs.Log.{History, with_slot}
+use Rattle.dcsctp_delivery_sending.specs.Numbers.{stream_named, next_mid, is_handed_out, KeptWhere, LastIs, Counts, CountsWhere, Numbered}
 use Rattle.dcsctp_delivery_sending.proofs.Stages.{with_none}
 use Rattle.dcsctp_delivery_sending.proofs.StreamsNamed.{found_mapped, found_set, found_used}
 
@@ -18,12 +19,16 @@ pub record SameMids (old new : Stream) : Type 0 where
   pub ordered : new.next_mid ≡ old.next_mid
   pub unordered : new.next_unordered_mid ≡ old.next_unordered_mid
 
--- its oldest message is kept
-abbrev pub KeepsFront : Stream → Stream → Type 0
-KeepsFront old new = (w : Waiting) → front_of old.messages ≡ Some w → front_of new.messages ≡ Some w
+-- its oldest message is kept, and it isn't handed out if it wasn't
+pub record KeepsFront (old new : Stream) : Type 0 where
+  pub front : (w : Waiting) → front_of old.messages ≡ Some w → front_of new.messages ≡ Some w
+  pub kept : is_handed_out old.pause ≡ false → is_handed_out new.pause ≡ false
 
-pub front_kept : (old new : Stream) → new.messages ≡ old.messages → KeepsFront old new
-front_kept old new same = λ w is. ap front_of same ∙ is
+pub front_kept : (old new : Stream) → new.messages ≡ old.messages → (is_handed_out old.pause ≡ false → is_handed_out new.pause ≡ false) → KeepsFront old new
+front_kept old new same kept = record { front = λ w is. ap front_of same ∙ is; kept = kept }
+
+pub same_front : (s : Stream) → KeepsFront s s
+same_front s = record { front = λ w e. e; kept = λ e. e }
 
 -- These streams are numbered as those, and that of the message under way keeps it.
 pub record NumbersStay (under_way : Option UnderWay) (old new : List Stream) : Type 0 where
@@ -38,13 +43,13 @@ pub same_mids : (s : Stream) → SameMids s s
 same_mids s = record { ordered = refl; unordered = refl }
 
 pub numbers_same : (u : Option UnderWay) (streams : List Stream) → NumbersStay u streams streams
-numbers_same u streams = record { mids = λ id. same_mids (stream_named id streams); fronts = λ v is w e. e }
+numbers_same u streams = record { mids = λ id. same_mids (stream_named id streams); fronts = λ v is. same_front (stream_named v.stream_id.0 streams) }
 
 pub numbers_then : (u : Option UnderWay) (old between new : List Stream) → NumbersStay u old between → NumbersStay u between new → NumbersStay u old new
 numbers_then u old between new one two =
     record {
       mids = λ id. record { ordered = (two.mids id).ordered ∙ (one.mids id).ordered; unordered = (two.mids id).unordered ∙ (one.mids id).unordered };
-      fronts = λ v is w e. two.fronts v is w (one.fronts v is w e);
+      fronts = λ v is. record { front = λ w e. (two.fronts v is).front w ((one.fronts v is).front w e); kept = λ e. (two.fronts v is).kept ((one.fronts v is).kept e) };
     }
 
 -- each stream is changed so
@@ -53,14 +58,14 @@ pub numbers_mapped : (u : Option UnderWay) (f : Stream → Stream) → ((s : Str
 numbers_mapped u f same_id mids fronts streams =
     record {
       mids = λ id. found_mapped SameMids id (unused 0 0 0) f same_id (same_mids (unused 0 0 0)) (λ s is. mids s) streams;
-      fronts = λ v is. found_mapped KeepsFront v.stream_id.0 (unused 0 0 0) f same_id (λ w e. e) (λ s here. fronts v is s here) streams;
+      fronts = λ v is. found_mapped KeepsFront v.stream_id.0 (unused 0 0 0) f same_id (same_front (unused 0 0 0)) (λ s here. fronts v is s here) streams;
     }
 
 -- one stream is changed so
 pub numbers_changed : (u : Option UnderWay) (id : ℕ) (f : Stream → Stream) → ((s : Stream) → (f s).id ≡ s.id) → ((s : Stream) → SameMids s (f s))
-    → ((v : UnderWay) → u ≡ Some v → (s : Stream) → s.id ≡ v.stream_id.0 → KeepsFront s (f s)) → (streams : List Stream) → NumbersStay u streams (changed id f streams)
+    → ((v : UnderWay) → u ≡ Some v → (s : Stream) → s.id ≡ v.stream_id.0 → s.id ≡ id → KeepsFront s (f s)) → (streams : List Stream) → NumbersStay u streams (changed id f streams)
 numbers_changed u id f same_id mids fronts streams =
-    numbers_mapped u (λ s. if s.id == id then f s else s) (λ s. one_id (s.id == id) s) (λ s. one_mids (s.id == id) s) (λ v is s here. one_front v is (s.id == id) s here) streams
+    numbers_mapped u (λ s. if s.id == id then f s else s) (λ s. one_id (s.id == id) s) (λ s. one_mids (s.id == id) s) (λ v is s here. one_front v is (s.id == id) s here refl) streams
   where
     one_id : (b : Bool) (s : Stream) → (if b then f s else s).id ≡ s.id
     one_id true s = same_id s
@@ -70,9 +75,9 @@ numbers_changed u id f same_id mids fronts streams =
     one_mids true s = mids s
     one_mids false s = same_mids s
 
-    one_front : (v : UnderWay) → u ≡ Some v → (b : Bool) (s : Stream) → s.id ≡ v.stream_id.0 → KeepsFront s (if b then f s else s)
-    one_front v is true s here = fronts v is s here
-    one_front v is false s here = λ w e. e
+    one_front : (v : UnderWay) → u ≡ Some v → (b : Bool) (s : Stream) → s.id ≡ v.stream_id.0 → (s.id == id) ≡ b → KeepsFront s (if b then f s else s)
+    one_front v is true s here same = fronts v is s here (eqb-true s.id id same)
+    one_front v is false s here same = same_front s
 
 -- one at a place is
 pub numbers_set : (u : Option UnderWay) (place : ℕ) (new : Stream) (streams : List Stream) → new.id ≡ (stream_at streams place).id → SameMids (stream_at streams place) new
@@ -80,22 +85,26 @@ pub numbers_set : (u : Option UnderWay) (place : ℕ) (new : Stream) (streams : 
 numbers_set u place new streams is mids fronts =
     record {
       mids = λ id. found_set SameMids id (unused 0 0 0) new same_mids place streams is (λ here. mids);
-      fronts = λ v here. found_set KeepsFront v.stream_id.0 (unused 0 0 0) new (λ s w e. e) place streams is (λ same. fronts v here);
+      fronts = λ v here. found_set KeepsFront v.stream_id.0 (unused 0 0 0) new same_front place streams is (λ same. fronts v here);
     }
 
 -- one is used for the first time
 pub numbers_used : (u : Option UnderWay) (queue : SendQueueState) (id : ℕ) → NumbersStay u queue.streams (used queue id)
 numbers_used u queue id =
     record {
-      mids = λ other. found_used SameMids other queue id same_mids (λ s t unordered ordered none. record { ordered = sym (ap (λ (p : ℕ × ℕ). p.1) ordered); unordered = sym (ap (λ (p : ℕ × ℕ). p.1) unordered) });
-      fronts = λ v is. found_used KeepsFront v.stream_id.0 queue id (λ s w e. e) (λ s t unordered ordered none w e. absurd (let clash : None ≡ Some w = sym (ap front_of none) ∙ e in cc));
+      mids = λ other. found_used SameMids other queue id same_mids (λ s t unordered ordered none pause. record { ordered = sym (ap (λ (p : ℕ × ℕ). p.1) ordered); unordered = sym (ap (λ (p : ℕ × ℕ). p.1) unordered) });
+      fronts = λ v is. found_used KeepsFront v.stream_id.0 queue id same_front
+          (λ s t unordered ordered none pause. record {
+            front = λ w e. absurd (let clash : None ≡ Some w = sym (ap front_of none) ∙ e in cc);
+            kept = λ e. ap is_handed_out pause ∙ e;
+          });
     }
 
 -- that much leaves a stream
 pub numbers_reduced : (u : Option UnderWay) (place size : ℕ) (queue : SendQueueState) → NumbersStay u queue.streams (reduced place size queue).streams
 numbers_reduced u place size queue =
     numbers_set u place (record (stream_at queue.streams place) { amount = (stream_at queue.streams place).amount - size }) queue.streams refl (record { ordered = refl; unordered = refl })
-    (λ v is. front_kept (stream_at queue.streams place) (record (stream_at queue.streams place) { amount = (stream_at queue.streams place).amount - size }) refl)
+    (λ v is. front_kept (stream_at queue.streams place) (record (stream_at queue.streams place) { amount = (stream_at queue.streams place).amount - size }) refl (λ e. e))
 
 -- its oldest message does, and none is under way
 pub numbers_without : (place : ℕ) (streams : List Stream) → NumbersStay None streams (slice_set streams place (without_front (stream_at streams place)))
@@ -115,61 +124,61 @@ kind_dropped now old events new (drops_more events' queue place message drops ne
 
 -- ---- what is counted
 
-pub counts_stay : (log : List Slot) (u : Option UnderWay) (old new : List Stream) → NumbersStay u old new → Counts log old u → Counts log new u
-counts_stay log u old new stay counts =
+pub counts_stay : (history : History) (u : Option UnderWay) (old new : List Stream) → NumbersStay u old new → Counts history old u → Counts history new u
+counts_stay history u old new stay counts =
     record {
-      starts = counts.starts;
       counts = counts.counts;
-      small = counts.small;
       few = counts.few;
       next = λ id b. ap (λ (k : ℕ). k % 2 ^ 32) (mid_stays b (stream_named id old) (stream_named id new) (stay.mids id)) ∙ counts.next id b;
-      from = counts.from;
       below = counts.below;
       apart = counts.apart;
       going = go u refl counts.going;
     }
   where
-    go : (v : Option UnderWay) → u ≡ v → LastIs log old counts.starts counts.counts v → LastIs log new counts.starts counts.counts v
+    go : (v : Option UnderWay) → u ≡ v → LastIs history old counts.counts v → LastIs history new counts.counts v
     go None is last = tt
-    go (Some v) is last = record { waiting = last.waiting; front = stay.fronts v is last.waiting last.front; mid = last.mid; is = last.is; from = last.from; last = last.last; came = last.came }
+    go (Some v) is last = record { waiting = last.waiting; front = (stay.fronts v is).front last.waiting last.front; mid = last.mid; is = last.is; from = last.from; last = last.last; came = last.came }
 
-pub where_stay : (b : Bool) (log : List Slot) (u : Option UnderWay) (old new : List Stream) → NumbersStay u old new → CountsWhere b log old u → CountsWhere b log new u
-where_stay false log u old new stay counts = tt
-where_stay true log u old new stay counts = counts_stay log u old new stay counts
+pub where_stay : (b : Bool) (history : History) (u : Option UnderWay) (old new : List Stream) → NumbersStay u old new → CountsWhere b history old u → CountsWhere b history new u
+where_stay false history u old new stay counts = tt
+where_stay true history u old new stay counts = counts_stay history u old new stay counts
+
+pub kept_stays : (u : Option UnderWay) (old new : List Stream) → NumbersStay u old new → KeptWhere old u → KeptWhere new u
+kept_stays None old new stay kept = tt
+kept_stays (Some v) old new stay kept = (stay.fronts v refl).kept kept
 
 -- a queue that is numbered as another
-pub numbered_stay : (log : List Slot) (old new : SendQueueState) → new.is_interleaved ≡ old.is_interleaved → new.under_way ≡ old.under_way → NumbersStay old.under_way old.streams new.streams → Numbered log old → Numbered log new
-numbered_stay log old new kind going stay numbers =
+pub numbered_stay : (history : History) (old new : SendQueueState) → new.is_interleaved ≡ old.is_interleaved → new.under_way ≡ old.under_way → NumbersStay old.under_way old.streams new.streams → Numbered history old → Numbered history new
+numbered_stay history old new kind going stay numbers =
     record {
       kinds = λ n f at. numbers.kinds n f at ∙ sym kind;
-      counts = subst (λ (b : Bool). CountsWhere b log new.streams new.under_way) (sym kind)
-          (subst (λ (u : Option UnderWay). CountsWhere old.is_interleaved log new.streams u) (sym going) (where_stay old.is_interleaved log old.under_way old.streams new.streams stay numbers.counts));
+      counts = subst (λ (b : Bool). CountsWhere b history new.streams new.under_way) (sym kind)
+          (subst (λ (u : Option UnderWay). CountsWhere old.is_interleaved history new.streams u) (sym going) (where_stay old.is_interleaved history old.under_way old.streams new.streams stay numbers.counts));
+      kept = subst (λ (u : Option UnderWay). KeptWhere new.streams u) (sym going) (kept_stays old.under_way old.streams new.streams stay numbers.kept);
     }
 
 -- the message under way ends, and a TSN may stand for that
-counts_ended : (log : List Slot) (u : Option UnderWay) (streams : List Stream) → Counts log streams u → Counts (None ∷ log) streams None
-counts_ended log u streams counts =
+counts_ended : (history : History) (u : Option UnderWay) (streams : List Stream) → Counts history streams u → Counts (with_slot None history) streams None
+counts_ended history u streams counts =
     record {
-      starts = counts.starts;
       counts = counts.counts;
-      small = counts.small;
       few = λ id b. (let few = counts.few id b in omega (arith, few));
       next = counts.next;
-      from = λ n f at. counts.from n f (with_none log n f at);
-      below = λ n f at. counts.below n f (with_none log n f at);
-      apart = λ m n f g at at'. counts.apart m n f g (with_none log m f at) (with_none log n g at');
+      below = λ n f at. counts.below n f (with_none history.log n f at);
+      apart = λ m n f g at at'. counts.apart m n f g (with_none history.log m f at) (with_none history.log n g at');
       going = tt;
     }
 
-where_ended : (b : Bool) (log : List Slot) (u : Option UnderWay) (streams : List Stream) → CountsWhere b log streams u → CountsWhere b (None ∷ log) streams None
-where_ended false log u streams counts = tt
-where_ended true log u streams counts = counts_ended log u streams counts
+where_ended : (b : Bool) (history : History) (u : Option UnderWay) (streams : List Stream) → CountsWhere b history streams u → CountsWhere b (with_slot None history) streams None
+where_ended false history u streams counts = tt
+where_ended true history u streams counts = counts_ended history u streams counts
 
-pub numbered_ended : (log : List Slot) (old new : SendQueueState) → new.is_interleaved ≡ old.is_interleaved → new.under_way ≡ None → NumbersStay None old.streams new.streams → Numbered log old → Numbered (None ∷ log) new
-numbered_ended log old new kind going stay numbers =
+pub numbered_ended : (history : History) (old new : SendQueueState) → new.is_interleaved ≡ old.is_interleaved → new.under_way ≡ None → NumbersStay None old.streams new.streams → Numbered history old → Numbered (with_slot None history) new
+numbered_ended history old new kind going stay numbers =
     record {
-      kinds = λ n f at. numbers.kinds n f (with_none log n f at) ∙ sym kind;
-      counts = subst (λ (b : Bool). CountsWhere b (None ∷ log) new.streams new.under_way) (sym kind)
-          (subst (λ (u : Option UnderWay). CountsWhere old.is_interleaved (None ∷ log) new.streams u) (sym going)
-          (where_stay old.is_interleaved (None ∷ log) None old.streams new.streams stay (where_ended old.is_interleaved log old.under_way old.streams numbers.counts)));
+      kinds = λ n f at. numbers.kinds n f (with_none history.log n f at) ∙ sym kind;
+      counts = subst (λ (b : Bool). CountsWhere b (with_slot None history) new.streams new.under_way) (sym kind)
+          (subst (λ (u : Option UnderWay). CountsWhere old.is_interleaved (with_slot None history) new.streams u) (sym going)
+          (where_stay old.is_interleaved (with_slot None history) None old.streams new.streams stay (where_ended old.is_interleaved history old.under_way old.streams numbers.counts)));
+      kept = subst (λ (u : Option UnderWay). KeptWhere new.streams u) (sym going) tt;
     }

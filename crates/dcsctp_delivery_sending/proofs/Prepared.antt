@@ -6,11 +6,11 @@ use Rattle.dcsctp_machine.specs.declared.sending.UnderWay.{UnderWay}
 use Rattle.dcsctp_machine.specs.transfer.SendStreams.{Waiting, Stream, front_of, stream_at}
 use Rattle.dcsctp_machine.specs.transfer.OwnResets.{is_open, count_under_way, dropped_size, prepared_stream, with_used, prepared_open, prepared, prepared_all}
 use Rattle.dcsctp_machine.specs.transfer.SendQueue.{SendQueueState, stream_of, changed}
-use Rattle.dcsctp_delivery_sending.specs.Log.{Message, Slot}
+use Rattle.dcsctp_delivery_sending.specs.Log.{Message, Slot, History}
 use Rattle.dcsctp_delivery_sending.specs.Pieces.{AllQueued, AllBeyond, Ascend, unbegun, Going, HoldsQueued}
 use Rattle.dcsctp_delivery_sending.specs.Queueing.{QueueHolds}
 use Rattle.dcsctp_delivery_sending.specs.Numbers.{Numbered}
-use Rattle.dcsctp_delivery_sending.proofs.Numbers.{SameMids, KeepsFront, numbers_used, numbers_mapped, numbered_stay}
+use Rattle.dcsctp_delivery_sending.proofs.Numbers.{SameMids, KeepsFront, same_front, numbers_used, numbers_mapped, numbered_stay}
 use Rattle.std.proofs.lemmas.Bool.{eqb-true}
 use Rattle.dcsctp_delivery_sending.proofs.Places.{decide}
 use Rattle.dcsctp_delivery_sending.specs.Weights.{weight}
@@ -159,37 +159,36 @@ module _ (queued : List Message) (log : List Slot) (id : ℕ) (u : Option UnderW
         room = (let room = queue_holds.room in record { whole = omega (arith, room.whole, lighter); count = omega (arith, room.count, lighter) });
       }
 
-prepared_one : (queued : List Message) (log : List Slot) (id : ℕ) (queue : SendQueueState) → QueueHolds queued log queue → QueueHolds queued log (prepared id queue)
-prepared_one queued log id queue queues = go (is_open (stream_of start id).pause)
+prepared_one : (queued : List Message) (history : History) (id : ℕ) (queue : SendQueueState) → QueueHolds queued history queue → QueueHolds queued history (prepared id queue)
+prepared_one queued history id queue queues = go (is_open (stream_of start id).pause)
   where
     start : SendQueueState
     start = with_used id queue
 
-    began : QueueHolds queued log start
+    began : QueueHolds queued history start
     began =
         record {
-          queue_holds = used_hold queued log queue id queues.queue_holds;
+          queue_holds = used_hold queued history.log queue id queues.queue_holds;
           next = queues.next;
-          numbers = numbered_stay log queue start refl refl (numbers_used queue.under_way queue id) queues.numbers;
+          numbers = numbered_stay history queue start refl refl (numbers_used queue.under_way queue id) queues.numbers;
         }
 
     -- the message under way is kept
     fronts : (v : UnderWay) → queue.under_way ≡ Some v → (s : Stream) → s.id ≡ v.stream_id.0 → (b : Bool) → (s.id == id) ≡ b
         → KeepsFront s (if b then prepared_stream (dropped_size id start) (count_under_way id start.under_way) s else s)
-    fronts v is s here false other = λ w e. e
-    fronts v is s here true same = λ w e. (
+    fronts v is s here false other = same_front s
+    fronts v is s here true same =
         let one : s.id ≡ id = eqb-true s.id id same in
         let counted : count_under_way id queue.under_way ≡ 1 = ap (count_under_way id) is ∙ elim (eqb_tells v.stream_id.0 id) [ inl t ↦ rw t.0 refl | inr t ↦ absurd (t.1 (sym here ∙ one)) ] in
-        ap (λ (k : ℕ). front_of (take k s.messages)) counted ∙ taken s.messages ∙ e
-        )
+        record { front = λ w e. ap (λ (k : ℕ). front_of (take k s.messages)) counted ∙ taken s.messages ∙ e; kept = λ e. refl }
       where
         taken : (l : List Waiting) → front_of (take 1 l) ≡ front_of l
         taken [] = refl
         taken (w ∷ l) = refl
 
-    kept : Numbered log (prepared_open id start)
+    kept : Numbered history (prepared_open id start)
     kept =
-        numbered_stay log start (prepared_open id start) refl refl
+        numbered_stay history start (prepared_open id start) refl refl
         (numbers_mapped queue.under_way (λ s. if s.id == id then prepared_stream (dropped_size id start) (count_under_way id start.under_way) s else s) (λ s. one_id (s.id == id) s) (λ s. one_mids (s.id == id) s)
         (λ v is s here. fronts v is s here (s.id == id) refl) start.streams) began.numbers
       where
@@ -201,10 +200,10 @@ prepared_one queued log id queue queues = go (is_open (stream_of start id).pause
         one_mids true s = record { ordered = refl; unordered = refl }
         one_mids false s = record { ordered = refl; unordered = refl }
 
-    go : (b : Bool) → QueueHolds queued log (if b then prepared_open id start else start)
+    go : (b : Bool) → QueueHolds queued history (if b then prepared_open id start else start)
     go true =
         record {
-          queue_holds = short_hold queued log id queue.under_way start.streams (changed id (prepared_stream (dropped_size id start) (count_under_way id start.under_way)) start.streams)
+          queue_holds = short_hold queued history.log id queue.under_way start.streams (changed id (prepared_stream (dropped_size id start) (count_under_way id start.under_way)) start.streams)
               (shortened id (dropped_size id start) (count_under_way id start.under_way) start.streams) began.queue_holds
               (weight_prepared id (dropped_size id start) (count_under_way id start.under_way) start.streams);
           next = queues.next;
@@ -220,6 +219,6 @@ preparing_kind (id ∷ ids) queue = preparing_kind ids (prepared id queue) ∙ g
     go true = refl
     go false = refl
 
-pub preparing_hold : (queued : List Message) (log : List Slot) (ids : List ℕ) (queue : SendQueueState) → QueueHolds queued log queue → QueueHolds queued log (prepared_all ids queue)
-preparing_hold queued log [] queue queues = queues
-preparing_hold queued log (id ∷ ids) queue queues = preparing_hold queued log ids (prepared id queue) (prepared_one queued log id queue queues)
+pub preparing_hold : (queued : List Message) (history : History) (ids : List ℕ) (queue : SendQueueState) → QueueHolds queued history queue → QueueHolds queued history (prepared_all ids queue)
+preparing_hold queued history [] queue queues = queues
+preparing_hold queued history (id ∷ ids) queue queues = preparing_hold queued history ids (prepared id queue) (prepared_one queued history id queue queues)

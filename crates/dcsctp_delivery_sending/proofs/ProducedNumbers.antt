@@ -7,8 +7,8 @@ use Rattle.dcsctp_machine.specs.declared.sending.UnderWay.{UnderWay}
 use Rattle.dcsctp_machine.specs.transfer.SendStreams.{Waiting, Stream, front_of, counted, unused, stream_at}
 use Rattle.dcsctp_machine.specs.transfer.SendQueue.{SendQueueState}
 use Rattle.dcsctp_machine.specs.transfer.Sending.{reduced, numbered, after_part, after_last, produced, is_last}
-use Rattle.dcsctp_delivery_sending.specs.Log.{Piece, Slot, HasBefore}
-use Rattle.dcsctp_delivery_sending.specs.Numbers.{stream_named, next_mid, Counts, AreOfKind}
+use Rattle.dcsctp_delivery_sending.specs.Log.{Piece, Slot, HasBefore, History, with_slot}
+use Rattle.dcsctp_delivery_sending.specs.Numbers.{stream_named, next_mid, Counts, AreOfKind, IsCurrent}
 use Rattle.dcsctp_delivery_sending.proofs.Places.{at_cases}
 use Rattle.dcsctp_delivery_sending.proofs.Streams.{Alike, numbered_reduced, alike_is_shorter, distinct_on}
 use Rattle.dcsctp_delivery_sending.proofs.Numbers.{NumbersStay, numbers_then, numbers_reduced, numbers_without, mid_stays}
@@ -70,7 +70,7 @@ id_counted false s = refl
 SameNext : Bool → Stream → Stream → Type 0
 SameNext b old new = next_mid b new ≡ next_mid b old
 
-module _ (log : List Slot) (max place : ℕ) (queue : SendQueueState) (message : Waiting) (under_way : UnderWay) (piece : Piece)
+module _ (history : History) (max place : ℕ) (queue : SendQueueState) (message : Waiting) (under_way : UnderWay) (piece : Piece)
     (front : front_of (stream_at queue.streams place).messages ≡ Some message) (within : place < length queue.streams)
     (distinct : (p q : ℕ) → p < length queue.streams → q < length queue.streams → (stream_at queue.streams p).id ≡ (stream_at queue.streams q).id → p ≡ q)
     (id_is : (stream_at queue.streams place).id ≡ under_way.stream_id.0)
@@ -137,35 +137,38 @@ module _ (log : List Slot) (max place : ℕ) (queue : SendQueueState) (message :
         (λ same. mid_apart kind b (stream_at left place) (apart (sym same ∙ id_counted kind (stream_at left place) ∙ long)))
         ∙ mid_stays b (stream_named other queue.streams) (stream_named other left) ((numbers_reduced None place size queue).mids other)
 
-    module _ (c : Counts log queue.streams None) (number_is : piece.mid ≡ c.starts id kind + c.counts id kind) where
-      begun_part : Counts (Some piece ∷ log) (after_part place max message under_way queue).streams (after_part place max message under_way queue).under_way
+    module _ (c : Counts history queue.streams None) (number_is : piece.mid ≡ history.floors id kind + c.counts id kind) where
+      pub begun_current : IsCurrent history piece
+      begun_current = let same : history.floors piece.message.stream piece.message.is_unordered ≡ history.floors id kind = rw stream_is (rw kind_is refl) in omega (arith, same, number_is)
+
+      begun_part : Counts (with_slot (Some piece) history) (after_part place max message under_way queue).streams (after_part place max message under_way queue).under_way
       unfolding between
       begun_part =
-          counts_begun log queue.streams (after_part place max message under_way queue).streams (after_part place max message under_way queue).under_way id kind piece c stream_is kind_is number_is
+          counts_begun history queue.streams (after_part place max message under_way queue).streams (after_part place max message under_way queue).under_way id kind piece c stream_is kind_is number_is
           (ap (λ (k : ℕ). k % 2 ^ 32) (counted_here max) ∙ omega arith) (λ other b apart. counted_else max other b apart)
           (λ v is. goes_part (after_part place max message under_way queue).streams max refl _ v is refl refl)
 
-      begun_last : Counts (Some piece ∷ log) (after_last place message under_way queue).streams (after_last place message under_way queue).under_way
+      begun_last : Counts (with_slot (Some piece) history) (after_last place message under_way queue).streams (after_last place message under_way queue).under_way
       unfolding between
       begun_last =
           let rest : ℕ = length message.payload - under_way.sent in
           let gone = numbers_without place (between rest).streams in
-          counts_begun log queue.streams (after_last place message under_way queue).streams None id kind piece c stream_is kind_is number_is
+          counts_begun history queue.streams (after_last place message under_way queue).streams None id kind piece c stream_is kind_is number_is
           (ap (λ (k : ℕ). k % 2 ^ 32) (mid_stays kind (stream_named id (between rest).streams) (stream_named id (after_last place message under_way queue).streams) (gone.mids id) ∙ counted_here rest) ∙ omega arith)
           (λ other b apart. mid_stays b (stream_named other (between rest).streams) (stream_named other (after_last place message under_way queue).streams) (gone.mids other) ∙ counted_else rest other b apart)
           (λ v is. absurd (cc))
 
-      pub begun_counts : Counts (Some piece ∷ log) (produced place max message under_way queue).streams (produced place max message under_way queue).under_way
+      pub begun_counts : Counts (with_slot (Some piece) history) (produced place max message under_way queue).streams (produced place max message under_way queue).under_way
       begun_counts = go (is_last max message under_way)
         where
-          go : (b : Bool) → Counts (Some piece ∷ log) (if b then after_last place message under_way queue else after_part place max message under_way queue).streams
+          go : (b : Bool) → Counts (with_slot (Some piece) history) (if b then after_last place message under_way queue else after_part place max message under_way queue).streams
               (if b then after_last place message under_way queue else after_part place max message under_way queue).under_way
           go true = begun_last
           go false = begun_part
 
   -- ---- a later one
 
-  module _ (some : 0 < under_way.sent) (c : Counts log queue.streams (Some under_way)) (number_is : piece.mid ≡ c.going.mid) (row : 0 < length log → HasBefore log (length log) piece) where
+  module _ (some : 0 < under_way.sent) (c : Counts history queue.streams (Some under_way)) (number_is : piece.mid ≡ c.going.mid) (row : 0 < length history.log → HasBefore history.log (length history.log) piece) where
     is_waiting : c.going.waiting ≡ message
     is_waiting =
         let found : stream_named under_way.stream_id.0 queue.streams ≡ stream_at queue.streams place =
@@ -175,6 +178,13 @@ module _ (log : List Slot) (max place : ℕ) (queue : SendQueueState) (message :
 
     same_kind : message.is_unordered ≡ c.going.waiting.is_unordered
     same_kind = ap (λ (w : Waiting). w.is_unordered) (sym is_waiting)
+
+    pub later_current : IsCurrent history piece
+    later_current =
+        let same : history.floors piece.message.stream piece.message.is_unordered ≡ history.floors under_way.stream_id.0 c.going.waiting.is_unordered =
+        ap (λ (k : ℕ). history.floors k piece.message.is_unordered) (stream_is ∙ id_is) ∙ ap (history.floors under_way.stream_id.0) (kind_is ∙ same_kind) in
+        let low = c.going.from in
+        omega (arith, same, number_is, low)
 
     stays : (size : ℕ) → NumbersStay None queue.streams (between size).streams
     unfolding between
@@ -187,23 +197,23 @@ module _ (log : List Slot) (max place : ℕ) (queue : SendQueueState) (message :
         subst (λ (k : ℕ). GoesOn streams k c.going.waiting.is_unordered piece.mid v) id_is
         (subst (λ (b : Bool). GoesOn streams (stream_at queue.streams place).id b piece.mid v) same_kind (goes_part streams size is u v same same_stream same_mid))
 
-    later_part : Counts (Some piece ∷ log) (after_part place max message under_way queue).streams (after_part place max message under_way queue).under_way
+    later_part : Counts (with_slot (Some piece) history) (after_part place max message under_way queue).streams (after_part place max message under_way queue).under_way
     unfolding between
     later_part =
-        counts_continued log queue.streams (after_part place max message under_way queue).streams under_way (after_part place max message under_way queue).under_way piece c (stream_is ∙ id_is) (kind_is ∙ same_kind) number_is row (stays max)
+        counts_continued history queue.streams (after_part place max message under_way queue).streams under_way (after_part place max message under_way queue).under_way piece c (stream_is ∙ id_is) (kind_is ∙ same_kind) number_is row (stays max)
         (λ v is. goes_later (after_part place max message under_way queue).streams max refl _ v is refl refl)
 
-    later_last : Counts (Some piece ∷ log) (after_last place message under_way queue).streams (after_last place message under_way queue).under_way
+    later_last : Counts (with_slot (Some piece) history) (after_last place message under_way queue).streams (after_last place message under_way queue).under_way
     unfolding between
     later_last =
         let rest : ℕ = length message.payload - under_way.sent in
-        counts_continued log queue.streams (after_last place message under_way queue).streams under_way None piece c (stream_is ∙ id_is) (kind_is ∙ same_kind) number_is row
+        counts_continued history queue.streams (after_last place message under_way queue).streams under_way None piece c (stream_is ∙ id_is) (kind_is ∙ same_kind) number_is row
         (numbers_then None queue.streams (between rest).streams (after_last place message under_way queue).streams (stays rest) (numbers_without place (between rest).streams)) (λ v is. absurd (cc))
 
-    pub later_counts : Counts (Some piece ∷ log) (produced place max message under_way queue).streams (produced place max message under_way queue).under_way
+    pub later_counts : Counts (with_slot (Some piece) history) (produced place max message under_way queue).streams (produced place max message under_way queue).under_way
     later_counts = go (is_last max message under_way)
       where
-        go : (b : Bool) → Counts (Some piece ∷ log) (if b then after_last place message under_way queue else after_part place max message under_way queue).streams
+        go : (b : Bool) → Counts (with_slot (Some piece) history) (if b then after_last place message under_way queue else after_part place max message under_way queue).streams
             (if b then after_last place message under_way queue else after_part place max message under_way queue).under_way
         go true = later_last
         go false = later_part

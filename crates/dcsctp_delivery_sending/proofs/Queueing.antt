@@ -7,7 +7,7 @@ use Rattle.dcsctp_machine.specs.transfer.SendStreams.{Waiting, Stream, front_of,
 use Rattle.dcsctp_machine.specs.transfer.SendQueue.{SendQueueState, changed, used, queued as waiting_as}
 use Rattle.dcsctp_machine.specs.turns.MessageOutcomes.{Sending, sending_queued}
 use Rattle.dcsctp_delivery_sending.specs.Places.{at_place}
-use Rattle.dcsctp_delivery_sending.specs.Log.{Message, Piece, Slot, Cut}
+use Rattle.dcsctp_delivery_sending.specs.Log.{Message, Piece, Slot, Cut, History}
 use Rattle.dcsctp_delivery_sending.specs.Pieces.{WaitingWasQueued, AllQueued, AllBeyond, Ascend, unbegun, Going, HoldsQueued}
 use Rattle.dcsctp_delivery_sending.specs.Queueing.{message_of, QueueHolds}
 use Rattle.dcsctp_delivery_sending.proofs.Places.{decide, at_new, at_below, at_stays}
@@ -197,23 +197,23 @@ exactly id m [] q below is = absurd (omega arith)
 exactly id m (s ∷ l) zero below is = elim (eqb_tells s.id id) [ inl e ↦ rw e.0 refl | inr e ↦ absurd (e.1 is) ]
 exactly id m (s ∷ l) (suc q) below is = exactly id m l q (omega arith) is
 
-pub queueing_hold : (queued : List Message) (log : List Slot) (now : ℕ) (sending : Sending) (queue : SendQueueState) → length queued + 1 < 2 ^ 64 → 0 < length sending.message.payload
-    → Cut queued log → QueueHolds queued log queue → QueueHolds (message_of sending ∷ queued) log (sending_queued now sending queue)
-queueing_hold queued log now sending queue few some cut queues =
+pub queueing_hold : (queued : List Message) (history : History) (now : ℕ) (sending : Sending) (queue : SendQueueState) → length queued + 1 < 2 ^ 64 → 0 < length sending.message.payload
+    → Cut queued history.log → QueueHolds queued history queue → QueueHolds (message_of sending ∷ queued) history (sending_queued now sending queue)
+queueing_hold queued history now sending queue few some cut queues =
     record {
-      queue_holds = added_hold queued (message_of sending) log sending.message.stream m streams (changed sending.message.stream (with_message m) streams) queue.under_way (one_more sending.message.stream m streams)
+      queue_holds = added_hold queued (message_of sending) history.log sending.message.stream m streams (changed sending.message.stream (with_message m) streams) queue.under_way (one_more sending.message.stream m streams)
           (record {
             message = message_of sending;
             at = subst (λ (k : ℕ). at_place k (message_of sending ∷ queued) ≡ Some (message_of sending)) (sym queues.next) (at_new (message_of sending) queued);
             is = record { stream = refl; ppid = refl; unordered = refl; payload = refl };
             fresh = refl;
             some = some;
-          }) queues.next (λ n f at. at_below f.place f.message queued (cut.pieces n f at).at) (used_hold queued log queue sending.message.stream queues.queue_holds)
-          (λ q below is. exactly sending.message.stream m streams q below is) (weight_added sending.message.stream m streams (used_hold queued log queue sending.message.stream queues.queue_holds).distinct);
+          }) queues.next (λ n f at. at_below f.place f.message queued (cut.pieces n f at).at) (used_hold queued history.log queue sending.message.stream queues.queue_holds)
+          (λ q below is. exactly sending.message.stream m streams q below is) (weight_added sending.message.stream m streams (used_hold queued history.log queue sending.message.stream queues.queue_holds).distinct);
       next = (let next = queues.next in omega (arith, next, few));
-      numbers = numbered_stay log queue (sending_queued now sending queue) refl refl
+      numbers = numbered_stay history queue (sending_queued now sending queue) refl refl
           (numbers_then queue.under_way queue.streams streams (changed sending.message.stream (with_message m) streams) (numbers_used queue.under_way queue sending.message.stream)
-          (numbers_changed queue.under_way sending.message.stream (with_message m) (λ s. refl) (λ s. record { ordered = refl; unordered = refl }) (λ v is s here w e. front_append s.messages m w e) streams)) queues.numbers;
+          (numbers_changed queue.under_way sending.message.stream (with_message m) (λ s. refl) (λ s. record { ordered = refl; unordered = refl }) (λ v is s here same. record { front = λ w e. front_append s.messages m w e; kept = λ e. e }) streams)) queues.numbers;
     }
   where
     m : Waiting

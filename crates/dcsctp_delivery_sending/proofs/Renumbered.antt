@@ -1,18 +1,19 @@
 -- What waits, once messages are interleaved otherwise than before.
 use Rattle.std.proofs.Common.{◌≡◌, ◌==◌, ℕ, zero, suc, Bool, true, false, ◌<◌, ◌+◌, ◌%◌, ◌^◌, List, [], ◌∷◌, length, refl, sym, ◌∙◌, ap, arith, subst, inl, inr}
-use Rattle.std.specs.Prelude.{Option, None, Some}
+use Rattle.std.specs.Prelude.{Option, None, Some, if◌then◌else◌}
 use Rattle.dcsctp_machine.specs.declared.sending.UnderWay.{UnderWay}
 use Rattle.dcsctp_machine.specs.transfer.SendStreams.{counted, Waiting, Stream, front_of, next_numbers, stream_at, unused}
 use Rattle.dcsctp_machine.specs.transfer.SendQueue.{found_in, stream_of, renumbered, numbered_for, numbered_where, is_other, front_counted, is_front_unordered, SendQueueState, changed}
-use Rattle.dcsctp_delivery_sending.specs.Log.{Message}
+use Rattle.dcsctp_delivery_sending.specs.Log.{Message, new_history}
 use Rattle.dcsctp_delivery_sending.specs.Pieces.{IsGoing, HoldsQueued}
-use Rattle.dcsctp_delivery_sending.specs.Queueing.{QueueHolds}
+use Rattle.dcsctp_delivery_sending.specs.Queueing.{QueueWaits}
 use Rattle.dcsctp_delivery_sending.proofs.Streams.{alike_hold}
-use Rattle.dcsctp_delivery_sending.specs.Numbers.{stream_named, next_mid, CountsWhere}
-use Rattle.dcsctp_delivery_sending.proofs.StreamsNamed.{found_at}
-use Rattle.dcsctp_delivery_sending.proofs.Counting.{counts_rest}
+use Rattle.dcsctp_delivery_sending.specs.Numbers.{stream_named, next_mid, KeptWhere, CountsWhere}
+use Rattle.dcsctp_delivery_sending.proofs.StreamsNamed.{found_at, found_mapped}
+use Rattle.dcsctp_delivery_sending.proofs.Pauses.{SamePause}
+use Rattle.dcsctp_delivery_sending.proofs.Counting.{Begins, counts_rest}
 use Rattle.std.proofs.lemmas.Bool.Decides.{eqb_tells}
-use Rattle.dcsctp_delivery_sending.proofs.KeptQueues.{numbered_idle, one_set}
+use Rattle.dcsctp_delivery_sending.proofs.KeptQueues.{begins_idle, numbered_new, one_set}
 
 numbered_again : (queued : List Message) (u : UnderWay) (ssn mid : ℕ) (streams : List Stream) → HoldsQueued queued [] streams (Some u) → HoldsQueued queued [] streams (Some (record u { ssn = ssn; mid = mid }))
 numbered_again queued u ssn mid streams queue_holds =
@@ -57,8 +58,8 @@ found_changed d f same id (suc q) (s ∷ streams) within is =
 
 -- the rest of a message that takes the next number of its stream
 renumbered_counts : (queued : List Message) (enabled : Bool) (u : UnderWay) (queue : SendQueueState) → HoldsQueued queued [] queue.streams (Some u)
-    → CountsWhere enabled [] (changed u.stream_id.0 (front_counted enabled) queue.streams) (Some (renumbered u (stream_of queue u.stream_id.0)))
-renumbered_counts queued false u queue queue_holds = tt
+    → Begins enabled (changed u.stream_id.0 (front_counted enabled) queue.streams) (Some (renumbered u (stream_of queue u.stream_id.0)))
+renumbered_counts queued false u queue queue_holds = record { floors = λ id is_unordered. 0; counts = tt }
 renumbered_counts queued true u queue queue_holds =
     counts_rest (changed id (front_counted true) queue.streams) (renumbered u (stream_of queue id)) g.there.waiting (renumbered u (stream_of queue id)).mid front refl next
   where
@@ -119,8 +120,8 @@ numbered_kind enabled queue = go queue.under_way (is_other queue.is_interleaved 
     go (Some u) false = refl
     go (Some u) true = refl
 
-pub numbered_hold : (queued : List Message) (enabled : Bool) (queue : SendQueueState) → QueueHolds queued [] queue → QueueHolds queued [] (numbered_for enabled queue)
-numbered_hold queued enabled queue queues = go queue.under_way refl (is_other queue.is_interleaved enabled) refl queues.queue_holds
+pub numbered_hold : (queued : List Message) (enabled : Bool) (queue : SendQueueState) → QueueWaits queued queue → QueueWaits queued (numbered_for enabled queue)
+numbered_hold queued enabled queue waits = go queue.under_way refl (is_other queue.is_interleaved enabled) refl waits.holds.queue_holds
   where
     same_id : (a b : Bool) (s : Stream) → (counted a b s).id ≡ s.id
     same_id true true s = refl
@@ -134,26 +135,42 @@ numbered_hold queued enabled queue queues = go queue.under_way refl (is_other qu
     same_messages false true s = refl
     same_messages false false s = refl
 
+    same_pause : (a b : Bool) (s : Stream) → SamePause s (counted a b s)
+    same_pause true true s = refl
+    same_pause true false s = refl
+    same_pause false true s = refl
+    same_pause false false s = refl
+
     start : SendQueueState
     start = record queue { is_interleaved = enabled }
 
-    go : (u : Option UnderWay) → queue.under_way ≡ u → (b : Bool) → is_other queue.is_interleaved enabled ≡ b → HoldsQueued queued [] queue.streams u → QueueHolds queued [] (numbered_where u b (record start { under_way = u }))
-    go None is b other queue_holds = record { queue_holds = queue_holds; next = queues.next; numbers = numbered_idle (record start { under_way = None }) refl }
+    -- so it is with these streams
+    so : (streams : List Stream) (u : Option UnderWay) → HoldsQueued queued [] streams u → Begins enabled streams u → KeptWhere streams u → QueueWaits queued (record start { streams = streams; under_way = u })
+    so streams u queue_holds begins kept = record { floors = begins.floors; holds = record { queue_holds = queue_holds; next = waits.holds.next; numbers = numbered_new (record start { streams = streams; under_way = u }) begins kept } }
+
+    go : (u : Option UnderWay) → queue.under_way ≡ u → (b : Bool) → is_other queue.is_interleaved enabled ≡ b → HoldsQueued queued [] queue.streams u → QueueWaits queued (numbered_where u b (record start { under_way = u }))
+    go None is b other queue_holds = so queue.streams None queue_holds (begins_idle enabled queue.streams) tt
     go (Some u) is false other queue_holds =
-        record {
-          queue_holds = queue_holds;
-          next = queues.next;
-          numbers = record {
-            kinds = λ n f at. absurd (cc);
-            counts = subst (λ (b : Bool). CountsWhere b [] queue.streams (Some u)) (is_same queue.is_interleaved enabled other)
-                (subst (λ (v : Option UnderWay). CountsWhere queue.is_interleaved [] queue.streams v) is queues.numbers.counts);
-          };
-        }
+        so queue.streams (Some u) queue_holds
+        (record {
+          floors = waits.floors;
+          counts = subst (λ (b : Bool). CountsWhere b (new_history waits.floors) queue.streams (Some u)) (is_same queue.is_interleaved enabled other)
+              (subst (λ (v : Option UnderWay). CountsWhere queue.is_interleaved (new_history waits.floors) queue.streams v) is waits.holds.numbers.counts);
+        })
+        (subst (λ (v : Option UnderWay). KeptWhere queue.streams v) is waits.holds.numbers.kept)
     go (Some u) is true other queue_holds =
-        record {
-          queue_holds = numbered_again queued u _ _ (changed u.stream_id.0 (front_counted enabled) queue.streams)
-              (alike_hold queued [] (Some u) queue.streams (changed u.stream_id.0 (front_counted enabled) queue.streams)
-              (one_set (front_counted enabled) (λ s. same_id enabled (is_front_unordered s.messages) s) (λ s. same_messages enabled (is_front_unordered s.messages) s) u.stream_id.0 queue.streams) queue_holds);
-          next = queues.next;
-          numbers = record { kinds = λ n f at. absurd (cc); counts = renumbered_counts queued enabled u (record start { under_way = Some u }) queue_holds };
-        }
+        so (changed u.stream_id.0 (front_counted enabled) queue.streams) (Some (renumbered u (stream_of queue u.stream_id.0)))
+        (numbered_again queued u _ _ (changed u.stream_id.0 (front_counted enabled) queue.streams)
+        (alike_hold queued [] (Some u) queue.streams (changed u.stream_id.0 (front_counted enabled) queue.streams)
+        (one_set (front_counted enabled) (λ s. same_id enabled (is_front_unordered s.messages) s) (λ s. same_messages enabled (is_front_unordered s.messages) s) u.stream_id.0 queue.streams) queue_holds))
+        (renumbered_counts queued enabled u (record start { under_way = Some u }) queue_holds)
+        (found_mapped SamePause u.stream_id.0 (unused 0 0 0) (λ s. if s.id == u.stream_id.0 then front_counted enabled s else s) (λ s. one_id (s.id == u.stream_id.0) s) refl
+        (λ s here. one_pause (s.id == u.stream_id.0) s) queue.streams ∙ subst (λ (v : Option UnderWay). KeptWhere queue.streams v) is waits.holds.numbers.kept)
+      where
+        one_id : (b : Bool) (s : Stream) → (if b then front_counted enabled s else s).id ≡ s.id
+        one_id true s = same_id enabled (is_front_unordered s.messages) s
+        one_id false s = refl
+
+        one_pause : (b : Bool) (s : Stream) → SamePause s (if b then front_counted enabled s else s)
+        one_pause true s = same_pause enabled (is_front_unordered s.messages) s
+        one_pause false s = refl

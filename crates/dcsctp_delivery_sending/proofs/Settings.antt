@@ -1,59 +1,156 @@
 -- What is set, and resets of own streams, leave what waits.
-use Rattle.std.proofs.Common.{◌≡◌, ℕ, Bool, true, false, List, map, refl}
-use Rattle.dcsctp_machine.specs.transfer.SendStreams.{Stream, committed, rolled_back}
+use Rattle.std.proofs.Common.{◌≡◌, ℕ, Bool, true, false, ◌<◌, ◌≤◌, ◌+◌, ◌*◌, ◌%◌, ◌^◌, List, length, map, refl, ◌∙◌, ap, arith}
+use Rattle.std.specs.Prelude.{Option, None, Some, if◌then◌else◌}
+use Rattle.dcsctp_machine.specs.transfer.SendStreams.{Stream, front_of, unused, committed, rolled_back}
+use Rattle.dcsctp_machine.specs.declared.sending.UnderWay.{UnderWay}
 use Rattle.dcsctp_machine.specs.declared.sending.Pause.{Pause}
 use Rattle.dcsctp_machine.specs.declared.sending.Pause.TheVariants.{Open, Pausing, HandedOut}
 use Rattle.dcsctp_machine.specs.transfer.OwnResets.{queue_committed, queue_rolled_back}
 use Rattle.dcsctp_machine.specs.transfer.SendQueue.{with_priority, with_threshold, SendQueueState, changed, used}
 use Rattle.dcsctp_machine.specs.turns.SettingOutcomes.{Setting, stream_priority, stream_low_threshold, longest_message, set_in_queue}
-use Rattle.dcsctp_delivery_sending.specs.Log.{Message, Slot}
-use Rattle.dcsctp_delivery_sending.specs.Queueing.{NumbersGoOn, QueueHolds}
-use Rattle.dcsctp_delivery_sending.specs.Numbers.{CountsWhere, Numbered}
+use Rattle.dcsctp_delivery_sending.specs.Log.{Message, History}
+use Rattle.dcsctp_delivery_sending.specs.Queueing.{raised, QueueHolds}
+use Rattle.dcsctp_delivery_sending.specs.Numbers.{stream_named, next_mid, is_handed_out, KeptWhere, LastIs, Counts, CountsWhere, Numbered}
 use Rattle.dcsctp_delivery_sending.proofs.Numbers.{SameMids, front_kept, numbers_then, numbers_used, numbers_changed, numbers_mapped, numbered_stay}
 use Rattle.dcsctp_delivery_sending.proofs.Streams.{alike_hold}
+use Rattle.dcsctp_delivery_sending.proofs.StreamsNamed.{found_mapped}
 use Rattle.dcsctp_delivery_sending.proofs.NewStreams.{used_hold}
 use Rattle.dcsctp_delivery_sending.proofs.KeptQueues.{one_set, mapped_alike}
 
-set_numbered : (log : List Slot) (id : ℕ) (queue : SendQueueState) (f : Stream → Stream) → ((s : Stream) → (f s).id ≡ s.id) → ((s : Stream) → SameMids s (f s)) → ((s : Stream) → (f s).messages ≡ s.messages) → Numbered log queue
-    → Numbered log (record queue { streams = changed id f (used queue id) })
-set_numbered log id queue f same mids messages numbers =
-    numbered_stay log queue (record queue { streams = changed id f (used queue id) }) refl refl
+set_numbered : (history : History) (id : ℕ) (queue : SendQueueState) (f : Stream → Stream) → ((s : Stream) → (f s).id ≡ s.id) → ((s : Stream) → SameMids s (f s)) → ((s : Stream) → (f s).messages ≡ s.messages) → ((s : Stream) → (f s).pause ≡ s.pause) → Numbered history queue
+    → Numbered history (record queue { streams = changed id f (used queue id) })
+set_numbered history id queue f same mids messages pauses numbers =
+    numbered_stay history queue (record queue { streams = changed id f (used queue id) }) refl refl
     (numbers_then queue.under_way queue.streams (used queue id) (changed id f (used queue id)) (numbers_used queue.under_way queue id)
-    (numbers_changed queue.under_way id f same mids (λ v is s here. front_kept s (f s) (messages s)) (used queue id))) numbers
+    (numbers_changed queue.under_way id f same mids (λ v is s here named. front_kept s (f s) (messages s) (λ e. ap is_handed_out (pauses s) ∙ e)) (used queue id))) numbers
 
 pub setting_kind : (setting : Setting) (queue : SendQueueState) → (set_in_queue setting queue).is_interleaved ≡ queue.is_interleaved
 setting_kind (stream_priority id priority) queue = refl
 setting_kind (stream_low_threshold id bytes) queue = refl
 setting_kind (longest_message bytes) queue = refl
 
-pub setting_hold : (queued : List Message) (log : List Slot) (setting : Setting) (queue : SendQueueState) → QueueHolds queued log queue → QueueHolds queued log (set_in_queue setting queue)
-setting_hold queued log (stream_priority id priority) queue queues =
+pub setting_hold : (queued : List Message) (history : History) (setting : Setting) (queue : SendQueueState) → QueueHolds queued history queue → QueueHolds queued history (set_in_queue setting queue)
+setting_hold queued history (stream_priority id priority) queue queues =
     record {
-      queue_holds = alike_hold queued log queue.under_way (used queue id) (changed id (with_priority priority) (used queue id)) (one_set (with_priority priority) (λ s. refl) (λ s. refl) id (used queue id)) (used_hold queued log queue id queues.queue_holds);
+      queue_holds = alike_hold queued history.log queue.under_way (used queue id) (changed id (with_priority priority) (used queue id)) (one_set (with_priority priority) (λ s. refl) (λ s. refl) id (used queue id)) (used_hold queued history.log queue id queues.queue_holds);
       next = queues.next;
-      numbers = set_numbered log id queue (with_priority priority) (λ s. refl) (λ s. record { ordered = refl; unordered = refl }) (λ s. refl) queues.numbers;
+      numbers = set_numbered history id queue (with_priority priority) (λ s. refl) (λ s. record { ordered = refl; unordered = refl }) (λ s. refl) (λ s. refl) queues.numbers;
     }
-setting_hold queued log (stream_low_threshold id bytes) queue queues =
+setting_hold queued history (stream_low_threshold id bytes) queue queues =
     record {
-      queue_holds = alike_hold queued log queue.under_way (used queue id) (changed id (with_threshold bytes) (used queue id)) (one_set (with_threshold bytes) (λ s. refl) (λ s. refl) id (used queue id)) (used_hold queued log queue id queues.queue_holds);
+      queue_holds = alike_hold queued history.log queue.under_way (used queue id) (changed id (with_threshold bytes) (used queue id)) (one_set (with_threshold bytes) (λ s. refl) (λ s. refl) id (used queue id)) (used_hold queued history.log queue id queues.queue_holds);
       next = queues.next;
-      numbers = set_numbered log id queue (with_threshold bytes) (λ s. refl) (λ s. record { ordered = refl; unordered = refl }) (λ s. refl) queues.numbers;
+      numbers = set_numbered history id queue (with_threshold bytes) (λ s. refl) (λ s. record { ordered = refl; unordered = refl }) (λ s. refl) (λ s. refl) queues.numbers;
     }
-setting_hold queued log (longest_message bytes) queue queues = queues
+setting_hold queued history (longest_message bytes) queue queues = queues
 
 -- ---- the end of a reset
 
-pub committing_hold : (queued : List Message) (log : List Slot) (queue : SendQueueState) → NumbersGoOn queue → QueueHolds queued log queue → QueueHolds queued log (queue_committed queue)
-committing_hold queued log queue go_on queues =
+-- what was handed out begins anew, and the others stay
+module _ (streams : List Stream) (id : ℕ) where
+  -- so it is with the stream of this number
+  NextWas : Bool → Stream → Stream → Type 0
+  NextWas b old new = next_mid b new ≡ (if is_handed_out old.pause then 0 else next_mid b old)
+
+  SameMessages : Stream → Stream → Type 0
+  SameMessages old new = new.messages ≡ old.messages
+
+  IsOpen : Stream → Stream → Type 0
+  IsOpen old new = is_handed_out new.pause ≡ false
+
+  its_id : (s : Stream) → (committed s).id ≡ s.id
+  its_id s = go s.pause refl
+    where
+      go : (p : Pause) → s.pause ≡ p → (committed s).id ≡ s.id
+      go Open is = rw is refl
+      go Pausing is = rw is refl
+      go HandedOut is = rw is refl
+
+  committed_mid : (b : Bool) → next_mid b (stream_named id (map committed streams)) ≡ (if is_handed_out (stream_named id streams).pause then 0 else next_mid b (stream_named id streams))
+  unfolding NextWas
+  committed_mid b = found_mapped (NextWas b) id (unused 0 0 0) committed its_id refl (λ s here. go b s s.pause refl) streams
+    where
+      go : (b : Bool) (s : Stream) (p : Pause) → s.pause ≡ p → next_mid b (committed s) ≡ (if is_handed_out s.pause then 0 else next_mid b s)
+      go b s Open is = rw is refl
+      go b s Pausing is = rw is refl
+      go true s HandedOut is = rw is refl
+      go false s HandedOut is = rw is refl
+
+  committed_messages : (stream_named id (map committed streams)).messages ≡ (stream_named id streams).messages
+  unfolding SameMessages
+  committed_messages = found_mapped SameMessages id (unused 0 0 0) committed its_id refl (λ s here. go s s.pause refl) streams
+    where
+      go : (s : Stream) (p : Pause) → s.pause ≡ p → (committed s).messages ≡ s.messages
+      go s Open is = rw is refl
+      go s Pausing is = rw is refl
+      go s HandedOut is = rw is refl
+
+  committed_open : is_handed_out (stream_named id (map committed streams)).pause ≡ false
+  unfolding IsOpen
+  committed_open = found_mapped IsOpen id (unused 0 0 0) committed its_id refl (λ s here. go s s.pause refl) streams
+    where
+      go : (s : Stream) (p : Pause) → s.pause ≡ p → is_handed_out (committed s).pause ≡ false
+      go s Open is = rw is refl
+      go s Pausing is = rw is refl
+      go s HandedOut is = rw is refl
+
+committed_kept : (streams : List Stream) (u : Option UnderWay) → KeptWhere (map committed streams) u
+committed_kept streams None = tt
+committed_kept streams (Some u) = committed_open streams u.stream_id.0
+
+-- the messages of a stream that was handed out are counted from its new floor
+committed_counts : (history : History) (streams : List Stream) (u : Option UnderWay) → KeptWhere streams u → Counts history streams u → Counts (raised streams history) (map committed streams) u
+committed_counts history streams u kept c =
     record {
-      queue_holds = alike_hold queued log queue.under_way queue.streams (map committed queue.streams) (mapped_alike committed (λ s. by_id s s.pause refl) (λ s. by_messages s s.pause refl) refl queue.streams) queues.queue_holds;
-      next = queues.next;
-      numbers = record { kinds = queues.numbers.kinds; counts = uncounted queue.is_interleaved go_on };
+      counts = λ id b. if handed id then 0 else c.counts id b;
+      few = λ id b. few (handed id) (c.counts id b) (length history.log) (c.few id b);
+      next = λ id b. ap (λ (k : ℕ). k % 2 ^ 32) (committed_mid streams id b) ∙ next (handed id) (next_mid b (stream_named id streams)) (history.floors id b) (c.counts id b) (length history.log) (c.next id b);
+      below = λ n f at. below (handed f.message.stream) f.mid (history.floors f.message.stream f.message.is_unordered) (c.counts f.message.stream f.message.is_unordered) (length history.log)
+          (c.below n f at) (c.few f.message.stream f.message.is_unordered);
+      apart = c.apart;
+      going = going u kept c.going;
     }
   where
-    uncounted : (b : Bool) → b ≡ false → CountsWhere b log (map committed queue.streams) queue.under_way
-    uncounted false e = tt
-    uncounted true e = absurd (cc)
+    handed : ℕ → Bool
+    handed id = is_handed_out (stream_named id streams).pause
+
+    few : (h : Bool) (count size : ℕ) → count ≤ size + 1 → (if h then 0 else count) ≤ size + 1
+    few true count size le = omega arith
+    few false count size le = le
+
+    next : (h : Bool) (mid floor count size : ℕ) → mid % 2 ^ 32 ≡ (floor + count) % 2 ^ 32
+        → (if h then 0 else mid) % 2 ^ 32 ≡ ((if h then 2 ^ 32 * (floor + size + 1) else floor) + (if h then 0 else count)) % 2 ^ 32
+    next true mid floor count size is = omega arith
+    next false mid floor count size is = is
+
+    below : (h : Bool) (mid floor count size : ℕ) → mid < floor + count → count ≤ size + 1 → mid < (if h then 2 ^ 32 * (floor + size + 1) else floor) + (if h then 0 else count)
+    below true mid floor count size less le = omega arith
+    below false mid floor count size less le = less
+
+    going : (v : Option UnderWay) → KeptWhere streams v → LastIs history streams c.counts v → LastIs (raised streams history) (map committed streams) (λ id b. if handed id then 0 else c.counts id b) v
+    going None kept last = tt
+    going (Some v) kept last =
+        record {
+          waiting = last.waiting;
+          front = ap front_of (committed_messages streams v.stream_id.0) ∙ last.front;
+          mid = last.mid;
+          is = last.is;
+          from = rw kept last.from;
+          last = rw kept last.last;
+          came = last.came;
+        }
+
+pub committing_hold : (queued : List Message) (history : History) (queue : SendQueueState) → QueueHolds queued history queue → QueueHolds queued (raised queue.streams history) (queue_committed queue)
+committing_hold queued history queue queues =
+    record {
+      queue_holds = alike_hold queued history.log queue.under_way queue.streams (map committed queue.streams) (mapped_alike committed (λ s. by_id s s.pause refl) (λ s. by_messages s s.pause refl) refl queue.streams) queues.queue_holds;
+      next = queues.next;
+      numbers = record { kinds = queues.numbers.kinds; counts = counted queue.is_interleaved queues.numbers.counts; kept = committed_kept queue.streams queue.under_way };
+    }
+  where
+    counted : (b : Bool) → CountsWhere b history queue.streams queue.under_way → CountsWhere b (raised queue.streams history) (map committed queue.streams) queue.under_way
+    counted false counts = tt
+    counted true counts = committed_counts history queue.streams queue.under_way queues.numbers.kept counts
 
     by_id : (s : Stream) (p : Pause) → s.pause ≡ p → (committed s).id ≡ s.id
     by_id s Open is = rw is refl
@@ -65,15 +162,20 @@ committing_hold queued log queue go_on queues =
     by_messages s Pausing is = rw is refl
     by_messages s HandedOut is = rw is refl
 
-pub rolling_back_hold : (queued : List Message) (log : List Slot) (queue : SendQueueState) → QueueHolds queued log queue → QueueHolds queued log (queue_rolled_back queue)
-rolling_back_hold queued log queue queues =
+pub rolling_back_hold : (queued : List Message) (history : History) (queue : SendQueueState) → QueueHolds queued history queue → QueueHolds queued history (queue_rolled_back queue)
+rolling_back_hold queued history queue queues =
     record {
-      queue_holds = alike_hold queued log queue.under_way queue.streams (map rolled_back queue.streams) (mapped_alike rolled_back (λ s. by_id s s.pause refl) (λ s. by_messages s s.pause refl) refl queue.streams) queues.queue_holds;
+      queue_holds = alike_hold queued history.log queue.under_way queue.streams (map rolled_back queue.streams) (mapped_alike rolled_back (λ s. by_id s s.pause refl) (λ s. by_messages s s.pause refl) refl queue.streams) queues.queue_holds;
       next = queues.next;
-      numbers = numbered_stay log queue (queue_rolled_back queue) refl refl
-          (numbers_mapped queue.under_way rolled_back (λ s. by_id s s.pause refl) (λ s. by_mids s s.pause refl) (λ v is s here. front_kept s (rolled_back s) (by_messages s s.pause refl)) queue.streams) queues.numbers;
+      numbers = numbered_stay history queue (queue_rolled_back queue) refl refl
+          (numbers_mapped queue.under_way rolled_back (λ s. by_id s s.pause refl) (λ s. by_mids s s.pause refl) (λ v is s here. front_kept s (rolled_back s) (by_messages s s.pause refl) (λ e. by_open s s.pause refl)) queue.streams) queues.numbers;
     }
   where
+    by_open : (s : Stream) (p : Pause) → s.pause ≡ p → is_handed_out (rolled_back s).pause ≡ false
+    by_open s Open is = rw is refl
+    by_open s Pausing is = rw is refl
+    by_open s HandedOut is = rw is refl
+
     by_mids : (s : Stream) (p : Pause) → s.pause ≡ p → SameMids s (rolled_back s)
     by_mids s Open is = rw is (record { ordered = refl; unordered = refl })
     by_mids s Pausing is = rw is (record { ordered = refl; unordered = refl })

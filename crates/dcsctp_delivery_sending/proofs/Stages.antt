@@ -8,9 +8,9 @@ use Rattle.dcsctp_machine.specs.transfer.Outstanding.{OutstandingState}
 use Rattle.dcsctp_machine.specs.transfer.SendQueue.{SendQueueState}
 use Rattle.dcsctp_machine.specs.transfer.Sending.{Fragment}
 use Rattle.dcsctp_delivery_sending.specs.Places.{at_place}
-use Rattle.dcsctp_delivery_sending.specs.Log.{Message, Piece, Slot, IsPiece, HasBefore, Cut}
+use Rattle.dcsctp_delivery_sending.specs.Log.{Message, Piece, Slot, IsPiece, HasBefore, Cut, History, with_slot}
 use Rattle.dcsctp_delivery_sending.specs.Pieces.{HandsOutPiece}
-use Rattle.dcsctp_delivery_sending.specs.Stages.{SaysSlot, SaysAt, IsNamed, Bears}
+use Rattle.dcsctp_delivery_sending.specs.Stages.{SaysSlot, SaysAt, IsNamed, Bears, Pends}
 use Rattle.dcsctp_delivery_sending.proofs.Places.{at_new, at_cases, at_below, at_stays}
 
 -- ---- logs
@@ -34,35 +34,35 @@ cut_none queued log cut =
       ascends = λ m n f g less at at'. cut.ascends m n f g less (with_none log m f at) (with_none log n g at');
     }
 
-pub cut_more : (queued : List Message) (log : List Slot) (part : Fragment) (new : SendQueueState) (handed : HandsOutPiece queued log part new) → Cut queued log → Cut queued (Some handed.piece ∷ log)
-cut_more queued log part new handed cut =
+pub cut_more : (queued : List Message) (history : History) (part : Fragment) (new : SendQueueState) (handed : HandsOutPiece queued history part new) → Cut queued history.log → Cut queued (Some handed.piece ∷ history.log)
+cut_more queued history part new handed cut =
     record {
-      pieces = λ n f at. elim (at_cases n (Some handed.piece) (Some f) log at) [
+      pieces = λ n f at. elim (at_cases n (Some handed.piece) (Some f) history.log at) [
         | inl e ↦ (let same : handed.piece ≡ f = cc in subst (λ (g : Piece). IsPiece queued g) same handed.is_piece)
         | inr old ↦ cut.pieces n f old
       ];
-      rows = λ n f some at started. elim (at_cases n (Some handed.piece) (Some f) log at) [
+      rows = λ n f some at started. elim (at_cases n (Some handed.piece) (Some f) history.log at) [
         | inl e ↦
             (let same : handed.piece ≡ f = cc in
-            let here : n ≡ length log = e.0 in
-            subst (λ (k : ℕ). HasBefore (Some handed.piece ∷ log) k f) (sym here)
-            (subst (λ (g : Piece). HasBefore (Some handed.piece ∷ log) (length log) g) same
-            (before_stays (Some handed.piece) log (length log) handed.piece (handed.row (omega arith) (subst (λ (g : Piece). 0 < g.start) (sym same) started)))))
-        | inr old ↦ before_stays (Some handed.piece) log n f (cut.rows n f some old started)
+            let here : n ≡ length history.log = e.0 in
+            subst (λ (k : ℕ). HasBefore (Some handed.piece ∷ history.log) k f) (sym here)
+            (subst (λ (g : Piece). HasBefore (Some handed.piece ∷ history.log) (length history.log) g) same
+            (before_stays (Some handed.piece) history.log (length history.log) handed.piece (handed.row (omega arith) (subst (λ (g : Piece). 0 < g.start) (sym same) started)))))
+        | inr old ↦ before_stays (Some handed.piece) history.log n f (cut.rows n f some old started)
       ];
-      ascends = λ m n f g less at at' starts on. elim (at_cases n (Some handed.piece) (Some g) log at') [
+      ascends = λ m n f g less at at' starts on. elim (at_cases n (Some handed.piece) (Some g) history.log at') [
         | inl e ↦
             (let same : handed.piece ≡ g = cc in
-            let here : n ≡ length log = e.0 in
-            elim (at_cases m (Some handed.piece) (Some f) log at) [
-              | inl e' ↦ (let there : m ≡ length log = e'.0 in absurd (omega arith))
+            let here : n ≡ length history.log = e.0 in
+            elim (at_cases m (Some handed.piece) (Some f) history.log at) [
+              | inl e' ↦ (let there : m ≡ length history.log = e'.0 in absurd (omega arith))
               | inr old ↦
                   subst (λ (h : Piece). f.place < h.place) same
                   (handed.ascends m f old (ap (λ (h : Piece). h.start) same ∙ starts) (on ∙ ap (λ (h : Piece). h.message.stream) (sym same)))
             ])
         | inr old' ↦
-            elim (at_cases m (Some handed.piece) (Some f) log at) [
-              | inl e' ↦ (let there : m ≡ length log = e'.0 in let below : n < length log = at_below n (Some g) log old' in absurd (omega arith))
+            elim (at_cases m (Some handed.piece) (Some f) history.log at) [
+              | inl e' ↦ (let there : m ≡ length history.log = e'.0 in let below : n < length history.log = at_below n (Some g) history.log old' in absurd (omega arith))
               | inr old ↦ cut.ascends m n f g less old old' starts on
             ]
       ];
@@ -78,31 +78,42 @@ changed_length change (suc start) zero items = refl
 changed_length change (suc start) (suc end) [] = refl
 changed_length change (suc start) (suc end) (item ∷ items) = ap suc (changed_length change start end items)
 
--- an item whose fragment is the same
-HasFragment : List Item → ℕ → Fragment → Type 0
-HasFragment items k part = (item : Item) × (slice_get items k ≡ Some item) × (item.fragment ≡ part)
+-- the item at this place, which said the same and began after a reset or not
+record WasThere (items : List Item) (k : ℕ) (item : Item) : Type 0 where
+  old : Item
+  at : slice_get items k ≡ Some old
+  fragment : old.fragment ≡ item.fragment
+  begins : old.begins_after_reset ≡ item.begins_after_reset
 
-changed_fragment : (change : Change) (start end k : ℕ) (items : List Item) (item : Item) → slice_get (changed_between change start end items) k ≡ Some item → HasFragment items k item.fragment
-unfolding HasFragment
-changed_fragment change zero zero k items item at = (item, at, refl)
-changed_fragment change zero (suc end) k [] item at = (item, at, refl)
-changed_fragment change zero (suc end) zero (i ∷ items) item at = let same : changed_item change i ≡ item = cc in (i, refl, ap (λ (x : Item). x.fragment) same)
-changed_fragment change zero (suc end) (suc k) (i ∷ items) item at = changed_fragment change zero end k items item at
-changed_fragment change (suc start) zero k items item at = (item, at, refl)
-changed_fragment change (suc start) (suc end) k [] item at = (item, at, refl)
-changed_fragment change (suc start) (suc end) zero (i ∷ items) item at = (item, at, refl)
-changed_fragment change (suc start) (suc end) (suc k) (i ∷ items) item at = changed_fragment change start end k items item at
+changed_at : (change : Change) (start end k : ℕ) (items : List Item) (item : Item) → slice_get (changed_between change start end items) k ≡ Some item → WasThere items k item
+changed_at change zero zero k items item at = record { old = item; at = at; fragment = refl; begins = refl }
+changed_at change zero (suc end) k [] item at = record { old = item; at = at; fragment = refl; begins = refl }
+changed_at change zero (suc end) zero (i ∷ items) item at =
+    let same : changed_item change i ≡ item = cc in
+    record { old = i; at = refl; fragment = ap (λ (x : Item). x.fragment) same; begins = ap (λ (x : Item). x.begins_after_reset) same }
+changed_at change zero (suc end) (suc k) (i ∷ items) item at = let was = changed_at change zero end k items item at in record { old = was.old; at = was.at; fragment = was.fragment; begins = was.begins }
+changed_at change (suc start) zero k items item at = record { old = item; at = at; fragment = refl; begins = refl }
+changed_at change (suc start) (suc end) k [] item at = record { old = item; at = at; fragment = refl; begins = refl }
+changed_at change (suc start) (suc end) zero (i ∷ items) item at = record { old = item; at = at; fragment = refl; begins = refl }
+changed_at change (suc start) (suc end) (suc k) (i ∷ items) item at = let was = changed_at change start end k items item at in record { old = was.old; at = was.at; fragment = was.fragment; begins = was.begins }
 
-pub bears_changed : (log : List Slot) (first acknowledged : ℕ) (change : Change) (start end : ℕ) (outstanding : OutstandingState) → Bears log first acknowledged outstanding
-    → Bears log first acknowledged (record outstanding { items = changed_between change start end outstanding.items })
-unfolding HasFragment
-bears_changed log first acknowledged change start end outstanding b =
+pub bears_changed : (history : History) (first acknowledged : ℕ) (change : Change) (start end : ℕ) (outstanding : OutstandingState) → Bears history first acknowledged outstanding
+    → Bears history first acknowledged (record outstanding { items = changed_between change start end outstanding.items })
+bears_changed history first acknowledged change start end outstanding b =
     record {
       tsn = b.tsn;
       count = omega (arith, b.count, changed_length change start end outstanding.items);
       items = λ k item at. (
-          let (old, at', same) = changed_fragment change start end k outstanding.items item at in
-          subst (λ (part : Fragment). SaysAt log (acknowledged + k) part) same (b.items k old at')
+          let was = changed_at change start end k outstanding.items item at in
+          subst (λ (part : Fragment). SaysAt history.log (acknowledged + k) part) was.fragment (b.items k was.old was.at)
+          );
+      named = λ k item at. (
+          let was = changed_at change start end k outstanding.items item at in
+          subst (λ (part : Fragment). IsNamed history (acknowledged + k) part) was.fragment (b.named k was.old was.at)
+          );
+      splits = λ mark has k item at is. (
+          let was = changed_at change start end k outstanding.items item at in
+          sym was.begins ∙ b.splits mark has k was.old was.at is
           );
     }
 
@@ -113,24 +124,38 @@ at_last [] last (suc k) item at = absurd (cc)
 at_last (i ∷ items) last zero item at = inl at
 at_last (i ∷ items) last (suc k) item at = elim (at_last items last k item at) [ inl e ↦ inl e | inr e ↦ inr (ap suc e.0, e.1) ]
 
-pub named_stays : (slot : Slot) (log : List Slot) (part : Fragment) → IsNamed log part → IsNamed (slot ∷ log) part
-named_stays slot log part n = record { number = n.number; piece = n.piece; at = at_stays n.number slot (Some n.piece) log n.at; stream = n.stream; unordered = n.unordered; mid = n.mid }
+pub named_stays : (slot : Slot) (history : History) (own : ℕ) (part : Fragment) → IsNamed history own part → IsNamed (with_slot slot history) own part
+named_stays slot history own part n =
+    record { number = n.number; piece = n.piece; at = at_stays n.number slot (Some n.piece) history.log n.at; of = n.of; whole = n.whole; stream = n.stream; unordered = n.unordered; mid = n.mid }
 
-pub bears_grown : (log : List Slot) (first acknowledged : ℕ) (slot : Slot) (item : Item) (outstanding : OutstandingState) → Bears log first acknowledged outstanding → SaysSlot item.fragment slot → IsNamed (slot ∷ log) item.fragment
-    → Bears (slot ∷ log) first acknowledged (record outstanding { items = outstanding.items ++ item ∷ [] })
-bears_grown log first acknowledged slot item outstanding b says named =
+-- The new item says whether a reset was begun before it.
+pub bears_grown : (history : History) (first acknowledged : ℕ) (slot : Slot) (item : Item) (outstanding : OutstandingState) → Bears history first acknowledged outstanding → SaysSlot item.fragment slot
+    → IsNamed (with_slot slot history) (length history.log) item.fragment → Pends history item.begins_after_reset
+    → Bears (with_slot slot history) first acknowledged (record outstanding { items = outstanding.items ++ item ∷ [] })
+bears_grown history first acknowledged slot item outstanding b says named pends =
     record {
       tsn = b.tsn;
       count = omega (arith, b.count, length-append outstanding.items (item ∷ []));
       items = λ k found at. elim (at_last outstanding.items item k found at) [
-        | inl old ↦ (let there = b.items k found old in record { slot = there.slot; at = at_stays (acknowledged + k) slot there.slot log there.at; says = there.says; named = named_stays slot log found.fragment there.named })
+        | inl old ↦ (let there = b.items k found old in record { slot = there.slot; at = at_stays (acknowledged + k) slot there.slot history.log there.at; says = there.says })
         | inr e ↦
-            (let here : acknowledged + k ≡ length log = (let last : k ≡ length outstanding.items = e.0 in omega (arith, b.count)) in
             record {
               slot = slot;
-              at = subst (λ (n : ℕ). at_place n (slot ∷ log) ≡ Some slot) (sym here) (at_new slot log);
+              at = subst (λ (n : ℕ). at_place n (slot ∷ history.log) ≡ Some slot) (sym (here k e.0)) (at_new slot history.log);
               says = subst (λ (x : Item). SaysSlot x.fragment slot) e.1 says;
-              named = subst (λ (x : Item). IsNamed (slot ∷ log) x.fragment) e.1 named;
-            })
+            }
+      ];
+      named = λ k found at. elim (at_last outstanding.items item k found at) [
+        | inl old ↦ named_stays slot history (acknowledged + k) found.fragment (b.named k found old)
+        | inr e ↦
+            subst (λ (n : ℕ). IsNamed (with_slot slot history) n found.fragment) (sym (here k e.0))
+            (subst (λ (x : Item). IsNamed (with_slot slot history) (length history.log) x.fragment) e.1 named)
+      ];
+      splits = λ mark has k found at is. elim (at_last outstanding.items item k found at) [
+        | inl old ↦ b.splits mark has k found old is
+        | inr e ↦ sym (ap (λ (x : Item). x.begins_after_reset) e.1) ∙ pends mark has (sym is ∙ here k e.0)
       ];
     }
+  where
+    here : (k : ℕ) → k ≡ length outstanding.items → acknowledged + k ≡ length history.log
+    here k last = omega (arith, b.count)

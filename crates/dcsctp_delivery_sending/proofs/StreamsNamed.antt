@@ -65,14 +65,14 @@ module _ (P : Stream → Stream → Type 0) (id : ℕ) where
             | inr e ↦ rw e.0 (each (found_in d id (s ∷ streams)))
           ]
 
-  pub found_used : (queue : SendQueueState) (other : ℕ) → ((s : Stream) → P s s) → ((s t : Stream) → next_numbers true s ≡ next_numbers true t → next_numbers false s ≡ next_numbers false t → s.messages ≡ [] → P s t)
+  pub found_used : (queue : SendQueueState) (other : ℕ) → ((s : Stream) → P s s) → ((s t : Stream) → next_numbers true s ≡ next_numbers true t → next_numbers false s ≡ next_numbers false t → s.messages ≡ [] → t.pause ≡ s.pause → P s t)
       → P (stream_named id queue.streams) (stream_named id (used queue other))
   found_used queue other each fresh = go (is_used other queue.streams) refl
     where
       go : (b : Bool) → is_used other queue.streams ≡ b
           → P (stream_named id queue.streams) (stream_named id (if b then queue.streams else with_stream (unused other queue.default_priority queue.default_threshold) queue.streams))
       go true e = each (stream_named id queue.streams)
-      go false e = found_inserted (unused 0 0 0) (unused other queue.default_priority queue.default_threshold) each (fresh (unused 0 0 0) (unused other queue.default_priority queue.default_threshold) refl refl refl) queue.streams e
+      go false e = found_inserted (unused 0 0 0) (unused other queue.default_priority queue.default_threshold) each (fresh (unused 0 0 0) (unused other queue.default_priority queue.default_threshold) refl refl refl refl) queue.streams e
 
 -- the first stream of a number is the one that stands at its place
 pub found_at : (d : Stream) (place : ℕ) (streams : List Stream) → place < length streams

@@ -4,15 +4,15 @@ use Rattle.dcsctp_wire.specs.declared.chunk.sack.GapAckBlock.{GapAckBlock}
 use Rattle.dcsctp_machine.specs.transfer.Acknowledging.{is_sack_valid, AcknowledgesItems}
 use Rattle.dcsctp_machine.specs.transfer.Outstanding.{acknowledged_by}
 use Rattle.dcsctp_machine.specs.transfer.Retransmission.{RetransmissionState, after_expiry}
-use Rattle.dcsctp_delivery_sending.specs.Log.{Slot}
+use Rattle.dcsctp_delivery_sending.specs.Log.{History}
 use Rattle.dcsctp_delivery_sending.specs.Stages.{Bears}
 
 -- What a SACK leaves in flight bears what the log has.
 abbrev pub AcknowledgingKeeps : Type 0
 AcknowledgingKeeps =
-    (log : List Slot) (first acknowledged now cumulative window : ℕ) (blocks : List GapAckBlock) (old new : RetransmissionState) → is_sack_valid old cumulative ≡ true → Bears log first acknowledged old.outstanding
-    → AcknowledgesItems now cumulative window blocks old new → Bears log first (acknowledged + acknowledged_by old.outstanding cumulative) new.outstanding
+    (history : History) (first acknowledged now cumulative window : ℕ) (blocks : List GapAckBlock) (old new : RetransmissionState) → is_sack_valid old cumulative ≡ true → Bears history first acknowledged old.outstanding
+    → AcknowledgesItems now cumulative window blocks old new → Bears history first (acknowledged + acknowledged_by old.outstanding cumulative) new.outstanding
 
 -- So does what the timer marks as lost.
 abbrev pub LosingKeeps : Type 0
-LosingKeeps = (log : List Slot) (first acknowledged now : ℕ) (state : RetransmissionState) → Bears log first acknowledged state.outstanding → Bears log first acknowledged (after_expiry now state).outstanding
+LosingKeeps = (history : History) (first acknowledged now : ℕ) (state : RetransmissionState) → Bears history first acknowledged state.outstanding → Bears history first acknowledged (after_expiry now state).outstanding

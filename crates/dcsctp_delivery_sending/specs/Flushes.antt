@@ -1,8 +1,13 @@
--- A flush sends pieces of what was queued, and nothing else as data (RFC 9260, section 6.1).
-use Rattle.std.specs.Prelude.{◌≡◌, ◌≤◌, ◌+◌, ◌-◌, ◌%◌, ◌^◌, ℕ, Bool, true, false, Option, None, Some, List, [], ◌∷◌, ◌++◌, length}
+-- A flush sends pieces of what was queued, and nothing else as data (RFC 9260, section 6.1). It may begin a reset of own streams (RFC
+-- 6525, section 5.1.2).
+use Rattle.std.specs.Prelude.{◌≡◌, ◌<◌, ◌≤◌, ◌⊎◌, ◌+◌, ◌-◌, ◌%◌, ◌^◌, ℕ, Bool, true, false, Option, None, Some, List, [], ◌∷◌, length}
 use Rattle.dcsctp_wire.specs.Content.{DataContent, IDataContent, data_chunk, i_data_chunk, forward_tsn_chunk, i_forward_tsn_chunk}
 use Rattle.dcsctp_machine.specs.Event.{Event, packets_in}
-use Rattle.dcsctp_machine.specs.Packet.{Plain, unworked, plain, Content, Emission}
+use Rattle.dcsctp_machine.specs.Packet.{Plain, unworked, plain, re_config, Content, Emission}
+use Rattle.dcsctp_machine.specs.Reconfiguration.{RequestedReset, ResetParameter, outgoing_reset_request, incoming_reset_request}
+use Rattle.dcsctp_machine.specs.transfer.Incoming.{is_named}
+use Rattle.dcsctp_machine.specs.transfer.SendQueue.{SendQueueState}
+use Rattle.dcsctp_machine.specs.turns.BegunResets.{BegunReset}
 use Rattle.dcsctp_machine.specs.Endpoint.{Endpoint}
 use Rattle.dcsctp_machine.specs.transfer.Chunks.{data_said, i_data_said}
 use Rattle.dcsctp_machine.specs.transfer.Sending.{Fragment}
@@ -10,11 +15,11 @@ use Rattle.dcsctp_machine.specs.transfer.Skipping.{entry_bytes}
 use Rattle.std.specs.List.{flat_map}
 use Rattle.dcsctp_machine.specs.transfer.Transfer.{Transfer, Below}
 use Rattle.dcsctp_machine.specs.turns.FlushOutcomes.{Answer, FlushAnswers, flush_of}
-use Rattle.dcsctp_delivery_sending.specs.Log.{Message, Piece, Slot, Cut}
-use Rattle.dcsctp_delivery_sending.specs.Places.{at_place}
-use Rattle.dcsctp_delivery_sending.specs.Numbers.{Numbered, KindAt, IsOfKind}
+use Rattle.dcsctp_delivery_sending.specs.Log.{Message, Piece, Slot, Cut, History, grown, with_mark, Mark, Resets}
+use Rattle.dcsctp_delivery_sending.specs.Places.{Has, at_place}
+use Rattle.dcsctp_delivery_sending.specs.Numbers.{stream_named, is_handed_out, AreCurrent, AreKept, Numbered, KindAt, IsOfKind}
 use Rattle.dcsctp_delivery_sending.specs.Pieces.{HoldsQueued}
-use Rattle.dcsctp_delivery_sending.specs.Stages.{SaysAt, Bears}
+use Rattle.dcsctp_delivery_sending.specs.Stages.{SaysAt, Bears, Pends, AreMarks}
 
 -- ---- what a packet says
 
@@ -41,49 +46,65 @@ pub record IsPassed (log : List Slot) (first tsn : ℕ) : Type 0 where
   pub is : tsn ≡ (first + passed + (2 ^ 32 - 1)) % 2 ^ 32
 
 -- The entry names the stream of a piece of the log, which was sent as the chunk's kind is; with interleaving also its message.
-pub record IsEntry (is_interleaved : Bool) (log : List Slot) (entry : (ℕ × Bool) × ℕ) : Type 0 where
+pub record IsEntry (is_interleaved : Bool) (history : History) (passed : ℕ) (entry : (ℕ × Bool) × ℕ) : Type 0 where
   pub number : ℕ
   pub piece : Piece
-  pub at : at_place number log ≡ Some (Some piece)
+  pub at : at_place number history.log ≡ Some (Some piece)
+  -- No TSN is passed together with one before a reset that names the stream.
+  pub within : (mark : Mark) → Has mark history.marks → Resets mark piece.message.stream → number < mark.bound → passed ≤ mark.bound
   pub kind : piece.is_interleaved ≡ is_interleaved
   pub stream : entry.0.0 ≡ piece.message.stream
   pub unordered : entry.0.1 ≡ piece.message.is_unordered
   pub mid : is_interleaved ≡ true → entry.1 % 2 ^ 32 ≡ piece.mid % 2 ^ 32
 
 -- Each does.
-abbrev pub AreEntries : Bool → List Slot → List ((ℕ × Bool) × ℕ) → Type 0
-AreEntries is_interleaved log [] = Unit {0}
-AreEntries is_interleaved log (entry ∷ entries) = IsEntry is_interleaved log entry × AreEntries is_interleaved log entries
+abbrev pub AreEntries : Bool → History → ℕ → List ((ℕ × Bool) × ℕ) → Type 0
+AreEntries is_interleaved history passed [] = Unit {0}
+AreEntries is_interleaved history passed (entry ∷ entries) = IsEntry is_interleaved history passed entry × AreEntries is_interleaved history passed entries
 
 -- A FORWARD-TSN or I-FORWARD-TSN passes assigned TSNs, and names messages of the log.
-pub record IsForward (is_interleaved : Bool) (log : List Slot) (first tsn : ℕ) (streams : List ℕ) : Type 0 where
-  pub passed : IsPassed log first tsn
+pub record IsForward (is_interleaved : Bool) (history : History) (first tsn : ℕ) (streams : List ℕ) : Type 0 where
+  pub passed : IsPassed history.log first tsn
   pub entries : List ((ℕ × Bool) × ℕ)
   pub is : streams ≡ flat_map (entry_bytes is_interleaved) entries
-  pub names : AreEntries is_interleaved log entries
+  pub names : AreEntries is_interleaved history passed.passed entries
 
 -- A chunk of data carries what its TSN bears, and one that passes TSNs passes assigned ones.
-abbrev pub SaysPlain : List Slot → ℕ → Plain → Type 0
-SaysPlain log first (unworked (data_chunk chunk)) = IsData log first chunk
-SaysPlain log first (unworked (i_data_chunk chunk)) = IsInterleaved log first chunk
-SaysPlain log first (unworked (forward_tsn_chunk tsn streams)) = IsForward false log first tsn streams
-SaysPlain log first (unworked (i_forward_tsn_chunk tsn streams)) = IsForward true log first tsn streams
-SaysPlain log first chunk = Unit {0}
+abbrev pub SaysPlain : History → ℕ → Plain → Type 0
+SaysPlain history first (unworked (data_chunk chunk)) = IsData history.log first chunk
+SaysPlain history first (unworked (i_data_chunk chunk)) = IsInterleaved history.log first chunk
+SaysPlain history first (unworked (forward_tsn_chunk tsn streams)) = IsForward false history first tsn streams
+SaysPlain history first (unworked (i_forward_tsn_chunk tsn streams)) = IsForward true history first tsn streams
+SaysPlain history first chunk = Unit {0}
+
+-- A reset of own streams was begun with this request.
+pub record IsBegun (history : History) (number : ℕ) (reset : RequestedReset) : Type 0 where
+  pub mark : Mark
+  pub has : Has mark history.marks
+  pub is : mark.begun ≡ record { number = number; reset = reset }
+
+-- Each request to reset streams among these parameters is one of a reset that was begun. None asks for a reset of incoming streams.
+abbrev pub AreBegun : History → List ResetParameter → Type 0
+AreBegun history [] = Unit {0}
+AreBegun history (outgoing_reset_request number answered reset ∷ parameters) = IsBegun history number reset × AreBegun history parameters
+AreBegun history (incoming_reset_request number streams ∷ parameters) = ⊥
+AreBegun history (parameter ∷ parameters) = AreBegun history parameters
 
 -- So does any chunk of a packet,
-abbrev pub SaysContent : List Slot → ℕ → Content → Type 0
-SaysContent log first (plain chunk) = SaysPlain log first chunk
-SaysContent log first content = Unit {0}
+abbrev pub SaysContent : History → ℕ → Content → Type 0
+SaysContent history first (plain chunk) = SaysPlain history first chunk
+SaysContent history first (re_config parameters) = AreBegun history parameters
+SaysContent history first content = Unit {0}
 
 -- each of these,
-abbrev pub SayAll : List Slot → ℕ → List Content → Type 0
-SayAll log first [] = Unit {0}
-SayAll log first (content ∷ contents) = SaysContent log first content × SayAll log first contents
+abbrev pub SayAll : History → ℕ → List Content → Type 0
+SayAll history first [] = Unit {0}
+SayAll history first (content ∷ contents) = SaysContent history first content × SayAll history first contents
 
 -- and each of these packets.
-abbrev pub PacketsSay : List Slot → ℕ → List Emission → Type 0
-PacketsSay log first [] = Unit {0}
-PacketsSay log first (emission ∷ emissions) = SayAll log first emission.packet.contents × PacketsSay log first emissions
+abbrev pub PacketsSay : History → ℕ → List Emission → Type 0
+PacketsSay history first [] = Unit {0}
+PacketsSay history first (emission ∷ emissions) = SayAll history first emission.packet.contents × PacketsSay history first emissions
 
 -- The chunk has no data, and passes nothing.
 abbrev pub NoPlain : Plain → Type 0
@@ -93,9 +114,17 @@ NoPlain (unworked (forward_tsn_chunk tsn streams)) = ⊥
 NoPlain (unworked (i_forward_tsn_chunk tsn streams)) = ⊥
 NoPlain chunk = Unit {0}
 
+-- None of these parameters is a request to reset streams.
+abbrev pub NoRequests : List ResetParameter → Type 0
+NoRequests [] = Unit {0}
+NoRequests (outgoing_reset_request number answered reset ∷ parameters) = ⊥
+NoRequests (incoming_reset_request number streams ∷ parameters) = ⊥
+NoRequests (parameter ∷ parameters) = NoRequests parameters
+
 -- So it is of any chunk of a packet,
 abbrev pub NoContent : Content → Type 0
 NoContent (plain chunk) = NoPlain chunk
+NoContent (re_config parameters) = NoRequests parameters
 NoContent content = Unit {0}
 
 -- and of each of these.
@@ -106,27 +135,55 @@ NoData (content ∷ contents) = NoContent content × NoData contents
 -- ---- what an endpoint has
 
 -- What is in flight is of the log, if there is a peer.
-abbrev pub InFlight : List Slot → ℕ → ℕ → Option Transfer → Type 0
-InFlight log first acknowledged None = length log ≡ acknowledged
-InFlight log first acknowledged (Some transfer) = Bears log first acknowledged transfer.retransmission.outstanding
+abbrev pub InFlight : History → ℕ → ℕ → Option Transfer → Type 0
+InFlight history first acknowledged None = length history.log ≡ acknowledged
+InFlight history first acknowledged (Some transfer) = Bears history first acknowledged transfer.retransmission.outstanding
+
+-- What is sent next says that a reset was begun before it.
+abbrev pub PendsWhere : History → Option Transfer → Type 0
+PendsWhere history None = Unit {0}
+PendsWhere history (Some transfer) = Pends history transfer.retransmission.reset_begun
 
 -- What waits was queued, and what is in flight is of the log.
-pub record StandsBelow (queued : List Message) (log : List Slot) (first acknowledged : ℕ) (below : Below) : Type 0 where
-  pub queue_holds : HoldsQueued queued log below.queue.streams below.queue.under_way
-  pub cut : Cut queued log
-  pub flight : InFlight log first acknowledged below.transfer
-  pub numbers : Numbered log below.queue
+pub record StandsBelow (queued : List Message) (history : History) (first acknowledged : ℕ) (below : Below) : Type 0 where
+  pub queue_holds : HoldsQueued queued history.log below.queue.streams below.queue.under_way
+  pub cut : Cut queued history.log
+  pub flight : InFlight history first acknowledged below.transfer
+  pub pends : PendsWhere history below.transfer
+  pub marks : AreMarks history first below.queue.under_way
+  pub numbers : Numbered history below.queue
   pub kind : IsOfKind below.queue.is_interleaved below.transfer
 
--- More TSNs may have been assigned, and all data that was sent is of the log.
-pub record Sends (queued : List Message) (log : List Slot) (first acknowledged : ℕ) (after : Below) (events : List (Event Emission)) : Type 0 where
+-- ---- what a flush leaves
+
+-- the reset of own streams that a flush began: its first packet alone may have the request
+abbrev pub begun_by : List Answer → Option BegunReset
+begun_by [] = None
+begun_by (answer ∷ answers) = answer.begun
+
+-- It is one of these streams, which were handed out for the reset that was begun.
+abbrev pub NamedBy : Option BegunReset → List ℕ → ℕ → Type 0
+NamedBy None ids id = ⊥
+NamedBy (Some begun) ids id = is_named ids id ≡ true
+
+-- More TSNs may have been assigned, and all data that was sent is of the log. It is sent after the last reset of its stream, which isn't
+-- handed out to be reset again. The reset that was begun, if one was, stands in the history with the TSNs that were assigned before
+-- it. The streams that are handed out now were before, or were handed out for it.
+pub record Sends (queued : List Message) (history : History) (first acknowledged : ℕ) (old : SendQueueState) (begun : Option BegunReset) (after : Below) (events : List (Event Emission)) : Type 0 where
   pub more : List Slot
-  pub stands : StandsBelow queued (more ++ log) first acknowledged after
-  pub packets : PacketsSay (more ++ log) first (packets_in events)
+  pub ids : List ℕ
+  pub bound : ℕ
+  pub low : length history.log ≤ bound
+  pub high : bound ≤ length more + length history.log
+  pub stands : StandsBelow queued (with_mark begun ids bound (grown more history)) first acknowledged after
+  pub packets : PacketsSay (with_mark begun ids bound (grown more history)) first (packets_in events)
+  pub current : AreCurrent history more
+  pub kept : AreKept after.queue.streams more
+  pub handed : (id : ℕ) → is_handed_out (stream_named id after.queue.streams).pause ≡ true → (is_handed_out (stream_named id old.streams).pause ≡ true) ⊎ NamedBy begun ids id
 
 -- So it is of a flush whose first packet has no other data.
 abbrev pub FlushesSendPieces : Type 0
 FlushesSendPieces =
-    (queued : List Message) (log : List Slot) (first acknowledged : ℕ) (e : Endpoint) (draft : Emission) (answers : List Answer) → StandsBelow queued log first acknowledged e.below
-    → SayAll log first draft.packet.contents → FlushAnswers e draft answers
-    → Sends queued log first acknowledged (flush_of e draft answers).after.below (flush_of e draft answers).events
+    (queued : List Message) (history : History) (first acknowledged : ℕ) (e : Endpoint) (draft : Emission) (answers : List Answer) → StandsBelow queued history first acknowledged e.below
+    → SayAll history first draft.packet.contents → FlushAnswers e draft answers
+    → Sends queued history first acknowledged e.below.queue (begun_by answers) (flush_of e draft answers).after.below (flush_of e draft answers).events

@@ -1,8 +1,10 @@
 -- The log of an association: which piece of which message each TSN bears that its sender has assigned (RFC 9260, section 6.9). Lists have
 -- the newest first.
-use Rattle.std.specs.Prelude.{◌≡◌, ◌==◌, ◌<◌, ◌≤◌, ◌+◌, ◌%◌, ℕ, Bool, false, Option, None, Some, List, [], ◌∷◌, length, take, drop, ◌^◌}
+use Rattle.std.specs.Prelude.{◌≡◌, ◌==◌, ◌<◌, ◌≤◌, ◌+◌, ◌%◌, ℕ, Bool, true, false, Option, None, Some, List, [], ◌∷◌, ◌++◌, length, take, drop, ◌^◌}
 use Rattle.dcsctp_delivery_sending.specs.Places.{at_place}
 use Rattle.std.specs.List.{AllByRecursion}
+use Rattle.dcsctp_machine.specs.transfer.Incoming.{is_named}
+use Rattle.dcsctp_machine.specs.turns.BegunResets.{BegunReset}
 
 -- a message that its user queued
 pub record Message : Type 0 where
@@ -74,6 +76,45 @@ pub record Cut (queued : List Message) (log : List Slot) : Type 0 where
   pub rows : (n : ℕ) (f : Piece) → 0 < n → at_place n log ≡ Some (Some f) → 0 < f.start → HasBefore log n f
   pub ascends : (m n : ℕ) (f g : Piece) → m < n → at_place m log ≡ Some (Some f) → at_place n log ≡ Some (Some g) → g.start ≡ 0
       → f.message.stream ≡ g.message.stream → f.place < g.place
+
+-- ---- what the sender of an association has done
+
+-- a reset of own streams that was begun (RFC 6525, section 5.1.2): how many TSNs were assigned before it, and its request
+pub record Mark : Type 0 where
+  pub bound : ℕ
+  pub begun : BegunReset
+  -- the streams that were handed out for it: the request names their fields of 16 bits
+  pub ids : List ℕ
+
+pub record History : Type 0 where
+  -- what its TSNs bear
+  pub log : List Slot
+  -- the resets of own streams that it has begun, newest first
+  pub marks : List Mark
+  -- From which numbers the messages of a stream are counted since its last reset, ordered and unordered ones apart. They have no wrap: after
+  -- a reset they go on at a multiple of 2^32 above all earlier ones.
+  pub floors : ℕ → Bool → ℕ
+
+-- more TSNs were assigned
+abbrev pub grown : List Slot → History → History
+grown more history = record history { log = more ++ history.log }
+
+-- one more was, which bears this
+abbrev pub with_slot : Slot → History → History
+with_slot slot history = record history { log = slot ∷ history.log }
+
+-- The stream was handed out for the reset.
+abbrev pub Resets : Mark → ℕ → Type 0
+Resets mark id = is_named mark.ids id ≡ true
+
+-- a reset of these streams was begun with this request, if it is one, when so many TSNs were assigned
+abbrev pub with_mark : Option BegunReset → List ℕ → ℕ → History → History
+with_mark None ids bound history = history
+with_mark (Some begun) ids bound history = record history { marks = record { bound = bound; begun = begun; ids = ids } ∷ history.marks }
+
+-- nothing was done in the association yet
+abbrev pub new_history : (ℕ → Bool → ℕ) → History
+new_history floors = record { log = []; marks = []; floors = floors }
 
 -- The message fits the fields of a chunk, as one in memory does.
 pub record Fits (message : Message) : Type 0 where

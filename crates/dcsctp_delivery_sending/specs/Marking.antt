@@ -5,7 +5,7 @@ use Rattle.dcsctp_delivery_sending.specs.Places.{at_place}
 use Rattle.dcsctp_machine.specs.transfer.SendQueue.{SendQueueState}
 use Rattle.std.specs.List.{AllByRecursion}
 use Rattle.dcsctp_delivery_sending.specs.Log.{Fits, Message}
-use Rattle.dcsctp_delivery_sending.specs.Queueing.{QueueHolds}
+use Rattle.dcsctp_delivery_sending.specs.Queueing.{QueueWaits}
 
 -- None of these is the message of this place.
 abbrev pub NoneNamed : ℕ → List Waiting → Type 0
@@ -23,7 +23,7 @@ marked place (message ∷ earlier) = if place == length earlier then record mess
 
 -- The message of a place that waits no longer may be marked where an association begins.
 abbrev pub MarkingKeeps : Type 0
-MarkingKeeps = (queued : List Message) (place : ℕ) (queue : SendQueueState) → WaitsNoLonger place queue.streams → QueueHolds queued [] queue → QueueHolds (marked place queued) [] queue
+MarkingKeeps = (queued : List Message) (place : ℕ) (queue : SendQueueState) → WaitsNoLonger place queue.streams → QueueWaits queued queue → QueueWaits (marked place queued) queue
 
 -- It is spent then,
 abbrev pub MarkedIsSpent : Type 0
@@ -74,7 +74,7 @@ abbrev pub IsMarked : ℕ → List Message → Type 0
 IsMarked place queued = (message : Message) → at_place place queued ≡ Some message → message.is_spent ≡ true
 
 abbrev pub AllMarkedKeep : Type 0
-AllMarkedKeep = (count : ℕ) (queued : List Message) (queue : SendQueueState) → QueueHolds queued [] queue → QueueHolds (all_marked count queue.streams queued) [] queue
+AllMarkedKeep = (count : ℕ) (queued : List Message) (queue : SendQueueState) → QueueWaits queued queue → QueueWaits (all_marked count queue.streams queued) queue
 
 abbrev pub AllMarkedFit : Type 0
 AllMarkedFit = (count : ℕ) (streams : List Stream) (queued : List Message) → AllByRecursion Fits queued → AllByRecursion Fits (all_marked count streams queued)

@@ -1,5 +1,5 @@
 -- What the send queue hands out are the pieces of the messages that its user queued, one after another (RFC 9260, section 6.9).
-use Rattle.std.specs.Prelude.{◌≡◌, ◌⊎◌, ◌==◌, ◌<◌, ◌+◌, ◌%◌, ◌^◌, ℕ, false, Option, None, Some, List, [], ◌∷◌, length, drop, if◌then◌else◌}
+use Rattle.std.specs.Prelude.{◌≡◌, ◌⊎◌, ◌==◌, ◌<◌, ◌+◌, ◌%◌, ◌^◌, ℕ, true, false, Option, None, Some, List, [], ◌∷◌, length, drop, if◌then◌else◌}
 use Rattle.dcsctp_machine.specs.Event.{Event}
 use Rattle.dcsctp_machine.specs.declared.sending.UnderWay.{UnderWay}
 use Rattle.dcsctp_machine.specs.transfer.SendStreams.{Waiting, Stream, front_of, stream_at}
@@ -7,8 +7,8 @@ use Rattle.dcsctp_machine.specs.transfer.SendQueue.{SendQueueState}
 use Rattle.dcsctp_machine.specs.transfer.Sending.{Fragment, Takes}
 use Rattle.dcsctp_delivery_sending.specs.Places.{at_place}
 use Rattle.dcsctp_delivery_sending.specs.Weights.{HasRoom}
-use Rattle.dcsctp_delivery_sending.specs.Numbers.{Numbered}
-use Rattle.dcsctp_delivery_sending.specs.Log.{Message, Piece, Slot, newest, is_beginning, is_end, bytes_of, IsPiece, HasBefore}
+use Rattle.dcsctp_delivery_sending.specs.Numbers.{stream_named, is_handed_out, IsCurrent, Numbered}
+use Rattle.dcsctp_delivery_sending.specs.Log.{Message, Piece, Slot, newest, is_beginning, is_end, bytes_of, IsPiece, HasBefore, History, with_slot}
 
 -- The message that waits on the stream is this one.
 pub record IsMessage (id : ℕ) (waiting : Waiting) (message : Message) : Type 0 where
@@ -103,19 +103,21 @@ pub record Says (part : Fragment) (piece : Piece) : Type 0 where
   pub mid : part.mid % 2 ^ 32 ≡ piece.mid % 2 ^ 32
   pub fsn : part.fsn ≡ piece.fsn
 
--- What is handed out is the next piece, and the queue holds the rest.
-pub record HandsOutPiece (queued : List Message) (log : List Slot) (part : Fragment) (new : SendQueueState) : Type 0 where
+-- What is handed out is the next piece, of a stream that isn't handed out to be reset. The queue holds the rest.
+pub record HandsOutPiece (queued : List Message) (history : History) (part : Fragment) (new : SendQueueState) : Type 0 where
   pub piece : Piece
   pub is_piece : IsPiece queued piece
-  pub row : 0 < length log → 0 < piece.start → HasBefore log (length log) piece
-  pub ascends : (n : ℕ) (f : Piece) → at_place n log ≡ Some (Some f) → piece.start ≡ 0 → f.message.stream ≡ piece.message.stream → f.place < piece.place
+  pub row : 0 < length history.log → 0 < piece.start → HasBefore history.log (length history.log) piece
+  pub ascends : (n : ℕ) (f : Piece) → at_place n history.log ≡ Some (Some f) → piece.start ≡ 0 → f.message.stream ≡ piece.message.stream → f.place < piece.place
   pub says : Says part piece
-  pub queue_holds : HoldsQueued queued (Some piece ∷ log) new.streams new.under_way
-  pub numbers : Numbered (Some piece ∷ log) new
+  pub queue_holds : HoldsQueued queued (Some piece ∷ history.log) new.streams new.under_way
+  pub numbers : Numbered (with_slot (Some piece) history) new
+  pub current : piece.is_interleaved ≡ true → IsCurrent history piece
+  pub kept : is_handed_out (stream_named piece.message.stream new.streams).pause ≡ false
 
 -- So it is whenever the queue hands out a fragment.
 abbrev pub PiecesFollow : Type 0
 PiecesFollow =
-    (queued : List Message) (log : List Slot) (now max : ℕ) (old new : SendQueueState) (told_before told_after : List (Event (List ℕ))) (part : Fragment)
-    → 0 < max → HoldsQueued queued log old.streams old.under_way → Numbered log old → Takes now max old told_before part new told_after
-    → HandsOutPiece queued log part new
+    (queued : List Message) (history : History) (now max : ℕ) (old new : SendQueueState) (told_before told_after : List (Event (List ℕ))) (part : Fragment)
+    → 0 < max → HoldsQueued queued history.log old.streams old.under_way → Numbered history old → Takes now max old told_before part new told_after
+    → HandsOutPiece queued history part new

@@ -1,5 +1,5 @@
 -- What is in flight bears what the log has, while packets are filled (RFC 9260, section 6.1).
-use Rattle.std.specs.Prelude.{◌≡◌, ◌+◌, ◌%◌, ◌^◌, ℕ, Bool, None, Some, List, [], ◌∷◌, ◌++◌, length, slice_get}
+use Rattle.std.specs.Prelude.{◌≡◌, ◌<◌, ◌≤◌, ◌+◌, ◌-◌, ◌%◌, ◌^◌, ℕ, Bool, true, Option, None, Some, List, [], ◌∷◌, ◌++◌, length, map, slice_get}
 use Rattle.dcsctp_machine.specs.Packet.{Plain, unworked}
 use Rattle.dcsctp_machine.specs.transfer.Chunks.{AreChunks, chunk_said}
 use Rattle.dcsctp_machine.specs.transfer.Abandoning.{GivesUpAll}
@@ -7,9 +7,11 @@ use Rattle.dcsctp_machine.specs.transfer.Filling.{Stage, FillsPacket}
 use Rattle.dcsctp_machine.specs.transfer.Items.{Item}
 use Rattle.dcsctp_machine.specs.transfer.Outstanding.{OutstandingState}
 use Rattle.dcsctp_machine.specs.transfer.Sending.{Fragment}
-use Rattle.dcsctp_delivery_sending.specs.Places.{at_place}
-use Rattle.dcsctp_delivery_sending.specs.Log.{Message, Piece, Slot, Cut}
-use Rattle.dcsctp_delivery_sending.specs.Numbers.{Numbered, KindAt}
+use Rattle.dcsctp_machine.specs.turns.BegunResets.{stream_field}
+use Rattle.dcsctp_delivery_sending.specs.Places.{Has, at_place}
+use Rattle.dcsctp_machine.specs.declared.sending.UnderWay.{UnderWay}
+use Rattle.dcsctp_delivery_sending.specs.Log.{Message, Piece, Slot, Cut, Mark, History, grown, Resets}
+use Rattle.dcsctp_delivery_sending.specs.Numbers.{Numbered, KindAt, AreCurrent, AreKept}
 use Rattle.dcsctp_delivery_sending.specs.Pieces.{Says, HoldsQueued}
 
 -- The fragment says what the slot does. The end of an abandoned message has no payload.
@@ -17,11 +19,14 @@ abbrev pub SaysSlot : Fragment → Slot → Type 0
 SaysSlot part None = part.payload ≡ []
 SaysSlot part (Some piece) = Says part piece
 
--- The fragment is of the message of a piece of the log, and has its number.
-pub record IsNamed (log : List Slot) (part : Fragment) : Type 0 where
+-- The fragment of this TSN is of the message of a piece of the log, and has its number. A reset that names its stream lies between
+-- messages.
+pub record IsNamed (history : History) (own : ℕ) (part : Fragment) : Type 0 where
   pub number : ℕ
   pub piece : Piece
-  pub at : at_place number log ≡ Some (Some piece)
+  pub at : at_place number history.log ≡ Some (Some piece)
+  pub of : part.message_id ≡ piece.place
+  pub whole : (mark : Mark) → Has mark history.marks → Resets mark piece.message.stream → number < mark.bound → own < mark.bound
   pub stream : part.stream ≡ piece.message.stream
   pub unordered : part.is_unordered ≡ piece.message.is_unordered
   pub mid : part.mid % 2 ^ 32 ≡ piece.mid % 2 ^ 32
@@ -31,27 +36,51 @@ pub record SaysAt (log : List Slot) (number : ℕ) (part : Fragment) : Type 0 wh
   pub slot : Slot
   pub at : at_place number log ≡ Some slot
   pub says : SaysSlot part slot
-  pub named : IsNamed log part
 
 -- The items in flight are those of the newest TSNs. `first` is the first TSN of the association, and `acknowledged` how many were
--- acknowledged cumulatively.
-pub record Bears (log : List Slot) (first acknowledged : ℕ) (outstanding : OutstandingState) : Type 0 where
+-- acknowledged cumulatively. The first item after a reset that was begun says so.
+pub record Bears (history : History) (first acknowledged : ℕ) (outstanding : OutstandingState) : Type 0 where
   pub tsn : outstanding.first_tsn ≡ (first + acknowledged) % 2 ^ 32
-  pub count : length log ≡ acknowledged + length outstanding.items
-  pub items : (k : ℕ) (item : Item) → slice_get outstanding.items k ≡ Some item → SaysAt log (acknowledged + k) item.fragment
+  pub count : length history.log ≡ acknowledged + length outstanding.items
+  pub items : (k : ℕ) (item : Item) → slice_get outstanding.items k ≡ Some item → SaysAt history.log (acknowledged + k) item.fragment
+  pub named : (k : ℕ) (item : Item) → slice_get outstanding.items k ≡ Some item → IsNamed history (acknowledged + k) item.fragment
+  pub splits : (mark : Mark) → Has mark history.marks → (k : ℕ) (item : Item) → slice_get outstanding.items k ≡ Some item → acknowledged + k ≡ mark.bound
+      → item.begins_after_reset ≡ true
+
+-- What was in flight when a reset was begun lies before it. The next item will say so.
+abbrev pub Pends : History → Bool → Type 0
+Pends history reset_begun = (mark : Mark) → Has mark history.marks → mark.bound ≡ length history.log → reset_begun ≡ true
+
+-- The reset that was begun names a last TSN, the last that was assigned before it, and the fields of its streams. A message of these streams
+-- lies before it, or behind it.
+pub record IsMark (history : History) (first : ℕ) (under_way : Option UnderWay) (mark : Mark) : Type 0 where
+  pub within : mark.bound ≤ length history.log
+  pub last : mark.begun.reset.last_tsn ≡ (first + mark.bound + (2 ^ 32 - 1)) % 2 ^ 32
+  pub fields : mark.begun.reset.streams ≡ map stream_field mark.ids
+  pub sides : (m n : ℕ) (f g : Piece) → at_place m history.log ≡ Some (Some f) → at_place n history.log ≡ Some (Some g) → f.place ≡ g.place → Resets mark f.message.stream
+      → m < mark.bound → n < mark.bound
+  pub going : (u : UnderWay) → under_way ≡ Some u → Resets mark u.stream_id.0 → mark.bound < length history.log
+
+-- Each that was begun does.
+abbrev pub AreMarks : History → ℕ → Option UnderWay → Type 0
+AreMarks history first under_way = (mark : Mark) → Has mark history.marks → IsMark history first under_way mark
 
 -- What waits was queued, and what is in flight is of the log.
-pub record Stands (queued : List Message) (log : List Slot) (first acknowledged : ℕ) (stage : Stage) : Type 0 where
-  pub queue_holds : HoldsQueued queued log stage.waiting.streams stage.waiting.under_way
-  pub cut : Cut queued log
-  pub bears : Bears log first acknowledged stage.queue.outstanding
-  pub numbers : Numbered log stage.waiting
+pub record Stands (queued : List Message) (history : History) (first acknowledged : ℕ) (stage : Stage) : Type 0 where
+  pub queue_holds : HoldsQueued queued history.log stage.waiting.streams stage.waiting.under_way
+  pub cut : Cut queued history.log
+  pub bears : Bears history first acknowledged stage.queue.outstanding
+  pub pends : Pends history stage.queue.reset_begun
+  pub marks : AreMarks history first stage.waiting.under_way
+  pub numbers : Numbered history stage.waiting
   pub kind : stage.queue.outstanding.is_interleaved ≡ stage.waiting.is_interleaved
 
--- So it is again; more TSNs may have been assigned.
-pub record Stays (queued : List Message) (log : List Slot) (first acknowledged : ℕ) (new : Stage) : Type 0 where
+-- So it is again; more TSNs may have been assigned, to pieces of streams that aren't handed out.
+pub record Stays (queued : List Message) (history : History) (first acknowledged : ℕ) (new : Stage) : Type 0 where
   pub more : List Slot
-  pub stands : Stands queued (more ++ log) first acknowledged new
+  pub stands : Stands queued (grown more history) first acknowledged new
+  pub current : AreCurrent history more
+  pub kept : AreKept new.waiting.streams more
 
 -- The chunk carries what the log has at its TSN.
 pub record IsOfLog (log : List Slot) (first : ℕ) (is_interleaved : Bool) (chunk : Plain) : Type 0 where
@@ -69,11 +98,11 @@ AreOfLog log first is_interleaved (chunk ∷ chunks) = IsOfLog log first is_inte
 -- A packet that is filled carries pieces of what was queued, each under its TSN.
 abbrev pub PacketsBearPieces : Type 0
 PacketsBearPieces =
-    (queued : List Message) (log : List Slot) (first acknowledged now : ℕ) (old new : Stage) (chunks : List Plain) → Stands queued log first acknowledged old → FillsPacket now old new
+    (queued : List Message) (history : History) (first acknowledged now : ℕ) (old new : Stage) (chunks : List Plain) → Stands queued history first acknowledged old → FillsPacket now old new
     → AreChunks new.queue.outstanding new.tsns chunks
-    → (stays : Stays queued log first acknowledged new) × AreOfLog (stays.more ++ log) first new.queue.outstanding.is_interleaved chunks
+    → (stays : Stays queued history first acknowledged new) × AreOfLog (stays.more ++ history.log) first new.queue.outstanding.is_interleaved chunks
 
 -- Messages that are abandoned leave it so.
 abbrev pub GivingUpKeeps : Type 0
 GivingUpKeeps =
-    (queued : List Message) (log : List Slot) (first acknowledged now : ℕ) (old new : Stage) → Stands queued log first acknowledged old → GivesUpAll now old new → Stays queued log first acknowledged new
+    (queued : List Message) (history : History) (first acknowledged now : ℕ) (old new : Stage) → Stands queued history first acknowledged old → GivesUpAll now old new → Stays queued history first acknowledged new

@@ -32,18 +32,21 @@ pub fn acknowledging_keeps()
 {}
 
 /// All data of a flush carries pieces of what was queued, each under its TSN. A FORWARD-TSN passes TSNs that were
-/// assigned.
+/// assigned, and a request to reset streams is that of a reset that was begun (RFC 6525, section 5.1.2). A message of
+/// such a stream is never passed together with TSNs after the reset. Streams that wait for the end of a reset send
+/// nothing.
 pub fn flushes_send_pieces()
     ensures { FlushesSendPieces }
 {}
 
-/// With interleaving no two messages of a stream have one number in an association (RFC 8260, section 2.1).
+/// With interleaving no two messages of a stream have one number in an association (RFC 8260, section 2.1). Numbers are
+/// counted without wrap, and never begin at 0 again.
 pub fn numbers_tell_apart()
     ensures { LogsAreTold }
 {}
 
 /// A message that is queued waits after the others of its stream, under the next identifier. What waits outlasts
-/// settings, resets of own streams, and the association.
+/// settings, resets of own streams, and the association. After a reset the numbers of a stream go on from a new floor.
 pub fn queueing_keeps()
     ensures added { QueueingKeeps }
     ensures kept { KeptQueuesHold }

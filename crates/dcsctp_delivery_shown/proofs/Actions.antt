@@ -15,9 +15,9 @@ use Rattle.dcsctp_machine.specs.turns.BegunResets.{streams_within, request_conte
 use Rattle.dcsctp_machine.specs.turns.FlushOutcomes.{Told, told_event, Answer, answer_contents, filled, goes_out, asked, next_draft, flush_of, Ask, first_ask, later_ask, packets_allowed, room_in, stage_of, may_forward, wants_sack, Gives, GivesWhere, AnsweredBelow, Answered, nothing_waits, Answers, at_limit, at_empty, after_packet, FlushAnswers}
 use Rattle.dcsctp_machine.specs.turns.TransferMoves.{ReceivesWhere, MovesWhere}
 use Rattle.dcsctp_machine_refinement.proofs.Bursts.{packets_in-append, told_none}
-use Rattle.dcsctp_delivery_sending.proofs.Packets.{out_below}
 use Rattle.dcsctp_delivery_turns.specs.Actions.{Ledger, Action, Actions, nothing, further}
 use Rattle.dcsctp_delivery_turns.specs.Actions as actions
+use Rattle.dcsctp_delivery_sending.proofs.Packets.{out_below}
 use Rattle.dcsctp_delivery_shown.proofs.InFlight.{IsOf, fills_where_is, begun_is, at_once_is, sack_is}
 use Rattle.dcsctp_delivery_shown.proofs.Allowed.{MayGo, AllAllowed, AreAllowed, all_append, no_data_goes, plain_go, request_goes, sacks_go, data_goes, forwards_go}
 
@@ -128,15 +128,13 @@ module _ (kinds : Capabilities) where
     pub left : TransferIs kinds ledger.below.transfer
     pub says : AreAllowed kinds ledger.sent
 
-  of_known : (transfer : Transfer) (below : Option Transfer) → below ≡ Some transfer → TransferIs kinds below → IsOf kinds transfer.retransmission
+  pub of_known : (transfer : Transfer) (below : Option Transfer) → below ≡ Some transfer → TransferIs kinds below → IsOf kinds transfer.retransmission
   of_known transfer below known is = subst (TransferIs kinds) known is
 
   action_is : (came : Option Content) (to : ℕ) (old new : Ledger) → LedgerIs old → Action came to old new → LedgerIs new
   action_is came to old _ h (actions.queues now sending fits some) = record { left = h.left; says = h.says }
   action_is came to old _ h (actions.sets setting) = record { left = h.left; says = h.says }
   action_is came to old _ h (actions.prepares ids) = record { left = h.left; says = h.says }
-  action_is came to old _ h (actions.commits go_on) = record { left = h.left; says = h.says }
-  action_is came to old _ h actions.rolls_back = record { left = h.left; says = h.says }
   action_is came to old _ h (actions.flushes e draft answers below at same no_data no_end allowed) =
       let keeps = flush_keeps e draft answers (subst (λ (b : Below). TransferIs kinds b.transfer) (sym below) h.left) (no_data_goes kinds draft.packet.contents no_data) allowed in
       record { left = keeps.left; says = all_append _ old.sent (packets_in (flush_of e draft answers).events) h.says keeps.says }
@@ -149,6 +147,8 @@ module _ (kinds : Capabilities) where
   action_is came to old _ h (actions.resends_nothing now room transfer left tsns known sends) =
       record { left = at_once_is kinds now room old.below.queue transfer.retransmission left tsns (of_known transfer old.below.transfer known h.left) sends; says = h.says }
   action_is came to old _ h (actions.speaks emission no_data) = record { left = h.left; says = all_append _ old.sent (emission ∷ []) h.says (no_data_goes kinds emission.packet.contents no_data, tt) }
+  action_is came to old _ h (actions.asks_again emission begun tag has contents) =
+      record { left = h.left; says = all_append _ old.sent (emission ∷ []) h.says (subst (AllAllowed kinds) (sym contents) (tt, tt), tt) }
   action_is came to old _ h (actions.acknowledges now sack transfer new known valid takes) =
       record { left = sack_is kinds now sack transfer new (of_known transfer old.below.transfer known h.left) takes; says = h.says }
   action_is came to old _ h (actions.loses now transfer known) = record { left = of_known transfer old.below.transfer known h.left; says = h.says }
@@ -157,8 +157,6 @@ module _ (kinds : Capabilities) where
   action_is came to old _ h (actions.forwards tsn streams transfer new is known does) = record { left = moves_is _ _ _ transfer new (of_known transfer old.below.transfer known h.left) does; says = h.says }
   action_is came to old _ h (actions.forwards_interleaved tsn streams transfer new is known does) = record { left = moves_is _ _ _ transfer new (of_known transfer old.below.transfer known h.left) does; says = h.says }
   action_is came to old _ h (actions.tracks transfer tracker known same_tsn same_ranges) = record { left = of_known transfer old.below.transfer known h.left; says = h.says }
-  action_is came to old _ h (actions.defers transfer last_tsn streams known) = record { left = of_known transfer old.below.transfer known h.left; says = h.says }
-  action_is came to old _ h (actions.resets transfer streams reassembly known leaves) = record { left = of_known transfer old.below.transfer known h.left; says = h.says }
   action_is came to old _ h (actions.takes transfer message messages known ready) = record { left = of_known transfer old.below.transfer known h.left; says = h.says }
 
   pub actions_are : (came : Option Content) (to : ℕ) (old new : Ledger) → LedgerIs old → Actions came to old new → LedgerIs new

@@ -23,16 +23,17 @@ use Rattle.dcsctp_machine.specs.control.Effect.{Link, Effect, holds, link_of, li
 use Rattle.dcsctp_machine.proofs.TurnLemmas.{same_after}
 use Rattle.dcsctp_machine_refinement.proofs.NewAssociations.{FirstAlone}
 use Rattle.dcsctp_machine_refinement.proofs.NoHolding.{HoldsNone, none-append}
-use Rattle.dcsctp_delivery_turns.specs.Actions.{Begun}
+use Rattle.dcsctp_delivery_turns.specs.Actions.{came_by, IsOpening, Begun}
 use Rattle.dcsctp_delivery_sockets.specs.Echoes.{MayFollow, AllMayFollow}
 use Rattle.dcsctp_delivery_sockets.proofs.Calls.{of_turns, MayCall, MaySend, of_call}
+use Rattle.dcsctp_delivery_sockets.proofs.NewLinks.{OpensFitting, AllOpenFitting}
 use Rattle.dcsctp_delivery_sockets.proofs.PacketTurns.{begin_core}
 use Rattle.dcsctp_delivery_shown.proofs.Allowed.{AllAllowed}
 use Rattle.dcsctp_delivery_shown.proofs.Actions.{events_both}
 use Rattle.dcsctp_delivery_shown.proofs.Turns.{EndpointIs, IsCalm, MovesLink, link_stays, link_ends, link_begins, TurnIs, turn_is}
 use Rattle.dcsctp_delivery_shown.proofs.Stays.{after_link, rest_link}
 use Rattle.dcsctp_delivery_shown.proofs.Begins.{FrontKinds, begins_so}
-use Rattle.dcsctp_delivery_shown.proofs.Calm.{GoodTurn, Known, numbers_of, Calm, calm_turns, none_among, Notes, notes_none, notes_one, ActIs, of_calm, one_then}
+use Rattle.dcsctp_delivery_shown.proofs.Calm.{GoodTurn, Known, Calm, calm_turns, none_among, Notes, notes_none, notes_one, ActIs, of_calm, one_then}
 
 abbrev AreCalm : List Turned → Type 0
 AreCalm turns = AllByRecursion (λ t. IsCalm t.input) turns
@@ -127,27 +128,27 @@ module _ (law : ChunksAreControlled) (kinds : Capabilities) where
 
   -- The first chunk, the others, and the end of the packet.
   front_act : (e : Endpoint) (tag : ℕ) (content : Content) (contents : List Content) (t : Turned) (rest : List Turned) → FrontKinds kinds (offer_of e.options) content → AllMayFollow contents → AllAllowed kinds contents
-      → EndpointIs kinds e → Known e t → AlongTurns Known t.outcome.after rest → ChunkTurns e tag (content ∷ contents) (packet_ends ∷ []) (t ∷ rest) → ActIs kinds e (t ∷ rest)
-  front_act e tag content contents t rest front may allowed h here known taken =
-      let so : TurnIs kinds e (Some content) t.outcome = turn_is kinds e (chunk_input tag content) t.outcome h tt (begins_so kinds law e tag content t.outcome front taken.0.comes) here.2 taken.0.comes in
+      → EndpointIs kinds e → OpensFitting t → Known e t → AlongTurns Known t.outcome.after rest → ChunkTurns e tag (content ∷ contents) (packet_ends ∷ []) (t ∷ rest) → ActIs kinds e (t ∷ rest)
+  front_act e tag content contents t rest front may allowed h fits here known taken =
+      let so : TurnIs kinds e (Some content) t.outcome = turn_is kinds e (chunk_input tag content) t.outcome h tt (begins_so kinds law e tag content t.outcome front (λ opening. fits (subst (λ (i : Input). IsOpening (came_by i)) (sym taken.0.is) opening)) taken.0.comes) taken.0.comes in
       let calm : AreCalm rest =
       tail_calm t.outcome.following t.outcome.after (packet_ends ∷ []) rest (ChunkTurns t.outcome.after tag contents (packet_ends ∷ []) rest) (tt, tt)
       (λ others. chunks_calm t.outcome.after tag contents (packet_ends ∷ []) rest (all_calm tag contents may) (tt, tt) others) taken.1 in
       let left : Calm kinds t.outcome.after rest = calm_turns kinds rest t.outcome.after calm known so.after in
       let stays : link_in (after_all t.outcome.after rest).core ≡ link_in t.outcome.after.core =
-      after_link kinds law t.outcome.following t.outcome.after rest (ChunkTurns t.outcome.after tag contents (packet_ends ∷ []) rest) so.after (numbers_of t.outcome.after rest known)
-      (λ others. rest_link kinds law t.outcome.after tag contents rest may allowed so.after (numbers_of t.outcome.after rest known) others) taken.1 in
+      after_link kinds law t.outcome.following t.outcome.after rest (ChunkTurns t.outcome.after tag contents (packet_ends ∷ []) rest) so.after
+      (λ others. rest_link kinds law t.outcome.after tag contents rest may allowed so.after others) taken.1 in
       record {
         notes = front_notes (Some content) e t rest here.1 so.moves left.none stays;
         is = left.is;
         says = events_both kinds t.outcome.events (events_of rest) so.says left.says;
       }
 
-  whole_act : (e : Endpoint) (tag : ℕ) (contents : List Content) (turns : List Turned) → ContentsAre kinds (offer_of e.options) contents → AllAllowed kinds contents → EndpointIs kinds e → AlongTurns Known e turns
+  whole_act : (e : Endpoint) (tag : ℕ) (contents : List Content) (turns : List Turned) → ContentsAre kinds (offer_of e.options) contents → AllAllowed kinds contents → EndpointIs kinds e → AllOpenFitting turns → AlongTurns Known e turns
       → ChunkTurns e tag contents (packet_ends ∷ []) turns → ActIs kinds e turns
-  whole_act e tag [] turns are allowed h known taken = calm_act e turns (of_turns IsCalm e (packet_ends ∷ []) turns (tt, tt) taken) known h
-  whole_act e tag (content ∷ contents) [] are allowed h known taken = absurd taken
-  whole_act e tag (content ∷ contents) (t ∷ turns) are allowed h known taken = front_act e tag content contents t turns are.0 are.1 allowed.1 h known.0 known.1 taken
+  whole_act e tag [] turns are allowed h fit known taken = calm_act e turns (of_turns IsCalm e (packet_ends ∷ []) turns (tt, tt) taken) known h
+  whole_act e tag (content ∷ contents) [] are allowed h fit known taken = absurd taken
+  whole_act e tag (content ∷ contents) (t ∷ turns) are allowed h fit known taken = front_act e tag content contents t turns are.0 are.1 allowed.1 h fit.0 known.0 known.1 taken
 
   same_offer : (mine own : Options) → SameOptions mine own → offer_of own ≡ offer_of mine
   same_offer mine own same = ap offer_of same
@@ -156,24 +157,24 @@ module _ (law : ChunksAreControlled) (kinds : Capabilities) where
   contents_of mine own contents same are = subst (λ (o : Offer). ContentsAre kinds o contents) (sym (same_offer mine own same)) are
 
   admitted_act : (mine : Options) (e : Endpoint) (packet : Packet) (admission : Admission) (turns : List Turned) → SameOptions mine e.options → ContentsAre kinds (offer_of mine) packet.contents → AllAllowed kinds packet.contents
-      → EndpointIs kinds e → AlongTurns Known e turns → AdmittedTurns e packet admission turns → ActIs kinds e turns
-  admitted_act mine e packet all_chunks [] own are allowed h known taken = absurd taken
-  admitted_act mine e packet all_chunks (t ∷ turns) own are allowed h known taken =
+      → EndpointIs kinds e → AllOpenFitting turns → AlongTurns Known e turns → AdmittedTurns e packet admission turns → ActIs kinds e turns
+  admitted_act mine e packet all_chunks [] own are allowed h fit known taken = absurd taken
+  admitted_act mine e packet all_chunks (t ∷ turns) own are allowed h fit known taken =
       one_then kinds e t turns (subst IsCalm (sym taken.0.is) tt, tt) known.0 h (ap link_in (begin_core e e.core (has_data packet.contents) t.outcome taken.0.comes))
       (λ is. whole_act t.outcome.after packet.tag packet.contents turns
-      (contents_of mine t.outcome.after.options packet.contents (same_after mine e.options t.outcome.after.options own known.0.1.options) are) allowed is known.1 taken.1)
-  admitted_act mine e packet shutdown_acks_alone turns own are allowed h known taken =
+      (contents_of mine t.outcome.after.options packet.contents (same_after mine e.options t.outcome.after.options own known.0.1.options) are) allowed is fit.1 known.1 taken.1)
+  admitted_act mine e packet shutdown_acks_alone turns own are allowed h fit known taken =
       calm_act e turns (chunks_calm e packet.tag (shutdown_acks_in packet.contents) [] turns (acks_calm packet.tag packet.contents) tt taken) known h
-  admitted_act mine e packet (refused text) turns own are allowed h known taken = calm_act e turns (of_turns IsCalm e (refusal text ∷ []) turns (tt, tt) taken) known h
+  admitted_act mine e packet (refused text) turns own are allowed h fit known taken = calm_act e turns (of_turns IsCalm e (refusal text ∷ []) turns (tt, tt) taken) known h
 
   -- So it is of the bytes of a packet that the other socket sent.
   pub packet_acts : (mine : Options) (e : Endpoint) (bytes : List ℕ) (was : Packet) (turns : List Turned) → SameOptions mine e.options → ContentsAre kinds (offer_of mine) was.contents
-      → AllAllowed kinds was.contents → ((packet : PacketContent) → IsPacket (wire_options e.options) packet bytes → packet_in packet ≡ was) → EndpointIs kinds e → AlongTurns Known e turns
+      → AllAllowed kinds was.contents → ((packet : PacketContent) → IsPacket (wire_options e.options) packet bytes → packet_in packet ≡ was) → EndpointIs kinds e → AllOpenFitting turns → AlongTurns Known e turns
       → HandleInput e bytes turns → ActIs kinds e turns
-  packet_acts mine e bytes was turns own are allowed is h known (unreadable _ none taken) =
+  packet_acts mine e bytes was turns own are allowed is h fit known (unreadable _ none taken) =
       calm_act e turns (of_turns IsCalm e (arrival ∷ refusal unreadable_text ∷ []) turns (tt, (tt, tt)) taken) known h
-  packet_acts mine e bytes was _ own are allowed is h known (readable packet counted turns found counting taken) =
+  packet_acts mine e bytes was _ own are allowed is h fit known (readable packet counted turns found counting taken) =
       let core : counted.outcome.after.core ≡ e.core = ap (λ (x : Outcome). x.after.core) counting.comes in
       one_then kinds e counted turns (subst IsCalm (sym counting.is) tt, tt) known.0 h (ap link_in core)
-      (λ left. admitted_act mine counted.outcome.after was (admits e.core was) turns (same_after mine e.options counted.outcome.after.options own known.0.1.options) are allowed left known.1
+      (λ left. admitted_act mine counted.outcome.after was (admits e.core was) turns (same_after mine e.options counted.outcome.after.options own known.0.1.options) are allowed left fit.1 known.1
       (subst (λ (p : Packet). AdmittedTurns counted.outcome.after p (admits e.core p) turns) (is packet found) taken))

@@ -7,6 +7,7 @@ use Rattle.dcsctp_machine.specs.declared.options.Options.{Options}
 use Rattle.dcsctp_machine.specs.Controlled.{ControlledChunk}
 use Rattle.dcsctp_machine.specs.Cookie.{Cookie, cookie_at}
 use Rattle.dcsctp_machine.specs.Endpoint.{Endpoint, Core, closed, cookie_wait, cookie_echoed, open_in, shutdown_ack_sent}
+use Rattle.dcsctp_machine.specs.Fitting.{FitsCore}
 use Rattle.dcsctp_machine.specs.Laws.{ChunksAreControlled}
 use Rattle.dcsctp_machine.specs.Offer.{Offer, offer_of, negotiated}
 use Rattle.dcsctp_machine.specs.Outcome.{Outcome}
@@ -23,7 +24,8 @@ use Rattle.dcsctp_machine_agreement.proofs.Facts.{TrueFront}
 use Rattle.dcsctp_machine_refinement.proofs.NewAssociations.{maintain_none}
 use Rattle.dcsctp_machine_refinement.proofs.NoHolding.{IsNoHolding, HoldsNone, none-append, none-alone, none-flush}
 use Rattle.dcsctp_machine_refinement.proofs.OneSocket.{noted_happened}
-use Rattle.dcsctp_delivery_turns.specs.Actions.{Begun}
+use Rattle.dcsctp_delivery_turns.specs.Actions.{IsOpening, Begun}
+use Rattle.dcsctp_delivery_sockets.proofs.NewLinks.{link_fits}
 use Rattle.dcsctp_delivery_shown.proofs.Turns.{SameKinds, BeginsSo}
 
 pub not_among : (link : Link) (effects : List Effect) → HoldsNone effects → Has (holds link) effects → ⊥
@@ -113,13 +115,18 @@ module _ (kinds : Capabilities) where
       subst (λ (c : Change). Has (holds (link_of begun.my begun.held)) c.effects) controlled.1.2
       (noted_happened (holds (link_of begun.my begun.held)) controlled.0.effects (subst (Has (holds (link_of begun.my begun.held))) controlled.2.effects noted))
 
-  pub begins_so : ChunksAreControlled → (e : Endpoint) (tag : ℕ) (content : Content) (o : Outcome) → FrontKinds (offer_of e.options) content → ContentTurn e tag content o → BeginsSo kinds e (Some content) o
-  begins_so law e tag (init_ack theirs cookie) o front turn = λ begun opening.
-      let controlled : ControlledChunk e tag (init_ack theirs cookie) o = law e tag (init_ack theirs cookie) o turn tt in
-      so_of begun.held.capabilities (negotiated (offer_of e.options) theirs.offer)
-      (init_ack_says e.options e.core theirs cookie controlled.1.0 (link_of begun.my begun.held) (noted_in_change e tag (init_ack theirs cookie) o controlled begun)) front
-  begins_so law e tag (cookie_echo bytes) o front turn = λ begun opening.
+  -- So it is of one that a chunk begins; its first TSN fits its field, as all that the turn leaves does.
+  pub begins_so : ChunksAreControlled → (e : Endpoint) (tag : ℕ) (content : Content) (o : Outcome) → FrontKinds (offer_of e.options) content → (IsOpening (Some content) → FitsCore o.after.core) → ContentTurn e tag content o → BeginsSo kinds e (Some content) o
+  begins_so law e tag (init_ack theirs cookie) o front fits turn = λ begun opening linked.
+      let controlled : ControlledChunk e tag (init_ack theirs cookie) o = law e tag (init_ack theirs cookie) o turn tt in (
+        so_of begun.held.capabilities (negotiated (offer_of e.options) theirs.offer)
+            (init_ack_says e.options e.core theirs cookie controlled.1.0 (link_of begun.my begun.held) (noted_in_change e tag (init_ack theirs cookie) o controlled begun)) front,
+        (link_fits o.after.core (link_of begun.my begun.held) (fits opening) linked).my.first_tsn,
+      )
+  begins_so law e tag (cookie_echo bytes) o front fits turn = λ begun opening linked.
       let controlled : ControlledChunk e tag (cookie_echo bytes) o = law e tag (cookie_echo bytes) o turn tt in
-      let said = echo_says e.options e.core tag (cookie_at bytes) controlled.1.0 (link_of begun.my begun.held) (noted_in_change e tag (cookie_echo bytes) o controlled begun) in
-      so_of begun.held.capabilities (negotiated (offer_of e.options) said.cookie.offer) said.says (front said.cookie said.reads)
-  begins_so law e tag content o front turn = λ begun opening. absurd opening
+      let said = echo_says e.options e.core tag (cookie_at bytes) controlled.1.0 (link_of begun.my begun.held) (noted_in_change e tag (cookie_echo bytes) o controlled begun) in (
+        so_of begun.held.capabilities (negotiated (offer_of e.options) said.cookie.offer) said.says (front said.cookie said.reads),
+        (link_fits o.after.core (link_of begun.my begun.held) (fits opening) linked).my.first_tsn,
+      )
+  begins_so law e tag content o front fits turn = λ begun opening linked. absurd opening

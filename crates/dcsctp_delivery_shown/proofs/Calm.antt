@@ -16,8 +16,7 @@ use Rattle.dcsctp_machine_refinement.proofs.NewAssociations.{FirstAlone, change_
 use Rattle.dcsctp_machine_refinement.proofs.NoHolding.{HoldsNone, none-append}
 use Rattle.dcsctp_machine_refinement.proofs.OneSocket.{noted_happened}
 use Rattle.dcsctp_machine_refinement.proofs.SocketsAlone.{Moves, it_rests, it_moves}
-use Rattle.dcsctp_delivery_turns.specs.Actions.{came_by, IsOpening, ResetsNone}
-use Rattle.dcsctp_delivery_sockets.specs.Delivery.{KeepsNumbers}
+use Rattle.dcsctp_delivery_turns.specs.Actions.{came_by, IsOpening}
 use Rattle.dcsctp_delivery_shown.proofs.Allowed.{AreAllowed}
 use Rattle.dcsctp_delivery_shown.proofs.Actions.{events_both}
 use Rattle.dcsctp_delivery_shown.proofs.Turns.{EndpointIs, IsCalm, calm_step, calm_opens, MovesLink, link_stays, link_ends, link_begins, TurnIs, turn_is}
@@ -83,11 +82,7 @@ good_turn law e t (it_moves change turn is) =
 
 -- What is known of each turn of a run.
 abbrev pub Known : Endpoint → Turned → Type 0
-Known e t = Turn e t.input t.outcome × GoodTurn e t × ResetsNone e t.outcome
-
-pub numbers_of : (e : Endpoint) (turns : List Turned) → AlongTurns Known e turns → AlongTurns KeepsNumbers e turns
-numbers_of e [] known = tt
-numbers_of e (t ∷ turns) known = (known.0.2, numbers_of t.outcome.after turns known.1)
+Known e t = Turn e t.input t.outcome × GoodTurn e t
 
 -- ---- turns that begin nothing
 
@@ -113,7 +108,7 @@ module _ (kinds : Capabilities) where
   calm_turns [] e calm known h = record { none = tt; is = h; says = tt }
   calm_turns (t ∷ turns) e calm known h =
       let so : TurnIs kinds e (came_by t.input) t.outcome =
-      turn_is kinds e t.input t.outcome h (calm_step t.input calm.0) (λ begun opening. absurd (calm_opens t.input calm.0 opening)) known.0.2 known.0.0 in
+      turn_is kinds e t.input t.outcome h (calm_step t.input calm.0) (λ begun opening linked. absurd (calm_opens t.input calm.0 opening)) known.0.0 in
       let rest : Calm t.outcome.after turns = calm_turns turns t.outcome.after calm.1 known.1 so.after in
       record {
         none = none-append t.outcome.effects (effects_of turns) (none_noted (came_by t.input) e t known.0.1 (calm_opens t.input calm.0) so.moves) rest.none;
@@ -148,7 +143,7 @@ pub one_then : (kinds : Capabilities) (e : Endpoint) (t : Turned) (turns : List 
     → (EndpointIs kinds t.outcome.after → ActIs kinds t.outcome.after turns) → ActIs kinds e (t ∷ turns)
 one_then kinds e t turns calm known h same rest =
     let so : TurnIs kinds e (came_by t.input) t.outcome =
-    turn_is kinds e t.input t.outcome h (calm_step t.input calm.0) (λ begun opening. absurd (calm_opens t.input calm.0 opening)) known.2 known.0 in
+    turn_is kinds e t.input t.outcome h (calm_step t.input calm.0) (λ begun opening linked. absurd (calm_opens t.input calm.0 opening)) known.0 in
     let others : ActIs kinds t.outcome.after turns = rest so.after in
     record {
       notes = front_notes e t turns (none_noted (came_by t.input) e t known.1 (calm_opens t.input calm.0) so.moves) same others.notes;

@@ -22,15 +22,15 @@ use Rattle.dcsctp_machine_refinement.specs.Agreement.{AreUsable, AreFresh}
 use Rattle.dcsctp_machine_refinement.proofs.Sent.{all_sent_map}
 use Rattle.dcsctp_machine_refinement.proofs.SocketsAgree.{Joined, joined}
 use Rattle.dcsctp_machine_refinement.proofs.SocketsAlone.{of_moves}
-use Rattle.dcsctp_delivery_sockets.specs.Delivery.{KeepNumbers}
+use Rattle.dcsctp_delivery_directions.specs.Directions.{nothing_asked}
 use Rattle.dcsctp_delivery_sockets.proofs.Delivery.{DeliveryLaws}
 use Rattle.dcsctp_delivery_sockets.proofs.Echoes.{true_world}
-use Rattle.dcsctp_delivery_sockets.proofs.Known.{IsOwn, own_turn}
+use Rattle.dcsctp_delivery_sockets.proofs.Known.{along_front, along_rest, sent_front, IsOwn, own_turn}
 use Rattle.dcsctp_delivery_shown.specs.Shown.{link_shown, links_shown, ShownTagsSuffice}
-use Rattle.dcsctp_delivery_shown.proofs.Turns.{SameKinds}
+use Rattle.dcsctp_delivery_shown.proofs.Turns.{SameKinds, EndpointIs}
 use Rattle.dcsctp_delivery_shown.proofs.Calm.{GoodTurn, good_turn, Known, ActIs}
 use Rattle.dcsctp_delivery_shown.proofs.Sides.{SideIs, acted_side, rested_side}
-use Rattle.dcsctp_delivery_shown.proofs.Steps.{along_front, along_rest, along_both, sent_front, WasTrue, was_true, step_acts}
+use Rattle.dcsctp_delivery_shown.proofs.Steps.{along_both, WasTrue, was_true, step_acts}
 
 -- ---- both sides
 
@@ -50,7 +50,7 @@ record BothGood (kinds : Capabilities) (options : Both Options) (turns : Both (L
 side_front : (kinds : Capabilities) (mine theirs : Options) (turns more : List Turned) → SideGood kinds mine theirs (turns ++ more) → SideGood kinds mine theirs turns
 side_front kinds mine theirs turns more h =
     record {
-      known = along_front (fresh_endpoint mine) turns more h.known;
+      known = along_front Known (fresh_endpoint mine) turns more h.known;
       packets = sent_front (WasTrue kinds (offer_of theirs)) (events_of turns) (events_of more) (subst (AllSent (WasTrue kinds (offer_of theirs))) (events_of-append turns more) h.packets);
     }
 
@@ -70,11 +70,11 @@ module _ (law : DeliveryLaws) (kinds : Capabilities) (options : Both Options) (a
       → BothSides kinds options (with_turns side more turns) (link_at options.a (with_turns side more turns).a ∷ shown_a) (link_at options.b (with_turns side more turns).b ∷ shown_b)
   stepped turns step more sides.A shown_a shown_b j good h taken =
       let act : ActIs kinds (endpoint_after options.a turns.a) more =
-      step_acts law kinds options.a options.b turns.a turns.b more shown_a shown_b j.a.own_options (are sides.B).fits (along_rest (fresh_endpoint options.a) turns.a more good.a.known) good.b.packets h.a h.b step taken in
+      step_acts law kinds options.a options.b turns.a turns.b more shown_a shown_b j.a.fits j.a.own_options (are sides.B).fits (along_rest Known (fresh_endpoint options.a) turns.a more good.a.known) good.b.packets h.a h.b step taken in
       record { a = acted_side kinds options.a turns.a shown_a more h.a act; b = rested_side kinds options.b turns.b shown_b h.b }
   stepped turns step more sides.B shown_a shown_b j good h taken =
       let act : ActIs kinds (endpoint_after options.b turns.b) more =
-      step_acts law kinds options.b options.a turns.b turns.a more shown_b shown_a j.b.own_options (are sides.A).fits (along_rest (fresh_endpoint options.b) turns.b more good.b.known) good.a.packets h.b h.a step taken in
+      step_acts law kinds options.b options.a turns.b turns.a more shown_b shown_a j.b.fits j.b.own_options (are sides.A).fits (along_rest Known (fresh_endpoint options.b) turns.b more good.b.known) good.a.packets h.b h.a step taken in
       record { a = rested_side kinds options.a turns.a shown_a h.a; b = acted_side kinds options.b turns.b shown_b more h.b act }
 
   acted : (turns : Both (List Turned)) (act : ActContent) (more : List Turned) (shown_a shown_b : List (Option Link)) → IsHonestAct act → Joined options turns → BothGood kinds options (with_turns (side_of_act act) more turns)
@@ -91,12 +91,16 @@ module _ (law : DeliveryLaws) (kinds : Capabilities) (options : Both Options) (a
   shown_is (cookie_echoed my held cookie) = refl
   shown_is (open_in phase my held) = refl
 
+  -- A socket that was just made has no association, and has asked nothing.
+  fresh_is : (own : Options) → EndpointIs kinds (fresh_endpoint own)
+  fresh_is own = record { linked = tt; left = tt; asks = record { first = 0; asking = nothing_asked; fits = tt } }
+
   both_sides : (run : List Worked) → SocketRun options run → AreHonest (acts_of run) → BothGood kinds options (turns_after run)
       → BothSides kinds options (turns_after run) (links_shown sides.A options run) (links_shown sides.B options run)
   both_sides [] runs honest good =
       record {
-        a = record { is = record { linked = tt; left = tt }; says = tt; newest = refl; past = record { among = λ link has. absurd has; each = λ serve. tt } };
-        b = record { is = record { linked = tt; left = tt }; says = tt; newest = refl; past = record { among = λ link has. absurd has; each = λ serve. tt } };
+        a = record { is = fresh_is options.a; says = tt; newest = refl; past = record { among = λ link has. absurd has; each = λ serve. tt } };
+        b = record { is = fresh_is options.b; says = tt; newest = refl; past = record { among = λ link has. absurd has; each = λ serve. tt } };
       }
   both_sides (worked ∷ earlier) runs honest good =
       let before : BothGood kinds options (turns_after earlier) = both_front kinds options (turns_after earlier) (side_of_act worked.act) worked.turns good in
@@ -130,29 +134,29 @@ true_past : (own their : Options) (side other : machine.SideState) → side.opti
 true_past own their side other own_is their_is past =
     subst (λ (o : Options). TruePast (offer_of own) (offer_of o) side.past other.past) their_is (subst (λ (o : Options). TruePast (offer_of o) (offer_of other.options) side.past other.past) own_is past)
 
-both_good : DeliveryLaws → (options : Both Options) (run : List Worked) → AreUsable options → SocketRun options run → AreHonest (acts_of run) → AreFresh (turns_after run) → KeepNumbers options (turns_after run) → BothGood (kinds_of options) options (turns_after run)
-both_good law options run are runs honest fresh numbers =
+both_good : DeliveryLaws → (options : Both Options) (run : List Worked) → AreUsable options → SocketRun options run → AreHonest (acts_of run) → AreFresh (turns_after run) → BothGood (kinds_of options) options (turns_after run)
+both_good law options run are runs honest fresh =
     let j : Joined options (turns_after run) = joined law.below options run are runs honest in
     let world : machine.World = world_after options.a options.b j.steps in
     let is : TrueWorld world = true_world law.below law.answers options run j fresh in
     let kinds : Capabilities = kinds_of options in
     record {
       a = record {
-        known = along_both (fresh_endpoint options.a) (turns_after run).a (run_along IsOwn own_turn options run runs sides.A) (of_moves law.moves GoodTurn (good_turn law.below.effects_mean) options run are runs sides.A) (numbers sides.A);
+        known = along_both (fresh_endpoint options.a) (turns_after run).a (run_along IsOwn own_turn options run runs sides.A) (of_moves law.moves GoodTurn (good_turn law.below.effects_mean) options run are runs sides.A);
         packets = all_sent_map (was_true kinds (offer_of options.a) (offer_of options.b) world.a.past world.b.past (swapped_kinds (offer_of options.a) (offer_of options.b))
             (true_past options.a options.b world.a world.b j.a.side_options j.b.side_options is.a.past)) (events_of (turns_after run).a) j.a.went;
       };
       b = record {
-        known = along_both (fresh_endpoint options.b) (turns_after run).b (run_along IsOwn own_turn options run runs sides.B) (of_moves law.moves GoodTurn (good_turn law.below.effects_mean) options run are runs sides.B) (numbers sides.B);
+        known = along_both (fresh_endpoint options.b) (turns_after run).b (run_along IsOwn own_turn options run runs sides.B) (of_moves law.moves GoodTurn (good_turn law.below.effects_mean) options run are runs sides.B);
         packets = all_sent_map (was_true kinds (offer_of options.b) (offer_of options.a) world.b.past world.a.past (refl, refl)
             (true_past options.b options.a world.b world.a j.b.side_options j.a.side_options is.b.past)) (events_of (turns_after run).b) j.b.went;
       };
     }
 
 pub shown_tags_suffice : DeliveryLaws → ShownTagsSuffice
-shown_tags_suffice law options run are runs honest fresh numbers serve =
+shown_tags_suffice law options run are runs honest fresh serve =
     let h : BothSides (kinds_of options) options (turns_after run) (links_shown sides.A options run) (links_shown sides.B options run) =
-    both_sides law (kinds_of options) options are run runs honest (both_good law options run are runs honest fresh numbers) in
+    both_sides law (kinds_of options) options are run runs honest (both_good law options run are runs honest fresh) in
     record {
       a = h.a.past.each serve.a;
       b = h.b.past.each serve.b;

@@ -5,7 +5,7 @@ use Rattle.dcsctp_machine.specs.declared.capabilities.Capabilities.{Capabilities
 use Rattle.dcsctp_machine.specs.declared.ends.Violation.{Violation}
 use Rattle.dcsctp_machine.specs.Cause.{Cause}
 use Rattle.dcsctp_machine.specs.Controlled.{IsControlled, ControlledChunk}
-use Rattle.dcsctp_machine.specs.CallTurns.{Turned, IsTurn, Turns, AfterChunk, ChunkTurns, after_all, AlongTurns}
+use Rattle.dcsctp_machine.specs.CallTurns.{Turned, IsTurn, Turns, AfterChunk, ChunkTurns, after_all}
 use Rattle.dcsctp_machine.specs.Endpoint.{Endpoint, Core, closed, cookie_wait, cookie_echoed, open_in, shutdown_pending, shutdown_received}
 use Rattle.dcsctp_machine.specs.Following.{Following, next_chunk, packet_end, dropped_rest}
 use Rattle.dcsctp_machine.specs.Laws.{ChunksAreControlled}
@@ -24,8 +24,7 @@ use Rattle.dcsctp_machine.specs.turns.PlainOutcomes.{violation_by, violation_at,
 use Rattle.dcsctp_machine.proofs.DataLemmas.{chosen, FlushedAt, data_at, forward_at, end_at}
 use Rattle.dcsctp_machine.proofs.SackLemmas.{SteppedAt, sack_at}
 use Rattle.dcsctp_machine_refinement.proofs.Bursts.{emits_core}
-use Rattle.dcsctp_delivery_turns.specs.Actions.{IsOpening, ResetsNone}
-use Rattle.dcsctp_delivery_sockets.specs.Delivery.{KeepsNumbers}
+use Rattle.dcsctp_delivery_turns.specs.Actions.{IsOpening}
 use Rattle.dcsctp_delivery_sockets.specs.Echoes.{MayFollow, AllMayFollow}
 use Rattle.dcsctp_delivery_shown.proofs.Allowed.{MayGo, Allowed, AllAllowed}
 use Rattle.dcsctp_delivery_shown.proofs.Turns.{SameKinds, LinkIs, EndpointIs, MovesLink, link_stays, link_ends, link_begins, TurnIs, turn_is}
@@ -176,33 +175,33 @@ module _ (kinds : Capabilities) where
       linked : link_in t.outcome.after.core ≡ link_in e.core
       is : EndpointIs kinds t.outcome.after
 
-    follows_left : (e : Endpoint) (tag : ℕ) (content : Content) (t : Turned) → MayFollow content → Allowed kinds content → EndpointIs kinds e → ResetsNone e t.outcome → IsTurn e (chunk_input tag content) t → Left e t
-    follows_left e tag content t may allowed h numbers turn =
-        let so : TurnIs kinds e (Some content) t.outcome = turn_is kinds e (chunk_input tag content) t.outcome h tt (λ begun opening. absurd (follows_calm content may opening)) numbers turn.comes in
+    follows_left : (e : Endpoint) (tag : ℕ) (content : Content) (t : Turned) → MayFollow content → Allowed kinds content → EndpointIs kinds e → IsTurn e (chunk_input tag content) t → Left e t
+    follows_left e tag content t may allowed h turn =
+        let so : TurnIs kinds e (Some content) t.outcome = turn_is kinds e (chunk_input tag content) t.outcome h tt (λ begun opening linked. absurd (follows_calm content may opening)) turn.comes in
         record { linked = link_kept (Some content) e t.outcome (follows_calm content may) (follows_held e tag content t.outcome may allowed h turn.comes) so.moves; is = so.after }
 
-    end_left : (e : Endpoint) (t : Turned) → EndpointIs kinds e → ResetsNone e t.outcome → IsTurn e packet_ends t → Left e t
-    end_left e t h numbers turn =
-        let so : TurnIs kinds e None t.outcome = turn_is kinds e packet_ends t.outcome h tt (λ begun opening. absurd opening) numbers turn.comes in
+    end_left : (e : Endpoint) (t : Turned) → EndpointIs kinds e → IsTurn e packet_ends t → Left e t
+    end_left e t h turn =
+        let so : TurnIs kinds e None t.outcome = turn_is kinds e packet_ends t.outcome h tt (λ begun opening linked. absurd opening) turn.comes in
         record { linked = link_kept None e t.outcome (λ opening. opening) (flushed_at e t.outcome (end_at e e.below.transfer t.outcome turn.comes)) so.moves; is = so.after }
 
-    end_link : (e : Endpoint) (turns : List Turned) → EndpointIs kinds e → AlongTurns KeepsNumbers e turns → Turns e (packet_ends ∷ []) turns → link_in (after_all e turns).core ≡ link_in e.core
-    end_link e [] h numbers taken = absurd taken
-    end_link e (t ∷ []) h numbers taken = (end_left e t h numbers.0 taken.0).linked
-    end_link e (t ∷ u ∷ turns) h numbers taken = absurd taken.1
+    end_link : (e : Endpoint) (turns : List Turned) → EndpointIs kinds e → Turns e (packet_ends ∷ []) turns → link_in (after_all e turns).core ≡ link_in e.core
+    end_link e [] h taken = absurd taken
+    end_link e (t ∷ []) h taken = (end_left e t h taken.0).linked
+    end_link e (t ∷ u ∷ turns) h taken = absurd taken.1
 
-    pub after_link : (following : Following) (e : Endpoint) (turns : List Turned) (Others : Type 0) → EndpointIs kinds e → AlongTurns KeepsNumbers e turns → (Others → link_in (after_all e turns).core ≡ link_in e.core)
+    pub after_link : (following : Following) (e : Endpoint) (turns : List Turned) (Others : Type 0) → EndpointIs kinds e → (Others → link_in (after_all e turns).core ≡ link_in e.core)
         → AfterChunk following Others (Turns e (packet_ends ∷ []) turns) (turns ≡ []) → link_in (after_all e turns).core ≡ link_in e.core
-    after_link next_chunk e turns Others h numbers others rest = others rest
-    after_link packet_end e turns Others h numbers others rest = end_link e turns h numbers rest
-    after_link dropped_rest e turns Others h numbers others rest = ap (λ (ts : List Turned). link_in (after_all e ts).core) rest
+    after_link next_chunk e turns Others h others rest = others rest
+    after_link packet_end e turns Others h others rest = end_link e turns h rest
+    after_link dropped_rest e turns Others h others rest = ap (λ (ts : List Turned). link_in (after_all e ts).core) rest
 
     -- The chunks behind the first, and the end of the packet.
-    pub rest_link : (e : Endpoint) (tag : ℕ) (contents : List Content) (turns : List Turned) → AllMayFollow contents → AllAllowed kinds contents → EndpointIs kinds e → AlongTurns KeepsNumbers e turns → ChunkTurns e tag contents (packet_ends ∷ []) turns
+    pub rest_link : (e : Endpoint) (tag : ℕ) (contents : List Content) (turns : List Turned) → AllMayFollow contents → AllAllowed kinds contents → EndpointIs kinds e → ChunkTurns e tag contents (packet_ends ∷ []) turns
         → link_in (after_all e turns).core ≡ link_in e.core
-    rest_link e tag [] turns may allowed h numbers taken = end_link e turns h numbers taken
-    rest_link e tag (content ∷ contents) [] may allowed h numbers taken = absurd taken
-    rest_link e tag (content ∷ contents) (t ∷ turns) may allowed h numbers taken =
-        let left : Left e t = follows_left e tag content t may.0 allowed.0 h numbers.0 taken.0 in
-        after_link t.outcome.following t.outcome.after turns (ChunkTurns t.outcome.after tag contents (packet_ends ∷ []) turns) left.is numbers.1
-        (λ others. rest_link t.outcome.after tag contents turns may.1 allowed.1 left.is numbers.1 others) taken.1 ∙ left.linked
+    rest_link e tag [] turns may allowed h taken = end_link e turns h taken
+    rest_link e tag (content ∷ contents) [] may allowed h taken = absurd taken
+    rest_link e tag (content ∷ contents) (t ∷ turns) may allowed h taken =
+        let left : Left e t = follows_left e tag content t may.0 allowed.0 h taken.0 in
+        after_link t.outcome.following t.outcome.after turns (ChunkTurns t.outcome.after tag contents (packet_ends ∷ []) turns) left.is
+        (λ others. rest_link t.outcome.after tag contents turns may.1 allowed.1 left.is others) taken.1 ∙ left.linked

@@ -1,16 +1,17 @@
 -- One act of a side, where the other side sent what was negotiated: at most one association begins, and it stays.
-use Rattle.std.proofs.Common.{◌≡◌, ℕ, zero, suc, List, [], ◌∷◌, ◌++◌, refl, sym, subst}
+use Rattle.std.proofs.Common.{◌≡◌, ℕ, zero, suc, List, [], ◌∷◌, refl, sym, subst}
 use Rattle.std.specs.Prelude.{Option, None, Some}
 use Rattle.std.specs.List.{slice_get}
+use Rattle.dcsctp_wire.specs.Content.{PacketContent}
 use Rattle.dcsctp_wire.specs.Format.{IsPacket}
 use Rattle.dcsctp_machine.specs.declared.capabilities.Capabilities.{Capabilities}
 use Rattle.dcsctp_machine.specs.declared.options.Options.{Options}
-use Rattle.dcsctp_machine.specs.CallTurns.{Turned, HandleInput, AlongTurns, after_all, events_of}
+use Rattle.dcsctp_machine.specs.CallTurns.{Turned, HandleInput, AlongTurns, events_of}
 use Rattle.dcsctp_machine.specs.Endpoint.{Endpoint}
 use Rattle.dcsctp_machine.specs.Event.{Event, sent, packets_in}
-use Rattle.dcsctp_machine.specs.Fitting.{AllSent, IsSendable}
+use Rattle.dcsctp_machine.specs.Fitting.{AllSent, FitsEndpoint, IsSendable}
 use Rattle.dcsctp_machine.specs.Offer.{Offer, offer_of, negotiated}
-use Rattle.dcsctp_machine.specs.Packet.{Content, re_config, plain, Emission, emission_bytes}
+use Rattle.dcsctp_machine.specs.Packet.{Content, re_config, plain, packet_in, Emission, emission_bytes}
 use Rattle.dcsctp_machine.specs.Schedule.{StepContent, call_step, delivery_step}
 use Rattle.dcsctp_machine.specs.Settings.{SameOptions, FitsOptions, wire_options, ports_of}
 use Rattle.dcsctp_machine.specs.Sockets.{endpoint_after, packets_shown, DeliveryTurns, StepTurns}
@@ -19,10 +20,10 @@ use Rattle.dcsctp_machine_agreement.proofs.Facts.{Behind, AllBehind, TrueContent
 use Rattle.dcsctp_machine_agreement.proofs.Growth.{true_of}
 use Rattle.dcsctp_machine_refinement.proofs.Deliver.{IsSent, sent_at, reads_as_sent}
 use Rattle.dcsctp_machine_refinement.proofs.Follow.{Went}
-use Rattle.dcsctp_delivery_sockets.specs.Delivery.{KeepsNumbers}
 use Rattle.dcsctp_delivery_sockets.specs.Echoes.{MayFollow, AllMayFollow}
 use Rattle.dcsctp_delivery_sockets.proofs.Delivery.{DeliveryLaws}
 use Rattle.dcsctp_delivery_sockets.proofs.Known.{IsOwn}
+use Rattle.dcsctp_delivery_sockets.proofs.NewLinks.{packet_opens}
 use Rattle.dcsctp_delivery_shown.proofs.Allowed.{IsAllowed, AreAllowed}
 use Rattle.dcsctp_delivery_shown.proofs.Turns.{SameKinds}
 use Rattle.dcsctp_delivery_shown.proofs.Begins.{front_kinds}
@@ -30,23 +31,11 @@ use Rattle.dcsctp_delivery_shown.proofs.Calm.{GoodTurn, Known, ActIs, of_calm}
 use Rattle.dcsctp_delivery_shown.proofs.Acts.{ContentsAre, call_acts, packet_acts}
 use Rattle.dcsctp_delivery_shown.proofs.Sides.{SideIs}
 
--- ---- lists of turns and of events
+-- ---- lists of turns
 
-pub along_front : (e : Endpoint) (turns more : List Turned) → AlongTurns Known e (turns ++ more) → AlongTurns Known e turns
-along_front e [] more along = tt
-along_front e (t ∷ turns) more along = (along.0, along_front t.outcome.after turns more along.1)
-
-pub along_rest : (e : Endpoint) (turns more : List Turned) → AlongTurns Known e (turns ++ more) → AlongTurns Known (after_all e turns) more
-along_rest e [] more along = along
-along_rest e (t ∷ turns) more along = along_rest t.outcome.after turns more along.1
-
-pub along_both : (e : Endpoint) (turns : List Turned) → AlongTurns IsOwn e turns → AlongTurns GoodTurn e turns → AlongTurns KeepsNumbers e turns → AlongTurns Known e turns
-along_both e [] own good numbers = tt
-along_both e (t ∷ turns) own good numbers = ((own.0, good.0, numbers.0), along_both t.outcome.after turns own.1 good.1 numbers.1)
-
-pub sent_front : (Good : Emission → Type 0) (events more : List (Event Emission)) → AllSent Good (events ++ more) → AllSent Good events
-sent_front Good [] more each = tt
-sent_front Good (event ∷ events) more each = (each.0, sent_front Good events more each.1)
+pub along_both : (e : Endpoint) (turns : List Turned) → AlongTurns IsOwn e turns → AlongTurns GoodTurn e turns → AlongTurns Known e turns
+along_both e [] own good = tt
+along_both e (t ∷ turns) own good = ((own.0, good.0), along_both t.outcome.after turns own.1 good.1)
 
 -- ---- what a side sent
 
@@ -84,7 +73,7 @@ module _ (kinds : Capabilities) (sender mine : Offer) (theirs own : List Effect)
 
 -- ---- an act of one side
 
-module _ (law : DeliveryLaws) (kinds : Capabilities) (mine theirs : Options) (turns others more : List Turned) (shown other_shown : List (Option Link)) (own : SameOptions mine (endpoint_after mine turns).options) (their_fits : FitsOptions theirs)
+module _ (law : DeliveryLaws) (kinds : Capabilities) (mine theirs : Options) (turns others more : List Turned) (shown other_shown : List (Option Link)) (fits : FitsEndpoint (endpoint_after mine turns)) (own : SameOptions mine (endpoint_after mine turns).options) (their_fits : FitsOptions theirs)
     (known : AlongTurns Known (endpoint_after mine turns) more) (packets : AllSent (WasTrue kinds (offer_of mine)) (events_of others)) (h : SideIs kinds mine turns shown) (k : SideIs kinds theirs others other_shown) where
   nothing_done : more ≡ [] → ActIs kinds (endpoint_after mine turns) more
   nothing_done none = subst (ActIs kinds (endpoint_after mine turns)) (sym none) (of_calm kinds (endpoint_after mine turns) [] (record { none = tt; is = h.is; says = tt }))
@@ -92,8 +81,10 @@ module _ (law : DeliveryLaws) (kinds : Capabilities) (mine theirs : Options) (tu
   handled : (bytes : List ℕ) → IsSent (MayCome kinds (offer_of mine)) (emission_bytes (ports_of theirs)) bytes → HandleInput (endpoint_after mine turns) bytes more → ActIs kinds (endpoint_after mine turns) more
   handled bytes out taken =
       let e : Endpoint = endpoint_after mine turns in
-      packet_acts law.moves.chunks kinds mine e bytes out.emission.packet more own out.good.was_true.are out.good.allowed
-      (λ packet found. reads_as_sent law.below.built e.options theirs out.emission packet their_fits out.good.was_true.sendable (subst (λ (bs : List ℕ). IsPacket (wire_options e.options) packet bs) out.is found)) h.is known taken
+      let is : (packet : PacketContent) → IsPacket (wire_options e.options) packet bytes → packet_in packet ≡ out.emission.packet =
+      λ packet found. reads_as_sent law.below.built e.options theirs out.emission packet their_fits out.good.was_true.sendable (subst (λ (bs : List ℕ). IsPacket (wire_options e.options) packet bs) out.is found) in
+      packet_acts law.moves.chunks kinds mine e bytes out.emission.packet more own out.good.was_true.are out.good.allowed is h.is
+      (packet_opens law.below.offers e bytes out.emission more fits out.good.was_true.sendable is taken) known taken
 
   delivered : (index : ℕ) (found : Option (List ℕ)) → slice_get (packets_shown theirs others) index ≡ found → DeliveryTurns (endpoint_after mine turns) found more → ActIs kinds (endpoint_after mine turns) more
   delivered index None is none = nothing_done none

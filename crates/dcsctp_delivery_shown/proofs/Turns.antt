@@ -1,27 +1,28 @@
 -- What a turn does to the association of a socket, to the kinds of what is in flight, and what it sends.
-use Rattle.std.proofs.Common.{◌≡◌, ℕ, Bool, true, false, Option, None, Some, List, [], ◌∷◌, ◌++◌, refl, sym, ap, ◌∙◌, subst}
+use Rattle.std.proofs.Common.{◌≡◌, ℕ, ◌<◌, ◌^◌, Bool, true, false, Option, None, Some, List, [], ◌∷◌, ◌++◌, refl, sym, ap, ◌∙◌, subst}
 use Rattle.dcsctp_machine.specs.declared.capabilities.Capabilities.{Capabilities}
-use Rattle.dcsctp_machine.specs.declared.association.Held.{Held}
-use Rattle.dcsctp_machine.specs.Endpoint.{Endpoint, held_in}
+use Rattle.dcsctp_machine.specs.Endpoint.{Endpoint}
 use Rattle.dcsctp_machine.specs.Event.{packets_in}
-use Rattle.dcsctp_machine.specs.Outcome.{Outcome}
+use Rattle.dcsctp_machine.specs.Outcome.{Outcome, then_outcome}
 use Rattle.dcsctp_machine.specs.Packet.{Content, init_ack, cookie_echo, Emission}
 use Rattle.dcsctp_machine.specs.Turn.{Input, chunk_input, act_input, user_sends, restores, Turn}
-use Rattle.dcsctp_machine.specs.control.Acts.{request_again}
-use Rattle.dcsctp_machine.specs.control.Effect.{Link, link_of, link_in}
+use Rattle.dcsctp_machine.specs.control.Acts.{flushes, request_again}
+use Rattle.dcsctp_machine.specs.control.Effect.{Effect, Link, link_of, link_in}
 use Rattle.dcsctp_machine.specs.transfer.Messages.{MessageContent}
 use Rattle.dcsctp_machine.specs.transfer.Transfer.{Below}
-use Rattle.dcsctp_machine.specs.turns.DataOutcomes.{flush_by, AnswersTo}
-use Rattle.dcsctp_machine.specs.turns.FlushOutcomes.{Answer, draft_to}
+use Rattle.dcsctp_machine.specs.turns.FlushOutcomes.{Answer}
 use Rattle.dcsctp_machine.specs.turns.MessageOutcomes.{MessageRefusal, Sending, sending_refusal, name_of, queue_by, queue_one, queue_all, takes_any, SendAnswers, send_by, SendTurn}
 use Rattle.dcsctp_machine_refinement.proofs.Bursts.{packets_in-append}
 use Rattle.dcsctp_delivery_sending.specs.Log.{Message}
-use Rattle.dcsctp_delivery_turns.specs.Actions.{ledger_of, came_by, Begun, begun_below, IsOpening, Becomes, goes_on, ends, begins, IsCall, peer_tag, queued_after, read_after, ResetsNone}
-use Rattle.dcsctp_delivery_turns.proofs.Data.{to_link}
+use Rattle.dcsctp_delivery_directions.specs.Directions.{nothing_asked}
+use Rattle.dcsctp_delivery_turns.specs.Asking.{own_of, SomeFit}
+use Rattle.dcsctp_delivery_turns.specs.Actions.{ledger_of, came_by, Begun, begun_below, IsOpening, Inside, inside, Made, MakesAlso, OwnEnds, unended, committed, rolled_back, PeerResets, unreset, absent, deferred, reset_now, Becomes, goes_on, works_resets, ends, begins, IsCall, peer_tag, queued_after, read_after}
 use Rattle.dcsctp_delivery_turns.proofs.Fixed.{queue_all_core, refusal_none}
+use Rattle.dcsctp_delivery_turns.proofs.Fronts.{own_ends_fit}
+use Rattle.dcsctp_delivery_turns.proofs.Beginnings.{nothing_fits, unlinked_fits}
 use Rattle.dcsctp_delivery_turns.proofs.Turns.{turns_are_actions}
 use Rattle.dcsctp_delivery_shown.proofs.Allowed.{AreAllowed}
-use Rattle.dcsctp_delivery_shown.proofs.Actions.{TransferIs, Keeps, flush_keeps, events_both, LedgerIs, actions_are}
+use Rattle.dcsctp_delivery_shown.proofs.Actions.{TransferIs, events_both, LedgerIs, of_known, actions_are}
 
 -- ---- an endpoint
 
@@ -33,10 +34,12 @@ abbrev pub LinkIs : Capabilities → Option Link → Type 0
 LinkIs kinds None = Unit {0}
 LinkIs kinds (Some link) = SameKinds link.capabilities kinds
 
--- Its association, if there is one, is of these kinds, and so is what is in flight.
+-- Its association, if there is one, is of these kinds, and so is what is in flight; what it keeps of its own requests to reset streams is
+-- of some that were begun.
 pub record EndpointIs (kinds : Capabilities) (e : Endpoint) : Type 0 where
   pub linked : LinkIs kinds (link_in e.core)
   pub left : TransferIs kinds e.below.transfer
+  pub asks : SomeFit (own_of e)
 
 -- ---- inputs
 
@@ -73,36 +76,13 @@ pub data MovesLink (came : Option Content) (e : Endpoint) (o : Outcome) : Type 0
   link_ends : link_in o.after.core ≡ None → MovesLink came e o
   link_begins : (begun : Begun e o) → IsOpening came → link_in o.after.core ≡ Some (link_of begun.my begun.held) → MovesLink came e o
 
-of_becomes : (came : Option Content) (to : ℕ) (adds : List Message → List Message) (taken : List MessageContent → List MessageContent) (e : Endpoint) (o : Outcome) → Becomes came to adds taken e o → MovesLink came e o
-of_becomes came to adds taken e o (goes_on linked makes) = link_stays linked
-of_becomes came to adds taken e o (ends none unread last makes is) = link_ends none
-of_becomes came to adds taken e o (begins begun opening linked unqueued unread makes) = link_begins begun opening linked
-
-sends_link : (b : Bool) (e : Endpoint) (answers : List Answer) → SendAnswers b e answers → link_in (send_by b e answers).after.core ≡ link_in e.core
-sends_link false e answers allowed = refl
-sends_link true e answers allowed = to_link e (held_in e.core) answers allowed
-
-send_link : (e : Endpoint) (sendings : List Sending) (o : Outcome) → SendTurn e sendings o → link_in o.after.core ≡ link_in e.core
-send_link e sendings o turn =
-    ap (λ (x : Outcome). link_in x.after.core) turn.2 ∙ sends_link (takes_any e sendings) (queue_all e sendings).after turn.0 turn.1 ∙ ap link_in (queue_all_core e sendings)
-
 is_call : (input : Input) → IsStep input → ((sendings : List Sending) → input ≡ user_sends sendings → ⊥) → IsCall input
 is_call (user_sends sendings) step other = absurd (other sendings refl)
 is_call (act_input (request_again reset)) step other = absurd step
 is_call (restores state) step other = absurd step
 is_call input step other = tt
 
--- ---- a call that sends messages
-
 module _ (kinds : Capabilities) where
-  queue_all_transfer : (e : Endpoint) (sendings : List Sending) → (queue_all e sendings).after.below.transfer ≡ e.below.transfer
-  queue_all_transfer e [] = refl
-  queue_all_transfer e (sending ∷ sendings) = queue_all_transfer (queue_one e sending).after sendings ∙ go (sending_refusal e sending)
-    where
-      go : (why : Option MessageRefusal) → (queue_by e sending why).after.below.transfer ≡ e.below.transfer
-      go None = refl
-      go (Some why) = refl
-
   queue_all_silent : (e : Endpoint) (sendings : List Sending) → packets_in (queue_all e sendings).events ≡ []
   queue_all_silent e [] = refl
   queue_all_silent e (sending ∷ sendings) =
@@ -113,21 +93,43 @@ module _ (kinds : Capabilities) where
       go None = refl
       go (Some why) = refusal_none why (name_of sending)
 
-  flushes_keep : (e : Endpoint) (peer : Option Held) (answers : List Answer) → TransferIs kinds e.below.transfer → AnswersTo e peer answers → Keeps kinds (flush_by e peer answers).after.below (flush_by e peer answers).events
-  flushes_keep e None answers is allowed = record { left = is; says = tt }
-  flushes_keep e (Some held) answers is allowed = flush_keeps kinds e (draft_to held) answers is tt allowed
+  -- ---- what a turn makes
 
-  sends_keep : (b : Bool) (e : Endpoint) (answers : List Answer) → TransferIs kinds e.below.transfer → SendAnswers b e answers → Keeps kinds (send_by b e answers).after.below (send_by b e answers).events
-  sends_keep false e answers is allowed = record { left = is; says = tt }
-  sends_keep true e answers is allowed = flushes_keep e (held_in e.core) answers is allowed
+  -- What is in flight, and what is kept of own requests.
+  record InsideIs (i : Inside) : Type 0 where
+    left : TransferIs kinds i.below.transfer
+    asks : SomeFit i.own
 
-  send_keeps : (e : Endpoint) (sendings : List Sending) (o : Outcome) → TransferIs kinds e.below.transfer → SendTurn e sendings o → Keeps kinds o.after.below o.events
-  send_keeps e sendings o is turn =
-      let all : Outcome = queue_all e sendings in
-      let last : Keeps kinds (send_by (takes_any e sendings) all.after turn.0).after.below (send_by (takes_any e sendings) all.after turn.0).events =
-      sends_keep (takes_any e sendings) all.after turn.0 (subst (TransferIs kinds) (sym (queue_all_transfer e sendings)) is) turn.1 in
-      subst (λ (x : Outcome). Keeps kinds x.after.below x.events) (sym turn.2)
-      (record { left = last.left; says = events_both kinds all.events (send_by (takes_any e sendings) all.after turn.0).events (subst (AreAllowed kinds) (sym (queue_all_silent e sendings)) tt) last.says })
+  -- What is kept fits what was begun, once the own request has ended.
+  ends_fit : (happened : List Effect) (old new : Inside) → OwnEnds happened old new → SomeFit old.own → SomeFit new.own
+  ends_fit happened old new ended h =
+      let after = own_ends_fit happened old new h.first h.asking ended h.fits in
+      record { first = h.first; asking = after.0; fits = after.1 }
+
+  own_ends : (happened : List Effect) (old new : Inside) → InsideIs old → OwnEnds happened old new → InsideIs new
+  own_ends happened old _ h unended = h
+  own_ends happened old new h (committed done own is) = record { left = h.left; asks = ends_fit happened old new (committed done own is) h.asks }
+  own_ends happened old new h (rolled_back own is) = record { left = h.left; asks = ends_fit happened old new (rolled_back own is) h.asks }
+
+  peer_resets : (came : Option Content) (happened : List Effect) (old new : Inside) → InsideIs old → PeerResets came happened old new → InsideIs new
+  peer_resets came happened old _ h (unreset none) = h
+  peer_resets came happened old _ h (absent gone) = h
+  peer_resets came happened old _ h (deferred none transfer last_tsn streams known) = record { left = of_known kinds transfer old.below.transfer known h.left; asks = h.asks }
+  peer_resets came happened old _ h (reset_now done parameters reset handled asked transfer reassembly known reached leaves) =
+      record { left = of_known kinds transfer old.below.transfer known h.left; asks = h.asks }
+
+  -- what is in flight after actions, what is kept of own requests, and what was sent
+  record MadeIs (new : Inside) (packets : List Emission) : Type 0 where
+    inside_is : InsideIs new
+    says : AreAllowed kinds packets
+
+  makes_is : (came : Option Content) (to : ℕ) (adds : List Message → List Message) (taken : List MessageContent → List MessageContent) (old new : Inside) (packets : List Emission) → InsideIs old
+      → MakesAlso came to adds taken old packets new → MadeIs new packets
+  makes_is came to adds taken old new packets h makes =
+      let made : Made came to (ledger_of [] old.below [] [] h.asks.asking) h.asks.first new (adds []) packets (taken []) = makes [] [] [] h.asks.first h.asks.asking h.asks.fits in
+      let is : LedgerIs kinds (ledger_of (adds []) new.below packets (taken []) made.asking) =
+      actions_are kinds came to (ledger_of [] old.below [] [] h.asks.asking) (ledger_of (adds []) new.below packets (taken []) made.asking) (record { left = h.left; says = tt }) made.actions in
+      record { inside_is = record { left = is.left; asks = record { first = h.asks.first; asking = made.asking; fits = made.fits } }; says = is.says }
 
   -- ---- each turn
 
@@ -137,29 +139,78 @@ module _ (kinds : Capabilities) where
     pub after : EndpointIs kinds o.after
     pub says : AreAllowed kinds (packets_in o.events)
 
-  -- the association that a turn begins, if it begins one, is of these kinds
+  -- the association that a turn begins, if it begins one, is of these kinds, and its first TSN fits its field
   abbrev pub BeginsSo : Endpoint → Option Content → Outcome → Type 0
-  BeginsSo e came o = (begun : Begun e o) → IsOpening came → SameKinds begun.held.capabilities kinds
+  BeginsSo e came o =
+      (begun : Begun e o) → IsOpening came → link_in o.after.core ≡ Some (link_of begun.my begun.held) → SameKinds begun.held.capabilities kinds × (begun.my.first_tsn < 2 ^ 32)
+
+  stays_is : (came : Option Content) (e : Endpoint) (o : Outcome) → EndpointIs kinds e → link_in o.after.core ≡ link_in e.core → MadeIs (inside o.after) (packets_in o.events) → TurnIs e came o
+  stays_is came e o h linked made =
+      record { moves = link_stays linked; after = record { linked = subst (LinkIs kinds) (sym linked) h.linked; left = made.inside_is.left; asks = made.inside_is.asks }; says = made.says }
 
   becomes_is : (came : Option Content) (to : ℕ) (adds : List Message → List Message) (taken : List MessageContent → List MessageContent) (e : Endpoint) (o : Outcome) → EndpointIs kinds e → BeginsSo e came o
       → Becomes came to adds taken e o → TurnIs e came o
-  becomes_is came to adds taken e o h so (goes_on linked makes) =
-      let made : LedgerIs kinds (ledger_of (adds []) o.after.below (packets_in o.events) (taken [])) =
-      actions_are kinds came to (ledger_of [] e.below [] []) (ledger_of (adds []) o.after.below (packets_in o.events) (taken [])) (record { left = h.left; says = tt }) (makes [] [] []) in
-      record { moves = link_stays linked; after = record { linked = subst (LinkIs kinds) (sym linked) h.linked; left = made.left }; says = made.says }
+  becomes_is came to adds taken e o h so (goes_on calm linked makes) =
+      stays_is came e o h linked (makes_is came to adds taken (inside e) (inside o.after) (packets_in o.events) (record { left = h.left; asks = h.asks }) makes)
+  becomes_is came to adds taken e o h so (works_resets linked between worked ended peer makes) =
+      let worked_is : InsideIs worked = peer_resets came o.effects between worked (own_ends o.effects (inside e) between (record { left = h.left; asks = h.asks }) ended) peer in
+      stays_is came e o h linked (makes_is came to adds taken worked (inside o.after) (packets_in o.events) worked_is makes)
   becomes_is came to adds taken e o h so (ends none unread last makes is) =
-      let made : LedgerIs kinds (ledger_of (adds []) last (packets_in o.events) (taken [])) =
-      actions_are kinds came to (ledger_of [] e.below [] []) (ledger_of (adds []) last (packets_in o.events) (taken [])) (record { left = h.left; says = tt }) (makes [] [] []) in
-      record { moves = link_ends none; after = record { linked = subst (LinkIs kinds) (sym none) tt; left = subst (λ (b : Below). TransferIs kinds b.transfer) (sym is) tt }; says = made.says }
-  becomes_is came to adds taken e o h so (begins begun opening linked unqueued unread makes) =
-      let start : SameKinds begun.held.capabilities kinds = so begun opening in
-      let made : LedgerIs kinds (ledger_of [] o.after.below (packets_in o.events) []) =
-      actions_are kinds came begun.held.peer.tag (ledger_of [] (begun_below e o begun) [] []) (ledger_of [] o.after.below (packets_in o.events) []) (record { left = start; says = tt }) (makes [] [] []) in
-      record { moves = link_begins begun opening linked; after = record { linked = subst (LinkIs kinds) (sym linked) start; left = made.left }; says = made.says }
+      let made : MadeIs last (packets_in o.events) = makes_is came to adds taken (inside e) last (packets_in o.events) (record { left = h.left; asks = h.asks }) makes in
+      record {
+        moves = link_ends none;
+        after = record {
+          linked = subst (LinkIs kinds) (sym none) tt;
+          left = subst (λ (b : Below). TransferIs kinds b.transfer) (sym is) tt;
+          asks = unlinked_fits o.after.core o.after.outstanding none;
+        };
+        says = made.says;
+      }
+  becomes_is came to adds taken e o h so (begins begun opening linked unqueued unread again makes) =
+      let start : SameKinds begun.held.capabilities kinds × (begun.my.first_tsn < 2 ^ 32) = so begun opening linked in
+      let made : MadeIs (inside o.after) (packets_in o.events) =
+      makes_is came begun.held.peer.tag (λ queued. queued) (λ read. read) (record { below = begun_below e o begun; own = Some (record { number = None; next = begun.my.first_tsn; again = again }) }) (inside o.after) (packets_in o.events)
+      (record { left = start.0; asks = (record { first = begun.my.first_tsn; asking = nothing_asked; fits = nothing_fits begun.my.first_tsn again start.1 }) }) makes in
+      record {
+        moves = link_begins begun opening linked;
+        after = record { linked = subst (LinkIs kinds) (sym linked) start.0; left = made.inside_is.left; asks = made.inside_is.asks };
+        says = made.says;
+      }
 
-  pub turn_is : (e : Endpoint) (input : Input) (o : Outcome) → EndpointIs kinds e → IsStep input → BeginsSo e (came_by input) o → ResetsNone e o → Turn e input o → TurnIs e (came_by input) o
-  turn_is e (user_sends sendings) o h step so numbers turn =
-      let keeps : Keeps kinds o.after.below o.events = send_keeps e sendings o h.left turn in
-      let linked : link_in o.after.core ≡ link_in e.core = send_link e sendings o turn in
-      record { moves = link_stays linked; after = record { linked = subst (LinkIs kinds) (sym linked) h.linked; left = keeps.left }; says = keeps.says }
-  turn_is e input o h step so numbers turn = becomes_is (came_by input) (peer_tag e.core) (queued_after e input) (read_after e input) e o h so (turns_are_actions e input o (is_call input step (λ sendings is. absurd (cc))) numbers turn)
+  -- ---- a call that sends messages
+
+  one_queued : (e : Endpoint) (sending : Sending) (why : Option MessageRefusal) → EndpointIs kinds e → EndpointIs kinds (queue_by e sending why).after
+  one_queued e sending None h = record { linked = h.linked; left = h.left; asks = h.asks }
+  one_queued e sending (Some why) h = record { linked = h.linked; left = h.left; asks = h.asks }
+
+  all_queued : (e : Endpoint) (sendings : List Sending) → EndpointIs kinds e → EndpointIs kinds (queue_all e sendings).after
+  all_queued e [] h = h
+  all_queued e (sending ∷ sendings) h = all_queued (queue_one e sending).after sendings (one_queued e sending (sending_refusal e sending) h)
+
+  -- What follows is a flush, like that of an act.
+  sends_is : (b : Bool) (e : Endpoint) (answers : List Answer) → EndpointIs kinds e → SendAnswers b e answers → TurnIs e None (send_by b e answers)
+  sends_is false e answers h allowed = record { moves = link_stays refl; after = h; says = tt }
+  sends_is true e answers h allowed =
+      becomes_is None (peer_tag e.core) (queued_after e (act_input flushes)) (read_after e (act_input flushes)) e (send_by true e answers) h (λ begun opening linked. absurd opening)
+      (turns_are_actions e (act_input flushes) (send_by true e answers) tt (answers, allowed, refl))
+
+  later_moves : (e d : Endpoint) (o whole : Outcome) → link_in d.core ≡ link_in e.core → whole.after ≡ o.after → MovesLink None d o → MovesLink None e whole
+  later_moves e d o whole same after (link_stays is) = link_stays (ap (λ (x : Endpoint). link_in x.core) after ∙ is ∙ same)
+  later_moves e d o whole same after (link_ends none) = link_ends (ap (λ (x : Endpoint). link_in x.core) after ∙ none)
+  later_moves e d o whole same after (link_begins begun opening linked) = absurd opening
+
+  send_is : (e : Endpoint) (sendings : List Sending) (o : Outcome) → EndpointIs kinds e → SendTurn e sendings o → TurnIs e None o
+  send_is e sendings o h turn =
+      let all : Outcome = queue_all e sendings in
+      let last : Outcome = send_by (takes_any e sendings) all.after turn.0 in
+      let is : TurnIs all.after None last = sends_is (takes_any e sendings) all.after turn.0 (all_queued e sendings h) turn.1 in
+      subst (TurnIs e None) (sym turn.2)
+      (record {
+        moves = later_moves e all.after last (then_outcome all last) (ap link_in (queue_all_core e sendings)) refl is.moves;
+        after = is.after;
+        says = events_both kinds all.events last.events (subst (AreAllowed kinds) (sym (queue_all_silent e sendings)) tt) is.says;
+      })
+
+  pub turn_is : (e : Endpoint) (input : Input) (o : Outcome) → EndpointIs kinds e → IsStep input → BeginsSo e (came_by input) o → Turn e input o → TurnIs e (came_by input) o
+  turn_is e (user_sends sendings) o h step so turn = send_is e sendings o h turn
+  turn_is e input o h step so turn = becomes_is (came_by input) (peer_tag e.core) (queued_after e input) (read_after e input) e o h so (turns_are_actions e input o (is_call input step (λ sendings is. absurd (cc))) turn)

@@ -8,14 +8,15 @@ use Rattle.dcsctp_machine_refinement.specs.Agreement.{AreUsable, AreFresh}
 use Rattle.dcsctp_delivery_sockets.specs.Delivery.{AreInMemory, SendsLittle, KeepNumbers, Delivers}
 use Rattle.dcsctp_delivery_shown.specs.Shown.{ShownTagsServeOnce}
 
--- All that delivery asks of a run, beside what agreement asks: each verification tag serves one association, not too much is sent to it, and
--- with interleaving no own reset is performed.
+-- All that delivery asks of a run, beside what agreement asks: each verification tag serves one association, not too much is sent to it,
+-- and with interleaving no own reset is performed.
 pub record AllowsDelivery (options : Both Options) (run : List Worked) : Type 0 where
   pub tags : ShownTagsServeOnce options run
   pub little : (side : Side) → SendsLittle (of_side side options) (of_side side (turns_after run))
   pub numbers : KeepNumbers options (turns_after run)
 
--- At the end of each first part of the run that is honest and allows it, with no tag drawn twice, what each user read is what the other sent.
+-- At the end of each first part of the run that is honest and allows it, with no tag drawn twice, what each user read is what the other
+-- sent.
 abbrev pub DeliverThroughout : Both Options → List Worked → Type 0
 DeliverThroughout options [] = Unit {0}
 DeliverThroughout options (worked ∷ earlier) =

@@ -10,7 +10,7 @@ use Rattle.dcsctp_machine.specs.Schedule.{AreHonest}
 use Rattle.dcsctp_machine.specs.Sockets.{Worked, Both, turns_after, SocketRun, acts_of, associations_of}
 use Rattle.dcsctp_machine.specs.control.Effect.{Link, link_of}
 use Rattle.dcsctp_machine_refinement.specs.Agreement.{AreUsable, AreFresh}
-use Rattle.dcsctp_delivery_sockets.specs.Delivery.{TagsServeOnce, KeepNumbers}
+use Rattle.dcsctp_delivery_sockets.specs.Delivery.{TagsServeOnce}
 
 -- ---- what is shown
 
@@ -68,9 +68,8 @@ pub record ShownTagsServeOnce (options : Both Options) (run : List Worked) : Typ
 
 -- ---- the law
 
--- Then it serves one association among all that the two sockets ever have, over every honest run in which no tag was drawn twice, and with interleaving no own
--- reset was performed.
+-- Then it serves one association among all that the two sockets ever have, over every honest run in which no tag was drawn twice.
 abbrev pub ShownTagsSuffice : Type 0
 ShownTagsSuffice =
     (options : Both Options) (run : List Worked) → AreUsable options → SocketRun options run → AreHonest (acts_of run) → AreFresh (turns_after run)
-    → KeepNumbers options (turns_after run) → ShownTagsServeOnce options run → TagsServeOnce (turns_after run)
+    → ShownTagsServeOnce options run → TagsServeOnce (turns_after run)

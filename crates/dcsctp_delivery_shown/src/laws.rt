@@ -13,8 +13,7 @@ use dcsctp_wire_laws::built_packet_reads_as_itself;
 
 /// If each verification tag serves one association among those that two sockets show after each act, it serves one
 /// association among all that they ever have. So it is over every schedule that loses, repeats, delays and reorders
-/// packets, as long as no act comes from outside, no tag is drawn twice, and no reset of streams is performed in an
-/// association with interleaving: no association begins and ends in one act.
+/// packets, as long as no act comes from outside and no tag is drawn twice: no association begins and ends in one act.
 pub fn shown_tags_suffice()
     ensures { ShownTagsSuffice }
 {

@@ -24,12 +24,12 @@ use Rattle.dcsctp_delivery_turns.specs.Actions.{came_by, queued_after, IsCall}
 use Rattle.dcsctp_delivery_turns.specs.Sides.{WasSent}
 use Rattle.dcsctp_delivery_associations.specs.Laws.{AreEnds}
 use Rattle.dcsctp_delivery_associations.specs.Reads.{Read, reads_after}
-use Rattle.dcsctp_delivery_associations.proofs.Growing.{input_adds}
-use Rattle.dcsctp_delivery_associations.proofs.SenderTurns.{sender_turns}
-use Rattle.dcsctp_delivery_associations.proofs.ReceiverTurns.{receiver_turns}
 use Rattle.dcsctp_delivery_sockets.specs.Acts.{queued_through, AreTurns, AreNewPeers}
 use Rattle.dcsctp_delivery_sockets.specs.Echoes.{GoesToMaker}
 use Rattle.dcsctp_delivery_sockets.specs.Packets.{reads_through, AreNewTags}
+use Rattle.dcsctp_delivery_associations.proofs.Growing.{input_adds}
+use Rattle.dcsctp_delivery_associations.proofs.SenderTurns.{sender_turns}
+use Rattle.dcsctp_delivery_associations.proofs.ReceiverTurns.{receiver_turns}
 use Rattle.dcsctp_delivery_sockets.proofs.Calls.{NoChunk, NoChunks}
 use Rattle.dcsctp_delivery_sockets.proofs.PacketTurns.{packet_goes}
 
@@ -80,8 +80,8 @@ module _ (options : Options) (e : Endpoint) (queued : List Message) (past : List
       → AreEnds options e queued past packets (after_all d turns) (after_effects (effects_of turns) their_past) (reads_through d turns reads)
   receivers_act [] d their_past reads h none taken may new = h
   receivers_act (t ∷ turns) d their_past reads h none taken may new =
-      let first = receiver_turns options h.ends e queued past packets d their_past reads h.between few new.0 t.input t.outcome new.1 (λ transfer link there linked. none_sent (h.ends.sends link.my.tag).sent t.input none.0) may.0 new.2 taken.0 in
-      let rest = receivers_act turns t.outcome.after (after_effects t.outcome.effects their_past) (reads_after d t.input reads) first none.1 taken.1 may.1 new.3 in
+      let first = receiver_turns options h.ends e queued past packets d their_past reads h.between few new.0 t.input t.outcome new.1 (λ transfer link there linked. none_sent (h.ends.sends link.my.tag).sent t.input none.0) may.0 taken.0 in
+      let rest = receivers_act turns t.outcome.after (after_effects t.outcome.effects their_past) (reads_after d t.input reads) first none.1 taken.1 may.1 new.2 in
       subst (λ (l : List Effect). AreEnds options e queued past packets (after_all t.outcome.after turns) l (reads_through t.outcome.after turns (reads_after d t.input reads)))
       (sym (after_effects-append t.outcome.effects (effects_of turns) their_past)) rest
 
@@ -106,7 +106,7 @@ module _ (options : Options) (e : Endpoint) (queued : List Message) (past : List
       two (t ∷ u ∷ v ∷ turns) new taken = absurd taken.1.1
   receivers_handle d their_past reads emission bytes turns h has go is new (readable packet counted ts is_packet counting admitted) =
       let a = one_turn d their_past reads arrival counted tt tt counting in
-      let first = receivers_act (counted ∷ []) d their_past reads h (a.0, tt) (a.2, tt) (a.1, tt) (new.0, new.1, new.2, tt) in
+      let first = receivers_act (counted ∷ []) d their_past reads h (a.0, tt) (a.2, tt) (a.1, tt) (new.0, new.1, tt) in
       let core : counted.outcome.after.core ≡ d.core = ap (λ (x : Outcome). x.after.core) counting.comes in
       let same : AdmittedTurns counted.outcome.after emission.packet (admits counted.outcome.after.core emission.packet) ts =
       subst (λ (c : Core). AdmittedTurns counted.outcome.after emission.packet (admits c emission.packet) ts) (sym core)
@@ -114,5 +114,5 @@ module _ (options : Options) (e : Endpoint) (queued : List Message) (past : List
       subst (λ (l : List Effect). AreEnds options e queued past packets (after_all counted.outcome.after ts) l (reads_through counted.outcome.after ts (reads_after d counted.input reads)))
       (sym (after_effects-append counted.outcome.effects (effects_of ts) their_past))
       (packet_goes options e queued past packets few emission has counted.outcome.after (after_effects counted.outcome.effects their_past) (reads_after d counted.input reads) ts
-      (subst (λ (l : List Effect). AreEnds options e queued past packets counted.outcome.after (after_effects l their_past) (reads_after d counted.input reads)) (append-nil counted.outcome.effects) first) new.3 go
+      (subst (λ (l : List Effect). AreEnds options e queued past packets counted.outcome.after (after_effects l their_past) (reads_after d counted.input reads)) (append-nil counted.outcome.effects) first) new.2 go
       (admits counted.outcome.after.core emission.packet) refl same)

@@ -20,25 +20,25 @@ use Rattle.dcsctp_machine_agreement.proofs.Growth.{after_effects-append}
 use Rattle.dcsctp_machine_refinement.specs.Agreement.{noted_past}
 use Rattle.dcsctp_machine_refinement.proofs.Bursts.{packets_in-append}
 use Rattle.dcsctp_delivery_sending.specs.ChunkCounts.{chunks_to}
-use Rattle.dcsctp_delivery_associations.proofs.Counting.{more_to}
 use Rattle.dcsctp_delivery_sockets.specs.Acts.{AreTurns}
 use Rattle.dcsctp_delivery_sockets.specs.Echoes.{GoesToMaker}
 use Rattle.dcsctp_delivery_sockets.specs.UserMessages.{sent_in, sent_of}
 use Rattle.dcsctp_delivery_sockets.specs.Delivery.{IsOfNewTags, MatchByTags, SendsLittle, KeepsNumbers}
+use Rattle.dcsctp_delivery_associations.proofs.Counting.{more_to}
 use Rattle.dcsctp_delivery_sockets.proofs.NewLinks.{KeepsOptions, each_earlier, matched_earlier}
 
 -- ---- lists of turns and of events
 
 module _ (Good : Endpoint → Turned → Type 0) where
-  along_front : (e : Endpoint) (turns more : List Turned) → AlongTurns Good e (turns ++ more) → AlongTurns Good e turns
+  pub along_front : (e : Endpoint) (turns more : List Turned) → AlongTurns Good e (turns ++ more) → AlongTurns Good e turns
   along_front e [] more along = tt
   along_front e (t ∷ turns) more along = (along.0, along_front t.outcome.after turns more along.1)
 
-  along_rest : (e : Endpoint) (turns more : List Turned) → AlongTurns Good e (turns ++ more) → AlongTurns Good (after_all e turns) more
+  pub along_rest : (e : Endpoint) (turns more : List Turned) → AlongTurns Good e (turns ++ more) → AlongTurns Good (after_all e turns) more
   along_rest e [] more along = along
   along_rest e (t ∷ turns) more along = along_rest t.outcome.after turns more along.1
 
-sent_front : (Good : Emission → Type 0) (events more : List (Event Emission)) → AllSent Good (events ++ more) → AllSent Good events
+pub sent_front : (Good : Emission → Type 0) (events more : List (Event Emission)) → AllSent Good (events ++ more) → AllSent Good events
 sent_front Good [] more each = tt
 sent_front Good (event ∷ events) more each = (each.0, sent_front Good events more each.1)
 

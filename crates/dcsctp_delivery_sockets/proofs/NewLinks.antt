@@ -105,11 +105,11 @@ packet_opens law e bytes emission _ h good is (readable packet counted turns fou
           (subst (λ (p : Packet). AdmittedTurns counted.outcome.after p (admits e.core p) turns) same taken),
     )
 
-record LinkFits (link : Link) : Type 0 where
-  my : FitsPair link.my
-  peer : FitsPair link.peer
+pub record LinkFits (link : Link) : Type 0 where
+  pub my : FitsPair link.my
+  pub peer : FitsPair link.peer
 
-link_fits : (core : Core) (link : Link) → FitsCore core → link_in core ≡ Some link → LinkFits link
+pub link_fits : (core : Core) (link : Link) → FitsCore core → link_in core ≡ Some link → LinkFits link
 link_fits closed link fits is = absurd (cc)
 link_fits (cookie_wait my) link fits is = absurd (cc)
 link_fits (cookie_echoed my held cookie) link fits is =
@@ -173,6 +173,7 @@ module _ (e : Endpoint) (o : Outcome) (begun : Begun e o) (rest past their_past 
       record {
         some = not_zero begun_link.my.tag its_fits.my.tag_is_not_zero;
         small = its_fits.peer.first_tsn;
+        own_small = its_fits.my.first_tsn;
         other = λ old has. (is_new old has).0;
         match = λ theirs has same. sym (matched begun_link theirs was_noted has (inl (sym same))).1;
       }
@@ -198,14 +199,13 @@ new_peers their_past (t ∷ turns) past e calls numbers opens each matched =
 abbrev pub KeepsOptions : Endpoint → Turned → Type 0
 KeepsOptions e turn = SameOptions e.options turn.outcome.after.options
 
-pub new_tags : (options : Options) (past : List Effect) (turns : List Turned) (their_past : List Effect) (e : Endpoint) → SameOptions options e.options → AlongTurns KeepsOptions e turns → AlongTurns KeepsNumbers e turns → AllOpenFitting turns
+pub new_tags : (options : Options) (past : List Effect) (turns : List Turned) (their_past : List Effect) (e : Endpoint) → SameOptions options e.options → AlongTurns KeepsOptions e turns → AllOpenFitting turns
     → Each IsOfNewTags (after_effects (effects_of turns) their_past) → MatchByTags (after_effects (effects_of turns) their_past) past → AreNewTags options their_past past e turns
-new_tags options past [] their_past e own along numbers opens each matched = tt
-new_tags options past (t ∷ turns) their_past e own along numbers opens each matched =
+new_tags options past [] their_past e own along opens each matched = tt
+new_tags options past (t ∷ turns) their_past e own along opens each matched =
     let split = after_first t.outcome.effects (effects_of turns) their_past in (
       own,
       (λ begun opening linked. new_tag e t.outcome begun (effects_of turns) their_past past (opens.0 opening) linked each matched),
-      numbers.0,
-      new_tags options past turns (after_effects t.outcome.effects their_past) t.outcome.after (same_after options e.options t.outcome.after.options own along.0) along.1 numbers.1 opens.1 (subst (Each IsOfNewTags) split each)
+      new_tags options past turns (after_effects t.outcome.effects their_past) t.outcome.after (same_after options e.options t.outcome.after.options own along.0) along.1 opens.1 (subst (Each IsOfNewTags) split each)
           (subst (λ (p : List Effect). MatchByTags p past) split matched),
     )

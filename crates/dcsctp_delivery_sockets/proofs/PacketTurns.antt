@@ -17,16 +17,16 @@ use Rattle.dcsctp_machine_agreement.proofs.Growth.{after_effects-append}
 use Rattle.dcsctp_delivery_sending.specs.Log.{Message}
 use Rattle.dcsctp_delivery_sending.specs.Places as places
 use Rattle.dcsctp_delivery_sending.specs.Flushes.{NoData}
-use Rattle.dcsctp_delivery_turns.specs.Actions.{IsOpening, came_by, Begun, IsCall, ResetsNone}
+use Rattle.dcsctp_delivery_turns.specs.Actions.{IsOpening, came_by, Begun, IsCall}
 use Rattle.dcsctp_delivery_turns.specs.Sides.{WasSent}
-use Rattle.dcsctp_delivery_turns.proofs.Addressed.{addressed_tags_are_own}
-use Rattle.dcsctp_delivery_turns.proofs.Tags.{echoes_own}
 use Rattle.dcsctp_delivery_associations.specs.Ends.{Ends, IsOfEnds, NewTag}
 use Rattle.dcsctp_delivery_associations.specs.Laws.{AreEnds}
 use Rattle.dcsctp_delivery_associations.specs.Reads.{Read, reads_after}
-use Rattle.dcsctp_delivery_associations.proofs.ReceiverTurns.{receiver_turns}
 use Rattle.dcsctp_delivery_sockets.specs.Echoes.{AllMayFollow, ContentsGo, GoesToMaker}
 use Rattle.dcsctp_delivery_sockets.specs.Packets.{reads_through, AreNewTags}
+use Rattle.dcsctp_delivery_turns.proofs.Tags.{echoes_own}
+use Rattle.dcsctp_delivery_turns.proofs.Addressed.{addressed_tags_are_own}
+use Rattle.dcsctp_delivery_associations.proofs.ReceiverTurns.{receiver_turns}
 use Rattle.dcsctp_delivery_sockets.proofs.Packets.{of_ends, TagIs, MayHandle, was_sent, tag_stays, not_opening, own_is, init_ack_tag}
 
 pub begin_core : (e : Endpoint) (core : Core) (has : Bool) (o : Outcome) → BeginTurn e core has o → o.after.core ≡ e.core
@@ -70,20 +70,20 @@ module _ (options : Options) (e : Endpoint) (queued : List Message) (past : List
 
   one_turn : (d : Endpoint) (their_past : List Effect) (reads : List Read) (input : Input) (t : Turned) → (h : Have d their_past reads) → IsTurn d input t → SameOptions options d.options
       → ((begun : Begun d t.outcome) → IsOpening (came_by t.input) → link_in t.outcome.after.core ≡ Some (link_of begun.my begun.held) → NewTag their_past past (link_of begun.my begun.held))
-      → ((transfer : Transfer) (link : Link) → d.below.transfer ≡ Some transfer → link_in d.core ≡ Some link → WasSent (h.ends.sends link.my.tag).sent (came_by input)) → IsCall input → ResetsNone d t.outcome
+      → ((transfer : Transfer) (link : Link) → d.below.transfer ≡ Some transfer → link_in d.core ≡ Some link → WasSent (h.ends.sends link.my.tag).sent (came_by input)) → IsCall input
       → Have t.outcome.after (after_effects t.outcome.effects their_past) (reads_after d t.input reads)
-  one_turn d their_past reads input t h turn same new sent may none =
+  one_turn d their_past reads input t h turn same new sent may =
       subst (λ (i : Input). Have t.outcome.after (after_effects t.outcome.effects their_past) (reads_after d i reads)) (sym turn.is)
-      (receiver_turns options h.ends e queued past packets d their_past reads h.between few same input t.outcome (λ begun opening linked. new begun (subst (λ (i : Input). IsOpening (came_by i)) (sym turn.is) opening) linked) sent may none turn.comes)
+      (receiver_turns options h.ends e queued past packets d their_past reads h.between few same input t.outcome (λ begun opening linked. new begun (subst (λ (i : Input). IsOpening (came_by i)) (sym turn.is) opening) linked) sent may turn.comes)
 
   chunk_turn : (d : Endpoint) (their_past : List Effect) (reads : List Read) (tag : ℕ) (content : Content) (t : Turned) → Have d their_past reads → IsTurn d (chunk_input tag content) t → SameOptions options d.options
-      → ((begun : Begun d t.outcome) → IsOpening (came_by t.input) → link_in t.outcome.after.core ≡ Some (link_of begun.my begun.held) → NewTag their_past past (link_of begun.my begun.held)) → ResetsNone d t.outcome → MayHandle emission d content
+      → ((begun : Begun d t.outcome) → IsOpening (came_by t.input) → link_in t.outcome.after.core ≡ Some (link_of begun.my begun.held) → NewTag their_past past (link_of begun.my begun.held)) → MayHandle emission d content
       → Have t.outcome.after (after_effects t.outcome.effects their_past) (reads_after d t.input reads)
-  chunk_turn d their_past reads tag content t h turn same new none may =
+  chunk_turn d their_past reads tag content t h turn same new may =
       one_turn d their_past reads (chunk_input tag content) t h turn same new
       (λ transfer link there linked.
       (let c = h.between.receiver.current transfer there in
-      was_sent h.ends emission (of_ends h.ends emission packets h.between.sender.all_sent has) d link linked (λ zero. c.had.some (own_link c.link link c.linked linked ∙ zero)) content may)) tt none
+      was_sent h.ends emission (of_ends h.ends emission packets h.between.sender.all_sent has) d link linked (λ zero. c.had.some (own_link c.link link c.linked linked ∙ zero)) content may)) tt
     where
       own_link : (one two : Link) → link_in d.core ≡ Some one → link_in d.core ≡ Some two → one.my.tag ≡ two.my.tag
       own_link one two first second = (let same' : one ≡ two = cc in ap (λ (l : Link). l.my.tag) same')
@@ -95,7 +95,7 @@ module _ (options : Options) (e : Endpoint) (queued : List Message) (past : List
   ends_go : (d : Endpoint) (their_past : List Effect) (reads : List Read) (turns : List Turned) → Have d their_past reads → AreNewTags options their_past past d turns → Turns d (packet_ends ∷ []) turns → Leave d their_past reads turns
   ends_go d their_past reads [] h new taken = absurd taken
   ends_go d their_past reads (t ∷ []) h new taken =
-      then_others d their_past reads t [] (one_turn d their_past reads packet_ends t h taken.0 new.0 new.1 (λ transfer link there linked. tt) tt new.2)
+      then_others d their_past reads t [] (one_turn d their_past reads packet_ends t h taken.0 new.0 new.1 (λ transfer link there linked. tt) tt)
   ends_go d their_past reads (t ∷ other ∷ turns) h new taken = absurd taken.1
 
   tail_goes : (d : Endpoint) (their_past : List Effect) (reads : List Read) (tail : List Input) (turns : List Turned) → Have d their_past reads → AreNewTags options their_past past d turns → IsTail tail → Turns d tail turns
@@ -116,10 +116,10 @@ module _ (options : Options) (e : Endpoint) (queued : List Message) (past : List
   first_may d content contents (inl none) = inl none.0
   first_may d content contents (inr (follow, all, tag)) = inr (all content (inl refl), tag)
 
-  rest_may : (d : Endpoint) (content : Content) (contents : List Content) (tag : ℕ) (t : Turned) → ResetsNone d t.outcome → IsTurn d (chunk_input tag content) t → MayGo d (content ∷ contents) → MayGo t.outcome.after contents
-  rest_may d content contents tag t resets turn (inl none) = inl none.1
-  rest_may d content contents tag t resets turn (inr (follow, all, is)) =
-      inr (follow.1, (λ c h. all c (inr h)), tag_stays emission.packet.tag d (chunk_input tag content) t.outcome (not_opening content follow.0) tt resets is turn.comes)
+  rest_may : (d : Endpoint) (content : Content) (contents : List Content) (tag : ℕ) (t : Turned) → IsTurn d (chunk_input tag content) t → MayGo d (content ∷ contents) → MayGo t.outcome.after contents
+  rest_may d content contents tag t turn (inl none) = inl none.1
+  rest_may d content contents tag t turn (inr (follow, all, is)) =
+      inr (follow.1, (λ c h. all c (inr h)), tag_stays emission.packet.tag d (chunk_input tag content) t.outcome (not_opening content follow.0) tt is turn.comes)
 
   after_chunk : (following : Following) (d : Endpoint) (their_past : List Effect) (reads : List Read) (tail : List Input) (turns : List Turned) (More : Type 0) → Have d their_past reads → AreNewTags options their_past past d turns
       → IsTail tail → (More → Leave d their_past reads turns) → AfterChunk following More (Turns d tail turns) (turns ≡ []) → Leave d their_past reads turns
@@ -132,34 +132,34 @@ module _ (options : Options) (e : Endpoint) (queued : List Message) (past : List
   chunks_go [] d their_past reads tag tail turns h new is may taken = tail_goes d their_past reads tail turns h new is taken
   chunks_go (content ∷ contents) d their_past reads tag tail [] h new is may taken = absurd taken
   chunks_go (content ∷ contents) d their_past reads tag tail (t ∷ turns) h new is may taken =
-      let first = chunk_turn d their_past reads tag content t h taken.0 new.0 new.1 new.2 (first_may d content contents may) in
+      let first = chunk_turn d their_past reads tag content t h taken.0 new.0 new.1 (first_may d content contents may) in
       then_others d their_past reads t turns
-      (after_chunk t.outcome.following t.outcome.after (after_effects t.outcome.effects their_past) (reads_after d t.input reads) tail turns (ChunkTurns t.outcome.after tag contents tail turns) first new.3 is
-      (λ more. chunks_go contents t.outcome.after (after_effects t.outcome.effects their_past) (reads_after d t.input reads) tag tail turns first new.3 is (rest_may d content contents tag t new.2 taken.0 may) more) taken.1)
+      (after_chunk t.outcome.following t.outcome.after (after_effects t.outcome.effects their_past) (reads_after d t.input reads) tail turns (ChunkTurns t.outcome.after tag contents tail turns) first new.2 is
+      (λ more. chunks_go contents t.outcome.after (after_effects t.outcome.effects their_past) (reads_after d t.input reads) tag tail turns first new.2 is (rest_may d content contents tag t taken.0 may) more) taken.1)
 
   -- ---- the first chunk
 
   -- the tag of the association after the first chunk, if more is handled
   front_tag : (d : Endpoint) (content : Content) (contents : List Content) (t : Turned) → IsTurn d (chunk_input emission.packet.tag content) t → ContentsGo emission.packet.tag (content ∷ contents)
-      → (is_echo_in_front (content ∷ contents) ≡ false → own_tag d.core ≡ emission.packet.tag) → ResetsNone d t.outcome → t.outcome.following ≡ next_chunk → TagIs emission.packet.tag t.outcome.after
-  front_tag d (cookie_echo bytes) contents t turn go own resets next =
+      → (is_echo_in_front (content ∷ contents) ≡ false → own_tag d.core ≡ emission.packet.tag) → t.outcome.following ≡ next_chunk → TagIs emission.packet.tag t.outcome.after
+  front_tag d (cookie_echo bytes) contents t turn go own next =
       own_is t.outcome.after.core emission.packet.tag (echoes_own d emission.packet.tag bytes go.0.cookie t.outcome go.0.reads go.0.under turn.comes next)
-  front_tag d (init_ack theirs cookie) contents t turn go own resets next = init_ack_tag emission.packet.tag d theirs cookie t.outcome (own refl) turn.comes
-  front_tag d (init introduction) contents t turn go own resets next = tag_stays emission.packet.tag d (chunk_input emission.packet.tag (init introduction)) t.outcome (λ opening. opening) tt resets (own_is d.core emission.packet.tag (own refl)) turn.comes
-  front_tag d cookie_ack contents t turn go own resets next = tag_stays emission.packet.tag d (chunk_input emission.packet.tag cookie_ack) t.outcome (λ opening. opening) tt resets (own_is d.core emission.packet.tag (own refl)) turn.comes
-  front_tag d (re_config p) contents t turn go own resets next = tag_stays emission.packet.tag d (chunk_input emission.packet.tag (re_config p)) t.outcome (λ opening. opening) tt resets (own_is d.core emission.packet.tag (own refl)) turn.comes
-  front_tag d (abort r c) contents t turn go own resets next = tag_stays emission.packet.tag d (chunk_input emission.packet.tag (abort r c)) t.outcome (λ opening. opening) tt resets (own_is d.core emission.packet.tag (own refl)) turn.comes
-  front_tag d (shutdown tsn) contents t turn go own resets next = tag_stays emission.packet.tag d (chunk_input emission.packet.tag (shutdown tsn)) t.outcome (λ opening. opening) tt resets (own_is d.core emission.packet.tag (own refl)) turn.comes
-  front_tag d shutdown_ack contents t turn go own resets next = tag_stays emission.packet.tag d (chunk_input emission.packet.tag shutdown_ack) t.outcome (λ opening. opening) tt resets (own_is d.core emission.packet.tag (own refl)) turn.comes
-  front_tag d (shutdown_complete r) contents t turn go own resets next = tag_stays emission.packet.tag d (chunk_input emission.packet.tag (shutdown_complete r)) t.outcome (λ opening. opening) tt resets (own_is d.core emission.packet.tag (own refl)) turn.comes
-  front_tag d (plain chunk) contents t turn go own resets next = tag_stays emission.packet.tag d (chunk_input emission.packet.tag (plain chunk)) t.outcome (λ opening. opening) tt resets (own_is d.core emission.packet.tag (own refl)) turn.comes
+  front_tag d (init_ack theirs cookie) contents t turn go own next = init_ack_tag emission.packet.tag d theirs cookie t.outcome (own refl) turn.comes
+  front_tag d (init introduction) contents t turn go own next = tag_stays emission.packet.tag d (chunk_input emission.packet.tag (init introduction)) t.outcome (λ opening. opening) tt (own_is d.core emission.packet.tag (own refl)) turn.comes
+  front_tag d cookie_ack contents t turn go own next = tag_stays emission.packet.tag d (chunk_input emission.packet.tag cookie_ack) t.outcome (λ opening. opening) tt (own_is d.core emission.packet.tag (own refl)) turn.comes
+  front_tag d (re_config p) contents t turn go own next = tag_stays emission.packet.tag d (chunk_input emission.packet.tag (re_config p)) t.outcome (λ opening. opening) tt (own_is d.core emission.packet.tag (own refl)) turn.comes
+  front_tag d (abort r c) contents t turn go own next = tag_stays emission.packet.tag d (chunk_input emission.packet.tag (abort r c)) t.outcome (λ opening. opening) tt (own_is d.core emission.packet.tag (own refl)) turn.comes
+  front_tag d (shutdown tsn) contents t turn go own next = tag_stays emission.packet.tag d (chunk_input emission.packet.tag (shutdown tsn)) t.outcome (λ opening. opening) tt (own_is d.core emission.packet.tag (own refl)) turn.comes
+  front_tag d shutdown_ack contents t turn go own next = tag_stays emission.packet.tag d (chunk_input emission.packet.tag shutdown_ack) t.outcome (λ opening. opening) tt (own_is d.core emission.packet.tag (own refl)) turn.comes
+  front_tag d (shutdown_complete r) contents t turn go own next = tag_stays emission.packet.tag d (chunk_input emission.packet.tag (shutdown_complete r)) t.outcome (λ opening. opening) tt (own_is d.core emission.packet.tag (own refl)) turn.comes
+  front_tag d (plain chunk) contents t turn go own next = tag_stays emission.packet.tag d (chunk_input emission.packet.tag (plain chunk)) t.outcome (λ opening. opening) tt (own_is d.core emission.packet.tag (own refl)) turn.comes
 
   front_may : (d : Endpoint) (content : Content) (contents : List Content) → emission.packet.contents ≡ content ∷ contents → (is_echo_in_front (content ∷ contents) ≡ false → own_tag d.core ≡ emission.packet.tag) → MayHandle emission d content
   front_may d (cookie_echo bytes) contents is own = inl tt
   front_may d (init introduction) contents is own = inl tt
   front_may d (init_ack theirs cookie) contents is own = inl tt
   front_may d cookie_ack contents is own = inl tt
-  front_may d (re_config p) contents is own = inl tt
+  front_may d (re_config p) contents is own = inr (subst (λ (l : List Content). places.Has (re_config p) l) (sym is) (inl refl), own_is d.core emission.packet.tag (own refl))
   front_may d (abort r c) contents is own = inl tt
   front_may d (shutdown tsn) contents is own = inl tt
   front_may d shutdown_ack contents is own = inl tt
@@ -174,16 +174,16 @@ module _ (options : Options) (e : Endpoint) (queued : List Message) (past : List
   tagged_go [] is d their_past reads turns h new go own taken = ends_go d their_past reads turns h new taken
   tagged_go (content ∷ contents) is d their_past reads [] h new go own taken = absurd taken
   tagged_go (content ∷ contents) is d their_past reads (t ∷ turns) h new go own taken =
-      let first = chunk_turn d their_past reads emission.packet.tag content t h taken.0 new.0 new.1 new.2 (front_may d content contents is own) in
+      let first = chunk_turn d their_past reads emission.packet.tag content t h taken.0 new.0 new.1 (front_may d content contents is own) in
       then_others d their_past reads t turns (more t.outcome.following refl first taken.1)
     where
       more : (following : Following) → t.outcome.following ≡ following → Have t.outcome.after (after_effects t.outcome.effects their_past) (reads_after d t.input reads)
           → AfterChunk following (ChunkTurns t.outcome.after emission.packet.tag contents (packet_ends ∷ []) turns) (Turns t.outcome.after (packet_ends ∷ []) turns) (turns ≡ [])
           → Leave t.outcome.after (after_effects t.outcome.effects their_past) (reads_after d t.input reads) turns
       more next_chunk next first rest =
-          chunks_go contents t.outcome.after (after_effects t.outcome.effects their_past) (reads_after d t.input reads) emission.packet.tag (packet_ends ∷ []) turns first new.3 (inr refl)
-          (inr (go.1, (λ c has'. subst (λ (l : List Content). places.Has c l) (sym is) (inr has')), front_tag d content contents t taken.0 go own new.2 next)) rest
-      more packet_end next first rest = ends_go t.outcome.after (after_effects t.outcome.effects their_past) (reads_after d t.input reads) turns first new.3 rest
+          chunks_go contents t.outcome.after (after_effects t.outcome.effects their_past) (reads_after d t.input reads) emission.packet.tag (packet_ends ∷ []) turns first new.2 (inr refl)
+          (inr (go.1, (λ c has'. subst (λ (l : List Content). places.Has c l) (sym is) (inr has')), front_tag d content contents t taken.0 go own next)) rest
+      more packet_end next first rest = ends_go t.outcome.after (after_effects t.outcome.effects their_past) (reads_after d t.input reads) turns first new.2 rest
       more dropped_rest next first none =
           subst (λ (ts : List Turned). Leave t.outcome.after (after_effects t.outcome.effects their_past) (reads_after d t.input reads) ts) (sym none) first
 
@@ -194,22 +194,22 @@ module _ (options : Options) (e : Endpoint) (queued : List Message) (past : List
   unfolding IsTail
   whole_goes d their_past reads [] h new go admitted taken = absurd taken
   whole_goes d their_past reads (begun ∷ turns) h new go admitted taken =
-      let first = one_turn d their_past reads (packet_begins emission.packet.contents) begun h taken.0 new.0 new.1 (λ transfer link there linked. tt) tt new.2 in
+      let first = one_turn d their_past reads (packet_begins emission.packet.contents) begun h taken.0 new.0 new.1 (λ transfer link there linked. tt) tt in
       then_others d their_past reads begun turns (by_data first first.ends (of_ends first.ends emission packets first.between.sender.all_sent has))
     where
       by_data : Have begun.outcome.after (after_effects begun.outcome.effects their_past) (reads_after d begun.input reads) → (table : Ends) → IsOfEnds table emission
           → Leave begun.outcome.after (after_effects begun.outcome.effects their_past) (reads_after d begun.input reads) turns
       by_data first table (inl none) =
-          chunks_go emission.packet.contents begun.outcome.after (after_effects begun.outcome.effects their_past) (reads_after d begun.input reads) emission.packet.tag (packet_ends ∷ []) turns first new.3 (inr refl) (inl none) taken.1
+          chunks_go emission.packet.contents begun.outcome.after (after_effects begun.outcome.effects their_past) (reads_after d begun.input reads) emission.packet.tag (packet_ends ∷ []) turns first new.2 (inr refl) (inl none) taken.1
       by_data first table (inr (free, was)) =
-          tagged_go emission.packet.contents refl begun.outcome.after (after_effects begun.outcome.effects their_past) (reads_after d begun.input reads) turns first new.3 go
+          tagged_go emission.packet.contents refl begun.outcome.after (after_effects begun.outcome.effects their_past) (reads_after d begun.input reads) turns first new.2 go
           (λ front. ap own_tag (begin_core d d.core (has_data emission.packet.contents) begun.outcome taken.0.comes) ∙ sym (addressed_tags_are_own d.core emission.packet free front admitted)) taken.1
 
   refused_go : (d : Endpoint) (their_past : List Effect) (reads : List Read) (text : List ℕ) (turns : List Turned) → Have d their_past reads → AreNewTags options their_past past d turns → Turns d (refusal text ∷ []) turns
       → Leave d their_past reads turns
   refused_go d their_past reads text [] h new taken = absurd taken
   refused_go d their_past reads text (t ∷ []) h new taken =
-      then_others d their_past reads t [] (one_turn d their_past reads (refusal text) t h taken.0 new.0 new.1 (λ transfer link there linked. tt) tt new.2)
+      then_others d their_past reads t [] (one_turn d their_past reads (refusal text) t h taken.0 new.0 new.1 (λ transfer link there linked. tt) tt)
   refused_go d their_past reads text (t ∷ other ∷ turns) h new taken = absurd taken.1
 
   pub packet_goes : (d : Endpoint) (their_past : List Effect) (reads : List Read) (turns : List Turned) → Have d their_past reads → AreNewTags options their_past past d turns

@@ -7,18 +7,19 @@ use Rattle.dcsctp_machine.specs.declared.word.Word.TheVariants.{U64}
 use Rattle.dcsctp_machine.specs.Endpoint.{Endpoint, Core, closed, cookie_wait, cookie_echoed, open_in, own_tag}
 use Rattle.dcsctp_machine.specs.Outcome.{Outcome, quiet, fits}
 use Rattle.dcsctp_machine.specs.Packet.{Introduction, Content, init, init_ack, cookie_echo, cookie_ack, re_config, abort, shutdown, shutdown_ack, shutdown_complete, unknown, heartbeat, heartbeat_ack, unworked, plain, Emission}
+use Rattle.dcsctp_machine.specs.Reconfiguration.{ResetParameter}
 use Rattle.dcsctp_machine.specs.control.Effect.{Link, link_of, link_in}
 use Rattle.dcsctp_machine.specs.turns.FlushOutcomes.{Answer, flush_answered}
 use Rattle.dcsctp_machine.specs.turns.HandshakeOutcomes.{echo_emission, EchoAnswers, awaits_cookie_ack, InitAckAnswers, init_ack_by, InitAckTurn}
 use Rattle.dcsctp_machine.specs.Turn.{Input, Turn}
 use Rattle.dcsctp_delivery_sending.specs.Places as places
-use Rattle.dcsctp_delivery_sending.specs.Flushes.{NoContent, NoData}
-use Rattle.dcsctp_delivery_turns.specs.Actions.{came_by, IsOpening, Becomes, goes_on, ends, begins, IsCall, ResetsNone}
-use Rattle.dcsctp_delivery_turns.specs.Sides.{WasIn, WasSent}
-use Rattle.dcsctp_delivery_turns.proofs.Tags.{flush_link}
-use Rattle.dcsctp_delivery_turns.proofs.Turns.{turns_are_actions}
+use Rattle.dcsctp_delivery_sending.specs.Flushes.{NoRequests, NoContent, NoData}
+use Rattle.dcsctp_delivery_turns.specs.Actions.{came_by, IsOpening, Becomes, goes_on, works_resets, ends, begins, IsCall}
+use Rattle.dcsctp_delivery_turns.specs.Sides.{WasIn, WasAsked, WasSent}
 use Rattle.dcsctp_delivery_associations.specs.Ends.{Ends, IsOfEnds, AreOfEnds}
 use Rattle.dcsctp_delivery_sockets.specs.Echoes.{MayFollow}
+use Rattle.dcsctp_delivery_turns.proofs.Tags.{flush_link}
+use Rattle.dcsctp_delivery_turns.proofs.Turns.{turns_are_actions}
 
 -- ---- what was sent
 
@@ -36,7 +37,7 @@ no_content content (c ∷ contents) none (inr h) = no_content content contents n
 abbrev pub TagIs : ℕ → Endpoint → Type 0
 TagIs tag e = (link : Link) → link_in e.core ≡ Some link → link.my.tag ≡ tag
 
--- The chunk has no data; or it is of this packet, which has the tag of the association.
+-- The chunk has no data and asks for no reset of streams; or it is of this packet, which has the tag of the association.
 abbrev pub MayHandle : Emission → Endpoint → Content → Type 0
 MayHandle emission e content = NoContent content ⊎ (places.Has content emission.packet.contents × TagIs emission.packet.tag e)
 
@@ -49,6 +50,16 @@ module _ (table : Ends) (emission : Emission) (is : IsOfEnds table emission) (e 
       go (inl none) = absurd (bears (no_content (plain (unworked chunk)) emission.packet.contents none has))
       go (inr (free, inl zero)) = absurd (some (tag link linked ∙ zero))
       go (inr (free, inr was)) = record { emission = emission; was = subst (λ (t : ℕ). places.Has emission (table.sends t).sent) (sym (tag link linked)) was; holds = has }
+
+  -- So was what asks for a reset of streams.
+  was_asked : (parameters : List ResetParameter) → MayHandle emission e (re_config parameters) → NoRequests parameters ⊎ WasAsked (table.sends link.my.tag).sent parameters
+  was_asked parameters (inl none) = inl none
+  was_asked parameters (inr (has, tag)) = go is
+    where
+      go : IsOfEnds table emission → NoRequests parameters ⊎ WasAsked (table.sends link.my.tag).sent parameters
+      go (inl none) = inl (no_content (re_config parameters) emission.packet.contents none has)
+      go (inr (free, inl zero)) = absurd (some (tag link linked ∙ zero))
+      go (inr (free, inr was)) = inr (record { emission = emission; was = subst (λ (t : ℕ). places.Has emission (table.sends t).sent) (sym (tag link linked)) was; holds = has })
 
   pub was_sent : (content : Content) → MayHandle emission e content → WasSent (table.sends link.my.tag).sent (Some content)
   was_sent (plain (unworked (data_chunk chunk))) may = was_in (data_chunk chunk) (λ none. none) may
@@ -76,7 +87,7 @@ module _ (table : Ends) (emission : Emission) (is : IsOfEnds table emission) (e 
   was_sent (init_ack c k) may = tt
   was_sent (cookie_echo c) may = tt
   was_sent cookie_ack may = tt
-  was_sent (re_config c) may = tt
+  was_sent (re_config parameters) may = was_asked parameters may
   was_sent (abort t c) may = tt
   was_sent (shutdown c) may = tt
   was_sent shutdown_ack may = tt
@@ -85,13 +96,14 @@ module _ (table : Ends) (emission : Emission) (is : IsOfEnds table emission) (e 
 -- ---- the tag of the association, chunk by chunk
 
 by_becomes : {to : ℕ} {adds : _} {taken : _} (tag : ℕ) (e : Endpoint) (came : Option Content) (o : Outcome) → (IsOpening came → ⊥) → TagIs tag e → Becomes came to adds taken e o → TagIs tag o.after
-by_becomes tag e came o not is (goes_on linked makes) = λ link there. is link (sym linked ∙ there)
+by_becomes tag e came o not is (goes_on calm linked makes) = λ link there. is link (sym linked ∙ there)
+by_becomes tag e came o not is (works_resets linked between worked ended peer makes) = λ link there. is link (sym linked ∙ there)
 by_becomes tag e came o not is (ends none unread last makes below) = λ link there. (let clash : ◌≡◌ {A = Option Link} None (Some link) = sym none ∙ there in absurd (cc))
-by_becomes tag e came o not is (begins begun opening linked alike unread makes) = absurd (not opening)
+by_becomes tag e came o not is (begins begun opening linked alike unread again makes) = absurd (not opening)
 
 -- A chunk that begins no association leaves its tag.
-pub tag_stays : (tag : ℕ) (e : Endpoint) (input : Input) (o : Outcome) → (IsOpening (came_by input) → ⊥) → IsCall input → ResetsNone e o → TagIs tag e → Turn e input o → TagIs tag o.after
-tag_stays tag e input o not may none is turn = by_becomes tag e (came_by input) o not is (turns_are_actions e input o may none turn)
+pub tag_stays : (tag : ℕ) (e : Endpoint) (input : Input) (o : Outcome) → (IsOpening (came_by input) → ⊥) → IsCall input → TagIs tag e → Turn e input o → TagIs tag o.after
+tag_stays tag e input o not may is turn = by_becomes tag e (came_by input) o not is (turns_are_actions e input o may turn)
 
 pub not_opening : (content : Content) → MayFollow content → IsOpening (Some content) → ⊥
 not_opening (init introduction) may opening = opening

@@ -106,7 +106,7 @@ module _ (mine theirs : Options) (turns others more : List Turned) (h : Stand mi
     (own : SameOptions theirs (endpoint_after theirs others).options) (little : SendsLittle mine turns) where
   their_tags : AllOpenFitting more → AreNewTags theirs (noted_past others) (noted_past turns) (endpoint_after theirs others) more
   their_tags opens =
-      new_tags theirs (noted_past turns) more (noted_past others) (endpoint_after theirs others) own (rest_keeps theirs others more known) (rest_numbers theirs others more known) opens (subst (Each IsOfNewTags) (past_more others more) known.tags)
+      new_tags theirs (noted_past turns) more (noted_past others) (endpoint_after theirs others) own (rest_keeps theirs others more known) opens (subst (Each IsOfNewTags) (past_more others more) known.tags)
       (subst (λ (p : List Effect). MatchByTags p (noted_past turns)) (past_more others more) (matched_swapped (noted_past turns) (noted_past (others ++ more)) matched))
 
   now_stands : AreEnds theirs (endpoint_after mine turns) (queued_of mine turns) (noted_past turns) (packets_of turns) (after_all (endpoint_after theirs others) more) (after_effects (effects_of more) (noted_past others))

@@ -13,7 +13,7 @@ use Rattle.dcsctp_machine.specs.control.Effect.{Link, Effect, holds}
 use Rattle.dcsctp_machine.specs.transfer.Messages.{MessageContent}
 use Rattle.dcsctp_machine_refinement.specs.Agreement.{AreUsable, AreFresh, noted_past}
 use Rattle.dcsctp_delivery_sending.specs.ChunkCounts.{chunks_to}
-use Rattle.dcsctp_delivery_turns.specs.Actions.{ResetsNone}
+use Rattle.dcsctp_delivery_associations.specs.Laws.{ResetsNone}
 use Rattle.dcsctp_delivery_sockets.specs.UserMessages.{sent_of, read_of, IsDelivered}
 
 -- ---- messages in memory

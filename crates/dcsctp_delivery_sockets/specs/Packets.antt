@@ -10,7 +10,7 @@ use Rattle.dcsctp_machine.specs.World.{after_effects}
 use Rattle.dcsctp_machine.specs.control.Effect.{Effect, link_of, link_in}
 use Rattle.dcsctp_delivery_sending.specs.Log.{Message}
 use Rattle.dcsctp_delivery_sending.specs.Places as places
-use Rattle.dcsctp_delivery_turns.specs.Actions.{came_by, IsOpening, Begun, ResetsNone}
+use Rattle.dcsctp_delivery_turns.specs.Actions.{came_by, IsOpening, Begun}
 use Rattle.dcsctp_delivery_associations.specs.Ends.{Ends, NewTag, Between}
 use Rattle.dcsctp_delivery_associations.specs.Laws.{AreEnds}
 use Rattle.dcsctp_delivery_associations.specs.Reads.{Read, reads_after}
@@ -22,12 +22,10 @@ reads_through e [] reads = reads
 reads_through e (turn ∷ turns) reads = reads_through turn.outcome.after turns (reads_after e turn.input reads)
 
 -- Each turn starts with these options, and an association that begins in it is of a new tag, and of the matching one at the other side.
--- With interleaving no own reset is performed in it.
 abbrev pub AreNewTags : Options → List Effect → List Effect → Endpoint → List Turned → Type 0
 AreNewTags options their_past past e [] = Unit {0}
 AreNewTags options their_past past e (turn ∷ turns) =
     SameOptions options e.options × ((begun : Begun e turn.outcome) → IsOpening (came_by turn.input) → link_in turn.outcome.after.core ≡ Some (link_of begun.my begun.held) → NewTag their_past past (link_of begun.my begun.held))
-    × ResetsNone e turn.outcome
     × AreNewTags options (after_effects turn.outcome.effects their_past) past turn.outcome.after turns
 
 -- The chunks of a packet that the sender sent leave what is known of all associations.

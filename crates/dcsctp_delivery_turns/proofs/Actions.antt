@@ -14,18 +14,25 @@ use Rattle.dcsctp_machine.specs.turns.EndOutcomes.{ended_outcome, end_of}
 use Rattle.dcsctp_machine.specs.turns.FlushOutcomes.{Answer, FlushAnswers, flush_of}
 use Rattle.dcsctp_machine_refinement.proofs.Bursts.{packets_in-append, emits_core}
 use Rattle.dcsctp_delivery_sending.specs.Log.{Message}
-use Rattle.dcsctp_delivery_turns.specs.Actions.{Ledger, ledger_of, Action, flushes, speaks, Actions, nothing, further, NoEnd, Makes, Becomes, ends}
+use Rattle.dcsctp_delivery_sending.specs.Flushes.{NoData, begun_by}
+use Rattle.dcsctp_delivery_directions.specs.Directions.{Asking, asking_with}
+use Rattle.dcsctp_delivery_turns.specs.Asking.{AsksFit}
+use Rattle.dcsctp_delivery_turns.specs.Actions.{Ledger, ledger_of, Action, flushes, speaks, Actions, nothing, further, NoEnd, Inside, inside, Made, Makes, Becomes, ends}
 use Rattle.dcsctp_machine.specs.control.Effect.{link_in}
-use Rattle.dcsctp_delivery_sending.specs.Flushes.{NoData}
 use Rattle.dcsctp_delivery_turns.specs.Tags.{IsPeerTag}
+use Rattle.dcsctp_delivery_turns.proofs.Begun.{grows_then, grows_not, grows_by, flush_fits}
 
 -- where nothing is queued or read
 abbrev pub Goes : Option Content → ℕ → Endpoint → Outcome → Type 0
 Goes came to e o = Becomes came to (λ queued. queued) (λ read. read) e o
 
--- the outcome that goes on from what is below
-abbrev pub MakesTo : Option Content → ℕ → Below → Outcome → Type 0
-MakesTo came to old o = Makes came to old (packets_in o.events) o.after.below
+-- the outcome that goes on from what is inside
+abbrev pub MakesTo : Option Content → ℕ → Inside → Outcome → Type 0
+MakesTo came to old o = Makes came to old (packets_in o.events) (inside o.after)
+
+-- the same, with this below it
+abbrev pub with_inside : Below → Inside → Inside
+with_inside below old = record old { below = below }
 
 -- a packet leaves the association
 pub emits_link : (e : Endpoint) (words : List Word) (emission : Emission) → link_in (emits e words emission).after.core ≡ link_in e.core
@@ -36,49 +43,86 @@ module _ (came : Option Content) (to : ℕ) where
   joined old between _ first nothing = first
   joined old between new first (further middle _ second last) = further middle new (joined old between middle first second) last
 
-  pub both : (old between new : Below) (packets later : List Emission) → Makes came to old packets between → Makes came to between later new → Makes came to old (packets ++ later) new
-  both old between new packets later first second = λ queued sent read.
-      subst (λ (s : List Emission). Actions came to (ledger_of queued old sent read) (ledger_of queued new s read)) (append_assoc sent packets later)
-      (joined (ledger_of queued old sent read) (ledger_of queued between (sent ++ packets) read) (ledger_of queued new ((sent ++ packets) ++ later) read) (first queued sent read) (second queued (sent ++ packets) read))
+  pub both : (old between new : Inside) (packets later : List Emission) → Makes came to old packets between → Makes came to between later new → Makes came to old (packets ++ later) new
+  both old between new packets later first second = λ queued sent read tsn asking fit.
+      let one : Made came to (ledger_of queued old.below sent read asking) tsn between queued (sent ++ packets) read = first queued sent read tsn asking fit in
+      let two : Made came to (ledger_of queued between.below (sent ++ packets) read one.asking) tsn new queued ((sent ++ packets) ++ later) read = second queued (sent ++ packets) read tsn one.asking one.fits in
+      subst (λ (s : List Emission). Made came to (ledger_of queued old.below sent read asking) tsn new queued s read) (append_assoc sent packets later)
+      (record {
+        asking = two.asking;
+        grows = grows_then asking one.asking two.asking one.grows two.grows;
+        fits = two.fits;
+        actions = joined (ledger_of queued old.below sent read asking) (ledger_of queued between.below (sent ++ packets) read one.asking) (ledger_of queued new.below ((sent ++ packets) ++ later) read two.asking) one.actions two.actions;
+      })
+
+  -- actions without a packet that begin no request
+  pub made_of : (old : Inside) (new : Below) (queued later : List Message) (sent : List Emission) (read taken : List MessageContent) (tsn : ℕ) (asking : Asking) → AsksFit tsn old.own asking
+      → Actions came to (ledger_of queued old.below sent read asking) (ledger_of later new sent taken asking)
+      → Made came to (ledger_of queued old.below sent read asking) tsn (with_inside new old) later (sent ++ []) taken
+  made_of old new queued later sent read taken tsn asking fit does =
+      subst (λ (s : List Emission). Made came to (ledger_of queued old.below sent read asking) tsn (with_inside new old) later s taken) (sym (append-nil sent))
+      (record { asking = asking; grows = grows_not asking; fits = fit; actions = does })
 
   -- one action without a packet
-  pub action_of : (old new : Below) → ((queued : List Message) (sent : List Emission) (read : List MessageContent) → Action came to (ledger_of queued old sent read) (ledger_of queued new sent read)) → Makes came to old [] new
-  action_of old new does = λ queued sent read.
-      subst (λ (s : List Emission). Actions came to (ledger_of queued old sent read) (ledger_of queued new s read)) (sym (append-nil sent))
-      (further (ledger_of queued old sent read) (ledger_of queued new sent read) nothing (does queued sent read))
+  pub action_of : (old : Inside) (new : Below)
+      → ((queued : List Message) (sent : List Emission) (read : List MessageContent) (asking : Asking) → Action came to (ledger_of queued old.below sent read asking) (ledger_of queued new sent read asking))
+      → Makes came to old [] (with_inside new old)
+  action_of old new does = λ queued sent read tsn asking fit.
+      made_of old new queued queued sent read read tsn asking fit
+      (further (ledger_of queued old.below sent read asking) (ledger_of queued new sent read asking) nothing (does queued sent read asking))
 
-  pub rests : (old : Below) → Makes came to old [] old
-  rests old = λ queued sent read. subst (λ (s : List Emission). Actions came to (ledger_of queued old sent read) (ledger_of queued old s read)) (sym (append-nil sent)) nothing
+  -- one action with a packet
+  pub emission_of : (old : Inside) (new : Below) (emission : Emission)
+      → ((queued : List Message) (sent : List Emission) (read : List MessageContent) (tsn : ℕ) (asking : Asking) → AsksFit tsn old.own asking
+      → Action came to (ledger_of queued old.below sent read asking) (ledger_of queued new (sent ++ emission ∷ []) read asking))
+      → Makes came to old (emission ∷ []) (with_inside new old)
+  emission_of old new emission does = λ queued sent read tsn asking fit.
+      record {
+        asking = asking;
+        grows = grows_not asking;
+        fits = fit;
+        actions = further (ledger_of queued old.below sent read asking) (ledger_of queued new (sent ++ emission ∷ []) read asking) nothing (does queued sent read tsn asking fit);
+      }
 
-  pub silent : (old : Below) (packets : List Emission) → packets ≡ [] → Makes came to old packets old
+  pub rests : (old : Inside) → Makes came to old [] old
+  rests old = λ queued sent read tsn asking fit. made_of old old.below queued queued sent read read tsn asking fit nothing
+
+  pub silent : (old : Inside) (packets : List Emission) → packets ≡ [] → Makes came to old packets old
   silent old packets none = subst (λ (l : List Emission). Makes came to old l old) (sym none) (rests old)
 
-  pub spoken : (old : Below) (emission : Emission) → NoData emission.packet.contents → Makes came to old (emission ∷ []) old
-  spoken old emission no_data = λ queued sent read.
-      further (ledger_of queued old sent read) (ledger_of queued old (sent ++ emission ∷ []) read) nothing (speaks emission no_data)
+  pub spoken : (old : Inside) (emission : Emission) → NoData emission.packet.contents → Makes came to old (emission ∷ []) old
+  spoken old emission no_data = emission_of old old.below emission (λ queued sent read tsn asking fit. speaks emission no_data)
 
-  pub flushed : (e : Endpoint) (draft : Emission) (answers : List Answer) → IsPeerTag e.core to → draft.packet.tag ≡ to → NoData draft.packet.contents → NoEnd draft.packet.contents → FlushAnswers e draft answers → MakesTo came to e.below (flush_of e draft answers)
-  flushed e draft answers at same no_data no_end allowed = λ queued sent read.
-      further (ledger_of queued e.below sent read) (ledger_of queued (flush_of e draft answers).after.below (sent ++ packets_in (flush_of e draft answers).events) read) nothing (flushes e draft answers refl at same no_data no_end allowed)
+  pub flushed : (e : Endpoint) (draft : Emission) (answers : List Answer) → IsPeerTag e.core to → draft.packet.tag ≡ to → NoData draft.packet.contents → NoEnd draft.packet.contents → FlushAnswers e draft answers → MakesTo came to (inside e) (flush_of e draft answers)
+  flushed e draft answers at same no_data no_end allowed = λ queued sent read tsn asking fit.
+      record {
+        asking = asking_with (begun_by answers) asking;
+        grows = grows_by (begun_by answers) asking;
+        fits = flush_fits tsn e draft answers asking allowed fit;
+        actions =
+            further (ledger_of queued e.below sent read asking)
+            (ledger_of queued (flush_of e draft answers).after.below (sent ++ packets_in (flush_of e draft answers).events) read (asking_with (begun_by answers) asking)) nothing
+            (flushes e draft answers refl at same no_data no_end allowed);
+      }
 
   -- a packet, if it fits
-  pub packet_if : (b : Bool) (e : Endpoint) (words : List Word) (emission : Emission) → NoData emission.packet.contents → MakesTo came to e.below (cond b (sends e words [] emission) (quiet e words []))
-  packet_if true e words emission no_data = spoken e.below emission no_data
-  packet_if false e words emission no_data = rests e.below
+  pub packet_if : (b : Bool) (e : Endpoint) (words : List Word) (emission : Emission) → Makes came to (inside e) (emission ∷ []) (inside e) → MakesTo came to (inside e) (cond b (sends e words [] emission) (quiet e words []))
+  packet_if true e words emission makes = makes
+  packet_if false e words emission makes = rests (inside e)
 
-  pub emitted : (e : Endpoint) (words : List Word) (emission : Emission) → NoData emission.packet.contents → MakesTo came to e.below (emits e words emission)
-  emitted e words emission no_data = packet_if (fits e emission) e words emission no_data
+  pub emitted : (e : Endpoint) (words : List Word) (emission : Emission) → NoData emission.packet.contents → MakesTo came to (inside e) (emits e words emission)
+  emitted e words emission no_data = packet_if (fits e emission) e words emission (spoken (inside e) emission no_data)
 
   -- after events without a packet
-  pub makes_behind : (old : Below) (words : List Word) (events : List (Event Emission)) (o : Outcome) → packets_in events ≡ [] → MakesTo came to old o → MakesTo came to old (behind words events o)
+  pub makes_behind : (old : Inside) (words : List Word) (events : List (Event Emission)) (o : Outcome) → packets_in events ≡ [] → MakesTo came to old o → MakesTo came to old (behind words events o)
   makes_behind old words events o none makes =
-      subst (λ (l : List Emission). Makes came to old l o.after.below) (sym (packets_in-append events o.events ∙ ap (λ (l : List Emission). l ++ packets_in o.events) none)) makes
+      subst (λ (l : List Emission). Makes came to old l (inside o.after)) (sym (packets_in-append events o.events ∙ ap (λ (l : List Emission). l ++ packets_in o.events) none)) makes
 
   -- an end after this
-  pub ended : (e : Endpoint) (before : Outcome) (event : Event Emission) → packets_in (event ∷ []) ≡ [] → MakesTo came to e.below before → Goes came to e (ended_outcome before event)
+  pub ended : (e : Endpoint) (before : Outcome) (event : Event Emission) → packets_in (event ∷ []) ≡ [] → MakesTo came to (inside e) before → Goes came to e (ended_outcome before event)
   ended e before event none makes =
-      ends refl (λ read. refl) before.after.below
-      (subst (λ (l : List Emission). Makes came to e.below l before.after.below)
+      ends refl (λ read. refl) (inside before.after)
+      (subst (λ (l : List Emission). Makes came to (inside e) l (inside before.after))
       (sym (packets_in-append before.events (event ∷ []) ∙ ap (λ (l : List Emission). packets_in before.events ++ l) none ∙ append-nil (packets_in before.events))) makes)
       refl
 

@@ -9,7 +9,7 @@ use Rattle.dcsctp_machine.specs.control.Choices.{plain_contents}
 use Rattle.dcsctp_machine.specs.turns.BegunResets.{BegunReset, request_contents}
 use Rattle.dcsctp_machine.specs.turns.FlushOutcomes.{Told, told_event, Answer, answer_contents, filled, goes_out, asked, next_draft, flush_of, Ask, first_ask, later_ask, Answers, at_limit, at_empty, after_packet, packets_allowed}
 use Rattle.dcsctp_machine_refinement.proofs.Bursts.{packets_in-append, told_none}
-use Rattle.dcsctp_delivery_turns.specs.Actions.{Ledger, NoEnd, Action, queues, sets, prepares, commits, rolls_back, flushes, resends, resends_nothing, speaks, acknowledges, loses, receives, receives_interleaved, forwards, forwards_interleaved, tracks, defers, resets, takes, Actions, nothing, further}
+use Rattle.dcsctp_delivery_turns.specs.Actions.{Ledger, NoEnd, Action, queues, sets, prepares, flushes, resends, resends_nothing, speaks, asks_again, acknowledges, loses, receives, receives_interleaved, forwards, forwards_interleaved, tracks, takes, Actions, nothing, further}
 use Rattle.dcsctp_delivery_turns.specs.Addressed.{AreAddressed}
 use Rattle.dcsctp_delivery_turns.specs.Tags.{AllTo, IsPeerTag}
 use Rattle.dcsctp_delivery_turns.proofs.Tags.{flushes_to, tags_own}
@@ -94,8 +94,6 @@ action_addressed : (came : Option Content) (to : ℕ) (old new : Ledger) → Are
 action_addressed came to old _ addressed (queues now sending fits some) = addressed
 action_addressed came to old _ addressed (sets setting) = addressed
 action_addressed came to old _ addressed (prepares ids) = addressed
-action_addressed came to old _ addressed (commits go_on) = addressed
-action_addressed came to old _ addressed rolls_back = addressed
 action_addressed came to old _ addressed (flushes e draft answers same at tag no_data no_end allowed) =
     both_addressed to old.sent (packets_in (flush_of e draft answers).events) addressed
     (flushed_addressed to (packets_in (flush_of e draft answers).events)
@@ -105,6 +103,8 @@ action_addressed came to old _ addressed (resends now room transfer left tsns ch
     both_addressed to old.sent (emission ∷ []) addressed (inr (tag, subst NoEnd (sym contents) (plain_no_end chunks)), tt)
 action_addressed came to old _ addressed (resends_nothing now room transfer left tsns known sends) = addressed
 action_addressed came to old _ addressed (speaks emission no_data) = both_addressed to old.sent (emission ∷ []) addressed (inl no_data, tt)
+action_addressed came to old _ addressed (asks_again emission begun tag known contents) =
+    both_addressed to old.sent (emission ∷ []) addressed (inr (tag, subst NoEnd (sym contents) tt), tt)
 action_addressed came to old _ addressed (acknowledges now sack transfer new known valid does) = addressed
 action_addressed came to old _ addressed (loses now transfer known) = addressed
 action_addressed came to old _ addressed (receives chunk transfer new is some known does) = addressed
@@ -112,8 +112,6 @@ action_addressed came to old _ addressed (receives_interleaved chunk transfer ne
 action_addressed came to old _ addressed (forwards tsn streams transfer new is known does) = addressed
 action_addressed came to old _ addressed (forwards_interleaved tsn streams transfer new is known does) = addressed
 action_addressed came to old _ addressed (tracks transfer tracked known cumulative ranges) = addressed
-action_addressed came to old _ addressed (defers transfer last_tsn streams known) = addressed
-action_addressed came to old _ addressed (resets transfer streams new known leaves) = addressed
 action_addressed came to old _ addressed (takes transfer message messages known ready) = addressed
 
 pub data_goes_to_peer : (came : Option Content) (to : ℕ) (old new : Ledger) → AreAddressed to old.sent → Actions came to old new → AreAddressed to new.sent

@@ -22,6 +22,7 @@ use Rattle.dcsctp_machine.specs.turns.MessageOutcomes.{MessageRefusal, refusal_e
 use Rattle.dcsctp_machine.proofs.SendEventLemmas.{told_prepared}
 use Rattle.dcsctp_machine_refinement.proofs.Bursts.{packets_in-append, told_none}
 use Rattle.dcsctp_delivery_turns.specs.Actions.{NoEnd}
+use Rattle.dcsctp_delivery_turns.specs.Asking.{own_of}
 use Rattle.dcsctp_delivery_turns.specs.Tags.{IsPeerTag}
 use Rattle.dcsctp_delivery_sending.specs.Flushes.{NoData}
 
@@ -87,6 +88,15 @@ queue_one_core e sending (Some refusal) = refl
 pub queue_all_core : (e : Endpoint) (sendings : List Sending) → (queue_all e sendings).after.core ≡ e.core
 queue_all_core e [] = refl
 queue_all_core e (sending ∷ sendings) = queue_all_core (queue_one e sending).after sendings ∙ queue_one_core e sending (sending_refusal e sending)
+
+-- What is kept of the own requests stays.
+queue_one_own : (e : Endpoint) (sending : Sending) (refusal : Option MessageRefusal) → own_of (queue_by e sending refusal).after ≡ own_of e
+queue_one_own e sending None = refl
+queue_one_own e sending (Some refusal) = refl
+
+pub queue_all_own : (e : Endpoint) (sendings : List Sending) → own_of (queue_all e sendings).after ≡ own_of e
+queue_all_own e [] = refl
+queue_all_own e (sending ∷ sendings) = queue_all_own (queue_one e sending).after sendings ∙ queue_one_own e sending (sending_refusal e sending)
 
 pub sack_no_end : (b : Bool) (sack : SackContent) → NoEnd (plain_contents (if b then unworked (sack_chunk sack) ∷ [] else []))
 sack_no_end true sack = tt

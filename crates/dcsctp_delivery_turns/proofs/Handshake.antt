@@ -12,7 +12,7 @@ use Rattle.dcsctp_machine.specs.Event.{Event, packets_in, connected, connection_
 use Rattle.dcsctp_machine.specs.transfer.SendQueue.{restarted, numbered_for}
 use Rattle.dcsctp_machine.specs.Packet.{Introduction, Content, cookie_echo, shutdown_ack, Emission}
 use Rattle.dcsctp_machine.specs.Endpoint.{Endpoint, Core, closed, cookie_wait, cookie_echoed, open_in, established, shutdown_pending, shutdown_sent, shutdown_received, shutdown_ack_sent}
-use Rattle.dcsctp_machine.specs.Outcome.{quiet, emits, fits, to_peer}
+use Rattle.dcsctp_machine.specs.Outcome.{Outcome, quiet, emits, fits, to_peer}
 use Rattle.dcsctp_machine.specs.turns.FlushOutcomes.{Answer, draft_to, flush_of, flush_answered}
 use Rattle.dcsctp_machine.specs.turns.EndOutcomes.{abort_outcome, aborting_outcome, abort_to, end_of}
 use Rattle.dcsctp_machine.specs.turns.HandoverOutcomes.{hand_over_outcome}
@@ -24,7 +24,10 @@ use Rattle.dcsctp_machine.specs.control.HandshakeChanges.{held_by_init_ack}
 use Rattle.std.proofs.lemmas.Bool.{eqb-true}
 use Rattle.dcsctp_delivery_turns.specs.Tags.{IsPeerTag}
 use Rattle.dcsctp_machine.specs.control.Effect.{link_in}
-use Rattle.dcsctp_delivery_turns.specs.Actions.{IsOpening, goes_on, ends, begins}
+use Rattle.dcsctp_delivery_turns.specs.Actions.{IsOpening, IsCalm, Inside, inside, goes_on, ends, begins}
+use Rattle.dcsctp_delivery_turns.specs.Asking.{Own, own_in, own_of}
+use Rattle.dcsctp_machine.specs.transfer.Transfer.{Below}
+use Rattle.dcsctp_machine.specs.turns.ReconfigurationOutcomes.{reset_again}
 use Rattle.dcsctp_delivery_turns.proofs.Tags.{flush_link}
 use Rattle.dcsctp_delivery_turns.proofs.Actions.{Goes, MakesTo, emits_link, rests, spoken, emitted, flushed, makes_behind, ended, end_silent}
 
@@ -37,31 +40,39 @@ is_the_peer false true tie false e = absurd (cc)
 is_the_peer false false true zero e = absurd (cc)
 is_the_peer false false false zero e = absurd (cc)
 
-module _ (came : Option Content) (to : ℕ) where
+module _ (came : Option Content) (calm : IsCalm came) (to : ℕ) where
   -- ---- the handshake
 
+  -- the same from another endpoint that has the same inside
+  from_own : (e base : Endpoint) (o : Outcome) → base.below ≡ e.below → own_of e ≡ own_of base → MakesTo came to (inside base) o → MakesTo came to (inside e) o
+  from_own e base o same is makes =
+      subst (λ (i : Inside). MakesTo came to i o)
+      (ap (λ (b : Below). record { below = b; own = own_of base }) same ∙ ap (λ (own : Option Own). record { below = e.below; own = own }) (sym is)) makes
+
   pub init_goes : (e : Endpoint) (theirs : Introduction) (core : Core) (word next : ℕ) → Goes came to e (init_outcome e theirs core word next)
-  init_goes e theirs closed word next = goes_on (emits_link e (U32 word ∷ U32 next ∷ []) (init_ack_emission e theirs (pair_from word next) 0)) (emitted came to e (U32 word ∷ U32 next ∷ []) (init_ack_emission e theirs (pair_from word next) 0) (tt, tt))
-  init_goes e theirs (cookie_wait my) word next = goes_on (emits_link e [] (init_ack_emission e theirs my 0)) (emitted came to e [] (init_ack_emission e theirs my 0) (tt, tt))
-  init_goes e theirs (cookie_echoed my held cookie) word next = goes_on (emits_link e [] (init_ack_emission e theirs my 0)) (emitted came to e [] (init_ack_emission e theirs my 0) (tt, tt))
-  init_goes e theirs (open_in established my held) word next = goes_on (emits_link e (U32 word ∷ []) (init_ack_emission e theirs (renewed_pair e word) e.tie)) (emitted came to e (U32 word ∷ []) (init_ack_emission e theirs (renewed_pair e word) e.tie) (tt, tt))
-  init_goes e theirs (open_in shutdown_pending my held) word next = goes_on (emits_link e (U32 word ∷ []) (init_ack_emission e theirs (renewed_pair e word) e.tie)) (emitted came to e (U32 word ∷ []) (init_ack_emission e theirs (renewed_pair e word) e.tie) (tt, tt))
-  init_goes e theirs (open_in shutdown_sent my held) word next = goes_on (emits_link e (U32 word ∷ []) (init_ack_emission e theirs (renewed_pair e word) e.tie)) (emitted came to e (U32 word ∷ []) (init_ack_emission e theirs (renewed_pair e word) e.tie) (tt, tt))
-  init_goes e theirs (open_in shutdown_received my held) word next = goes_on (emits_link e (U32 word ∷ []) (init_ack_emission e theirs (renewed_pair e word) e.tie)) (emitted came to e (U32 word ∷ []) (init_ack_emission e theirs (renewed_pair e word) e.tie) (tt, tt))
-  init_goes e theirs (open_in shutdown_ack_sent my held) word next = goes_on (emits_link e [] (to_peer held shutdown_ack)) (emitted came to e [] (to_peer held shutdown_ack) (tt, tt))
+  init_goes e theirs closed word next = goes_on calm (emits_link e (U32 word ∷ U32 next ∷ []) (init_ack_emission e theirs (pair_from word next) 0)) (emitted came to e (U32 word ∷ U32 next ∷ []) (init_ack_emission e theirs (pair_from word next) 0) (tt, tt))
+  init_goes e theirs (cookie_wait my) word next = goes_on calm (emits_link e [] (init_ack_emission e theirs my 0)) (emitted came to e [] (init_ack_emission e theirs my 0) (tt, tt))
+  init_goes e theirs (cookie_echoed my held cookie) word next = goes_on calm (emits_link e [] (init_ack_emission e theirs my 0)) (emitted came to e [] (init_ack_emission e theirs my 0) (tt, tt))
+  init_goes e theirs (open_in established my held) word next = goes_on calm (emits_link e (U32 word ∷ []) (init_ack_emission e theirs (renewed_pair e word) e.tie)) (emitted came to e (U32 word ∷ []) (init_ack_emission e theirs (renewed_pair e word) e.tie) (tt, tt))
+  init_goes e theirs (open_in shutdown_pending my held) word next = goes_on calm (emits_link e (U32 word ∷ []) (init_ack_emission e theirs (renewed_pair e word) e.tie)) (emitted came to e (U32 word ∷ []) (init_ack_emission e theirs (renewed_pair e word) e.tie) (tt, tt))
+  init_goes e theirs (open_in shutdown_sent my held) word next = goes_on calm (emits_link e (U32 word ∷ []) (init_ack_emission e theirs (renewed_pair e word) e.tie)) (emitted came to e (U32 word ∷ []) (init_ack_emission e theirs (renewed_pair e word) e.tie) (tt, tt))
+  init_goes e theirs (open_in shutdown_received my held) word next = goes_on calm (emits_link e (U32 word ∷ []) (init_ack_emission e theirs (renewed_pair e word) e.tie)) (emitted came to e (U32 word ∷ []) (init_ack_emission e theirs (renewed_pair e word) e.tie) (tt, tt))
+  init_goes e theirs (open_in shutdown_ack_sent my held) word next = goes_on calm (emits_link e [] (to_peer held shutdown_ack)) (emitted came to e [] (to_peer held shutdown_ack) (tt, tt))
 
   pub connect_goes : (e : Endpoint) (core : Core) (word next : ℕ) → e.core ≡ core → Goes came to e (connect_outcome e core word next)
   connect_goes e closed word next at =
-      goes_on (emits_link (awaits_init_ack e (pair_from word next)) (U32 word ∷ U32 next ∷ []) (init_emission e (pair_from word next)) ∙ sym (ap link_in at))
-      (emitted came to (awaits_init_ack e (pair_from word next)) (U32 word ∷ U32 next ∷ []) (init_emission e (pair_from word next)) (tt, tt))
-  connect_goes e (cookie_wait my) word next at = goes_on refl (rests came to e.below)
-  connect_goes e (cookie_echoed my held cookie) word next at = goes_on refl (rests came to e.below)
-  connect_goes e (open_in phase my held) word next at = goes_on refl (rests came to e.below)
+      let awaiting : Endpoint = awaits_init_ack e (pair_from word next) in
+      goes_on calm (emits_link awaiting (U32 word ∷ U32 next ∷ []) (init_emission e (pair_from word next)) ∙ sym (ap link_in at))
+      (from_own e awaiting (emits awaiting (U32 word ∷ U32 next ∷ []) (init_emission e (pair_from word next))) refl (ap (λ (c : Core). own_in c e.outstanding) at)
+      (emitted came to awaiting (U32 word ∷ U32 next ∷ []) (init_emission e (pair_from word next)) (tt, tt)))
+  connect_goes e (cookie_wait my) word next at = goes_on calm refl (rests came to (inside e))
+  connect_goes e (cookie_echoed my held cookie) word next at = goes_on calm refl (rests came to (inside e))
+  connect_goes e (open_in phase my held) word next at = goes_on calm refl (rests came to (inside e))
 
   echoed_makes : (b : Bool) (e : Endpoint) (words : List Word) (tag : ℕ) (cookie : List ℕ) (answers : List Answer) → IsPeerTag e.core tag → EchoAnswers b e tag cookie answers
-      → MakesTo came tag e.below (cond b (flush_answered answers e words [] true tag (cookie_echo cookie ∷ [])) (quiet e words []))
+      → MakesTo came tag (inside e) (cond b (flush_answered answers e words [] true tag (cookie_echo cookie ∷ [])) (quiet e words []))
   echoed_makes true e words tag cookie answers at allowed = flushed came tag e (echo_emission tag cookie) answers at refl (tt, tt) tt allowed
-  echoed_makes false e words tag cookie answers at allowed = rests came tag e.below
+  echoed_makes false e words tag cookie answers at allowed = rests came tag (inside e)
 
   echoed_link : (b : Bool) (e : Endpoint) (words : List Word) (tag : ℕ) (cookie : List ℕ) (answers : List Answer) → EchoAnswers b e tag cookie answers
       → link_in (cond b (flush_answered answers e words [] true tag (cookie_echo cookie ∷ [])) (quiet e words [])).after.core ≡ link_in e.core
@@ -81,20 +92,22 @@ module _ (came : Option Content) (to : ℕ) where
         noted = refl;
         queue = numbered_for (held_by_init_ack e.options my theirs).capabilities.message_interleaving (restarted e.below.queue);
         keeps = inr refl;
-      }) opening (echoed_link (fits awaiting (echo_emission theirs.pair.tag cookie)) awaiting (U64 word ∷ []) theirs.pair.tag cookie answers allowed) (λ queued. refl) (λ read. refl) (echoed_makes (fits awaiting (echo_emission theirs.pair.tag cookie)) awaiting (U64 word ∷ []) theirs.pair.tag cookie answers refl allowed)
+      }) opening (echoed_link (fits awaiting (echo_emission theirs.pair.tag cookie)) awaiting (U64 word ∷ []) theirs.pair.tag cookie answers allowed) (λ queued. refl) (λ read. refl) (reset_again None) (echoed_makes (fits awaiting (echo_emission theirs.pair.tag cookie)) awaiting (U64 word ∷ []) theirs.pair.tag cookie answers refl allowed)
 
   pub init_ack_goes : IsOpening came → (e : Endpoint) (theirs : Introduction) (cookie : Option (List ℕ)) (core : Core) (word : ℕ) (answers : List Answer) → InitAckAnswers e theirs cookie core word answers
       → Goes came to e (init_ack_by (flush_answered answers) e theirs cookie core word)
-  init_ack_goes opening e theirs cookie closed word answers allowed = goes_on refl (rests came to e.below)
+  init_ack_goes opening e theirs cookie closed word answers allowed = goes_on calm refl (rests came to (inside e))
   init_ack_goes opening e theirs cookie (cookie_wait my) word answers allowed = accepted_goes opening e my theirs cookie word answers allowed
-  init_ack_goes opening e theirs cookie (cookie_echoed my held echoed) word answers allowed = goes_on refl (rests came to e.below)
-  init_ack_goes opening e theirs cookie (open_in phase my held) word answers allowed = goes_on refl (rests came to e.below)
+  init_ack_goes opening e theirs cookie (cookie_echoed my held echoed) word answers allowed = goes_on calm refl (rests came to (inside e))
+  init_ack_goes opening e theirs cookie (open_in phase my held) word answers allowed = goes_on calm refl (rests came to (inside e))
 
   pub cookie_ack_goes : (e : Endpoint) (core : Core) (answers : List Answer) → e.core ≡ core → IsPeerTag core to → CookieAckAnswers e core answers → Goes came to e (cookie_ack_by (flush_answered answers) e core)
-  cookie_ack_goes e closed answers same is allowed = goes_on refl (rests came to e.below)
-  cookie_ack_goes e (cookie_wait my) answers same is allowed = goes_on refl (rests came to e.below)
-  cookie_ack_goes e (cookie_echoed my held cookie) answers same is allowed = goes_on (flush_link (connected_after e my held) (draft_to held) answers allowed ∙ sym (ap link_in same)) (flushed came to (connected_after e my held) (draft_to held) answers is is tt tt allowed)
-  cookie_ack_goes e (open_in phase my held) answers same is allowed = goes_on refl (rests came to e.below)
+  cookie_ack_goes e closed answers same is allowed = goes_on calm refl (rests came to (inside e))
+  cookie_ack_goes e (cookie_wait my) answers same is allowed = goes_on calm refl (rests came to (inside e))
+  cookie_ack_goes e (cookie_echoed my held cookie) answers same is allowed = goes_on calm (flush_link (connected_after e my held) (draft_to held) answers allowed ∙ sym (ap link_in same))
+      (from_own e (connected_after e my held) (flush_of (connected_after e my held) (draft_to held) answers) refl (ap (λ (c : Core). own_in c e.outstanding) same)
+      (flushed came to (connected_after e my held) (draft_to held) answers is is tt tt allowed))
+  cookie_ack_goes e (open_in phase my held) answers same is allowed = goes_on calm refl (rests came to (inside e))
 
   -- ---- COOKIE ECHO
 
@@ -109,7 +122,7 @@ module _ (came : Option Content) (to : ℕ) where
         noted = refl;
         queue = queue_kept e cookie;
         keeps = inl refl;
-      }) opening (flush_link (established_by e cookie (queue_kept e cookie) tie) (acknowledgement (held_by_cookie e.options cookie) cookie) answers allowed) (λ queued. refl) (λ read. refl) (flushed came cookie.addressee.tag (established_by e cookie (queue_kept e cookie) tie) (acknowledgement (held_by_cookie e.options cookie) cookie) answers refl refl (tt, tt) tt allowed)
+      }) opening (flush_link (established_by e cookie (queue_kept e cookie) tie) (acknowledgement (held_by_cookie e.options cookie) cookie) answers allowed) (λ queued. refl) (λ read. refl) (reset_again None) (flushed came cookie.addressee.tag (established_by e cookie (queue_kept e cookie) tie) (acknowledgement (held_by_cookie e.options cookie) cookie) answers refl refl (tt, tt) tt allowed)
 
   anew_goes : IsOpening came → (e : Endpoint) (cookie : Cookie) (tie : ℕ) (told : List (Event Emission)) (answers : List Answer) → packets_in told ≡ [] → EstablishAnswers e cookie (queue_begun e cookie) tie answers
       → Goes came to e (establish_by (flush_answered answers) e cookie (queue_begun e cookie) tie told)
@@ -122,7 +135,7 @@ module _ (came : Option Content) (to : ℕ) where
         noted = refl;
         queue = queue_begun e cookie;
         keeps = inr refl;
-      }) opening (flush_link (established_by e cookie (queue_begun e cookie) tie) (acknowledgement (held_by_cookie e.options cookie) cookie) answers allowed) (λ queued. refl) (λ read. refl) (makes_behind came cookie.addressee.tag _ (U64 tie ∷ []) told (flush_of (established_by e cookie (queue_begun e cookie) tie) (acknowledgement (held_by_cookie e.options cookie) cookie) answers) none
+      }) opening (flush_link (established_by e cookie (queue_begun e cookie) tie) (acknowledgement (held_by_cookie e.options cookie) cookie) answers allowed) (λ queued. refl) (λ read. refl) (reset_again None) (makes_behind came cookie.addressee.tag (inside (established_by e cookie (queue_begun e cookie) tie)) (U64 tie ∷ []) told (flush_of (established_by e cookie (queue_begun e cookie) tie) (acknowledgement (held_by_cookie e.options cookie) cookie) answers) none
       (flushed came cookie.addressee.tag (established_by e cookie (queue_begun e cookie) tie) (acknowledgement (held_by_cookie e.options cookie) cookie) answers refl refl (tt, tt) tt allowed))
 
   restarted_goes : IsOpening came → (e : Endpoint) (cookie : Cookie) (tie : ℕ) (core : Core) (answers : List Answer) → RestartAnswers e cookie tie core answers
@@ -134,50 +147,52 @@ module _ (came : Option Content) (to : ℕ) where
   restarted_goes opening e cookie tie (open_in shutdown_pending my held) answers allowed = anew_goes opening e cookie tie (connection_restarted ∷ connected ∷ []) answers refl allowed
   restarted_goes opening e cookie tie (open_in shutdown_sent my held) answers allowed = anew_goes opening e cookie tie (connection_restarted ∷ connected ∷ []) answers refl allowed
   restarted_goes opening e cookie tie (open_in shutdown_received my held) answers allowed = anew_goes opening e cookie tie (connection_restarted ∷ connected ∷ []) answers refl allowed
-  restarted_goes opening e cookie tie (open_in shutdown_ack_sent my held) answers allowed = goes_on refl (spoken came to e.below (shutting_down_emission held) (tt, (tt, tt)))
+  restarted_goes opening e cookie tie (open_in shutdown_ack_sent my held) answers allowed = goes_on calm refl (spoken came to (inside e) (shutting_down_emission held) (tt, (tt, tt)))
 
   maintained_goes : (e : Endpoint) (cookie : Cookie) (header : ℕ) (core : Core) (answers : List Answer) → e.core ≡ core → IsPeerTag e.core to → IsPeerTag core to → resolve core e.tie header cookie ≡ maintain_existing → MaintainAnswers e cookie core answers → Goes came to e (maintain_by (flush_answered answers) e cookie core)
-  maintained_goes e cookie header closed answers same at is resolved allowed = goes_on refl (rests came to e.below)
-  maintained_goes e cookie header (cookie_wait my) answers same at is resolved allowed = goes_on refl (rests came to e.below)
-  maintained_goes e cookie header (cookie_echoed my held echoed) answers same at is resolved allowed = goes_on (flush_link (connected_after e my held) (acknowledgement held cookie) answers allowed ∙ sym (ap link_in same)) (flushed came to (connected_after e my held) (acknowledgement held cookie) answers is (eqb-true cookie.addressee.tag held.peer.tag (is_the_peer (header == my.tag) (cookie.addressee.tag == held.peer.tag) (cookie.tie == e.tie) (cookie.tie == 0) resolved) ∙ is) (tt, tt) tt allowed)
-  maintained_goes e cookie header (open_in phase my held) answers same at is resolved allowed = goes_on (flush_link e (acknowledgement held cookie) answers allowed) (flushed came to e (acknowledgement held cookie) answers at (eqb-true cookie.addressee.tag held.peer.tag (is_the_peer (header == my.tag) (cookie.addressee.tag == held.peer.tag) (cookie.tie == e.tie) (cookie.tie == 0) resolved) ∙ is) (tt, tt) tt allowed)
+  maintained_goes e cookie header closed answers same at is resolved allowed = goes_on calm refl (rests came to (inside e))
+  maintained_goes e cookie header (cookie_wait my) answers same at is resolved allowed = goes_on calm refl (rests came to (inside e))
+  maintained_goes e cookie header (cookie_echoed my held echoed) answers same at is resolved allowed = goes_on calm (flush_link (connected_after e my held) (acknowledgement held cookie) answers allowed ∙ sym (ap link_in same))
+      (from_own e (connected_after e my held) (flush_of (connected_after e my held) (acknowledgement held cookie) answers) refl (ap (λ (c : Core). own_in c e.outstanding) same)
+      (flushed came to (connected_after e my held) (acknowledgement held cookie) answers is (eqb-true cookie.addressee.tag held.peer.tag (is_the_peer (header == my.tag) (cookie.addressee.tag == held.peer.tag) (cookie.tie == e.tie) (cookie.tie == 0) resolved) ∙ is) (tt, tt) tt allowed))
+  maintained_goes e cookie header (open_in phase my held) answers same at is resolved allowed = goes_on calm (flush_link e (acknowledgement held cookie) answers allowed) (flushed came to e (acknowledgement held cookie) answers at (eqb-true cookie.addressee.tag held.peer.tag (is_the_peer (header == my.tag) (cookie.addressee.tag == held.peer.tag) (cookie.tie == e.tie) (cookie.tie == 0) resolved) ∙ is) (tt, tt) tt allowed)
 
   resolved_goes : IsOpening came → (e : Endpoint) (cookie : Cookie) (header : ℕ) (core : Core) (word : ℕ) (old : Bool) (resolution : Resolution) (answers : List Answer) → e.core ≡ core → IsPeerTag e.core to → IsPeerTag core to → aged old (resolve core e.tie header cookie) ≡ resolution → ResolvedAnswers e cookie core word resolution answers
       → Goes came to e (resolved_by (flush_answered answers) e cookie core word resolution)
   resolved_goes opening e cookie header core word old establish_new answers same at is resolved allowed = kept_goes opening e cookie word answers allowed
   resolved_goes opening e cookie header core word old restart answers same at is resolved allowed = restarted_goes opening e cookie word core answers allowed
   resolved_goes opening e cookie header core word old simultaneous_init answers same at is resolved allowed = anew_goes opening e cookie word (connected ∷ []) answers refl allowed
-  resolved_goes opening e cookie header core word old discard answers same at is resolved allowed = goes_on refl (rests came to e.below)
+  resolved_goes opening e cookie header core word old discard answers same at is resolved allowed = goes_on calm refl (rests came to (inside e))
   resolved_goes opening e cookie header core word old maintain_existing answers same at is resolved allowed = maintained_goes e cookie header core answers same at is (kept_by_age old (resolve core e.tie header cookie) resolved) allowed
-  resolved_goes opening e cookie header core word old invalid_tag answers same at is resolved allowed = goes_on refl (rests came to e.below)
-  resolved_goes opening e cookie header core word old stale answers same at is resolved allowed = goes_on refl (rests came to e.below)
+  resolved_goes opening e cookie header core word old invalid_tag answers same at is resolved allowed = goes_on calm refl (rests came to (inside e))
+  resolved_goes opening e cookie header core word old stale answers same at is resolved allowed = goes_on calm refl (rests came to (inside e))
 
   pub echo_goes : IsOpening came → (e : Endpoint) (core : Core) (header : ℕ) (found : Result Cookie (List ℕ)) (word : ℕ) (answers : List Answer) → e.core ≡ core → IsPeerTag e.core to → IsPeerTag core to → EchoedAnswers e core header found word answers
       → Goes came to e (cookie_echo_by (flush_answered answers) e core header found word)
-  echo_goes opening e core header (Err text) word answers same at is allowed = goes_on refl (rests came to e.below)
+  echo_goes opening e core header (Err text) word answers same at is allowed = goes_on calm refl (rests came to (inside e))
   echo_goes opening e core header (Ok cookie) word answers same at is allowed = resolved_goes opening e cookie header core word (is_stale (as_nanos e.options.cookie_lifetime) e.moment cookie) (resolved_now e core header cookie) answers same at is refl allowed
 
   -- ---- ends, and T1
 
   pub abort_goes : (e : Endpoint) (causes : List Cause) (core : Core) → Goes came to e (abort_outcome e causes core)
-  abort_goes e causes closed = goes_on refl (rests came to e.below)
-  abort_goes e causes (cookie_wait my) = goes_on refl (rests came to e.below)
-  abort_goes e causes (cookie_echoed my held cookie) = ends refl (λ read. refl) e.below (rests came to e.below) refl
-  abort_goes e causes (open_in phase my held) = ends refl (λ read. refl) e.below (rests came to e.below) refl
+  abort_goes e causes closed = goes_on calm refl (rests came to (inside e))
+  abort_goes e causes (cookie_wait my) = goes_on calm refl (rests came to (inside e))
+  abort_goes e causes (cookie_echoed my held cookie) = ends refl (λ read. refl) (inside e) (rests came to (inside e)) refl
+  abort_goes e causes (open_in phase my held) = ends refl (λ read. refl) (inside e) (rests came to (inside e)) refl
 
   pub aborting_goes : (e : Endpoint) (core : Core) (reason : AbortReason) → Goes came to e (aborting_outcome e core reason)
-  aborting_goes e closed reason = goes_on refl (rests came to e.below)
-  aborting_goes e (cookie_wait my) reason = ended came to e (quiet e [] []) (end_of reason) (end_silent came to reason) (rests came to e.below)
+  aborting_goes e closed reason = goes_on calm refl (rests came to (inside e))
+  aborting_goes e (cookie_wait my) reason = ended came to e (quiet e [] []) (end_of reason) (end_silent came to reason) (rests came to (inside e))
   aborting_goes e (cookie_echoed my held cookie) reason = ended came to e (emits e [] (abort_to held reason)) (end_of reason) (end_silent came to reason) (emitted came to e [] (abort_to held reason) (tt, tt))
   aborting_goes e (open_in phase my held) reason = ended came to e (emits e [] (abort_to held reason)) (end_of reason) (end_silent came to reason) (emitted came to e [] (abort_to held reason) (tt, tt))
 
-  pub again_goes : (e : Endpoint) (core : Core) (answers : List Answer) → IsPeerTag e.core to → IsPeerTag core to → AgainAnswers e core answers → MakesTo came to e.below (again_by (flush_answered answers) e core)
-  again_goes e closed answers at is allowed = rests came to e.below
+  pub again_goes : (e : Endpoint) (core : Core) (answers : List Answer) → IsPeerTag e.core to → IsPeerTag core to → AgainAnswers e core answers → MakesTo came to (inside e) (again_by (flush_answered answers) e core)
+  again_goes e closed answers at is allowed = rests came to (inside e)
   again_goes e (cookie_wait my) answers at is allowed = emitted came to e [] (init_emission e my) (tt, tt)
   again_goes e (cookie_echoed my held cookie) answers at is allowed =
-      subst (λ (t : ℕ). MakesTo came t e.below (again_by (flush_answered answers) e (cookie_echoed my held cookie))) is
+      subst (λ (t : ℕ). MakesTo came t (inside e) (again_by (flush_answered answers) e (cookie_echoed my held cookie))) is
       (echoed_makes (fits e (echo_emission held.peer.tag cookie)) e [] held.peer.tag cookie answers (subst (λ (t : ℕ). IsPeerTag e.core t) (sym is) at) allowed)
-  again_goes e (open_in phase my held) answers at is allowed = rests came to e.below
+  again_goes e (open_in phase my held) answers at is allowed = rests came to (inside e)
 
   pub again_link : (e : Endpoint) (core : Core) (answers : List Answer) → AgainAnswers e core answers → link_in (again_by (flush_answered answers) e core).after.core ≡ link_in e.core
   again_link e closed answers allowed = refl
@@ -186,17 +201,17 @@ module _ (came : Option Content) (to : ℕ) where
   again_link e (open_in phase my held) answers allowed = refl
 
   pub gives_up_goes : (e : Endpoint) (core : Core) → Goes came to e (t1_gives_up_outcome e core)
-  gives_up_goes e closed = goes_on refl (rests came to e.below)
-  gives_up_goes e (cookie_wait my) = ends refl (λ read. refl) e.below (rests came to e.below) refl
-  gives_up_goes e (cookie_echoed my held cookie) = ends refl (λ read. refl) e.below (rests came to e.below) refl
-  gives_up_goes e (open_in phase my held) = goes_on refl (rests came to e.below)
+  gives_up_goes e closed = goes_on calm refl (rests came to (inside e))
+  gives_up_goes e (cookie_wait my) = ends refl (λ read. refl) (inside e) (rests came to (inside e)) refl
+  gives_up_goes e (cookie_echoed my held cookie) = ends refl (λ read. refl) (inside e) (rests came to (inside e)) refl
+  gives_up_goes e (open_in phase my held) = goes_on calm refl (rests came to (inside e))
 
   pub hand_over_goes : (e : Endpoint) (core : Core) → Goes came to e (hand_over_outcome e core)
-  hand_over_goes e closed = goes_on refl (rests came to e.below)
-  hand_over_goes e (cookie_wait my) = goes_on refl (rests came to e.below)
-  hand_over_goes e (cookie_echoed my held cookie) = goes_on refl (rests came to e.below)
-  hand_over_goes e (open_in established my held) = ends refl (λ read. refl) e.below (rests came to e.below) refl
-  hand_over_goes e (open_in shutdown_pending my held) = goes_on refl (rests came to e.below)
-  hand_over_goes e (open_in shutdown_sent my held) = goes_on refl (rests came to e.below)
-  hand_over_goes e (open_in shutdown_received my held) = goes_on refl (rests came to e.below)
-  hand_over_goes e (open_in shutdown_ack_sent my held) = goes_on refl (rests came to e.below)
+  hand_over_goes e closed = goes_on calm refl (rests came to (inside e))
+  hand_over_goes e (cookie_wait my) = goes_on calm refl (rests came to (inside e))
+  hand_over_goes e (cookie_echoed my held cookie) = goes_on calm refl (rests came to (inside e))
+  hand_over_goes e (open_in established my held) = ends refl (λ read. refl) (inside e) (rests came to (inside e)) refl
+  hand_over_goes e (open_in shutdown_pending my held) = goes_on calm refl (rests came to (inside e))
+  hand_over_goes e (open_in shutdown_sent my held) = goes_on calm refl (rests came to (inside e))
+  hand_over_goes e (open_in shutdown_received my held) = goes_on calm refl (rests came to (inside e))
+  hand_over_goes e (open_in shutdown_ack_sent my held) = goes_on calm refl (rests came to (inside e))

@@ -4,11 +4,11 @@ use Rattle.dcsctp_machine.specs.Endpoint.{Endpoint}
 use Rattle.dcsctp_machine.specs.Packet.{Content, init, init_ack, cookie_echo, cookie_ack, re_config, abort, shutdown, shutdown_ack, shutdown_complete, plain, Emission}
 use Rattle.dcsctp_machine.specs.Turn.{Input, arrival, refusal, packet_begins, chunk_input, packet_ends, act_input, user_sets, user_sends, user_resets, user_takes, timer_expires, time_passes, restores}
 use Rattle.dcsctp_machine.specs.transfer.Transfer.{Transfer, Below}
-use Rattle.dcsctp_delivery_turns.specs.Actions.{Ledger, IsOpening, read_where, Action, queues, sets, prepares, commits, rolls_back, flushes, resends, resends_nothing, speaks, acknowledges, loses, receives, receives_interleaved, forwards, forwards_interleaved, tracks, defers, resets, takes, Actions, nothing, further, read_after}
+use Rattle.dcsctp_delivery_turns.specs.Actions.{Ledger, IsOpening, read_where, Action, queues, sets, prepares, flushes, resends, resends_nothing, speaks, asks_again, acknowledges, loses, receives, receives_interleaved, forwards, forwards_interleaved, tracks, takes, Actions, nothing, further, read_after}
 use Rattle.dcsctp_delivery_turns.specs.Sides.{WasSent}
 use Rattle.dcsctp_machine.specs.transfer.Messages.{MessageContent}
 use Rattle.dcsctp_machine.specs.turns.FlushOutcomes.{Answer, answer_contents, filled, asked, next_draft, Ask, first_ask, later_ask, Answered, AnsweredBelow, Answers, at_limit, at_empty, after_packet, flush_of, packets_allowed}
-use Rattle.dcsctp_delivery_turns.proofs.Sides.{out_below}
+use Rattle.dcsctp_delivery_sending.proofs.Packets.{out_below}
 
 -- A flush without an association leaves none.
 answered_none : (ask : Ask) (e : Endpoint) (draft : Emission) (found : Option Transfer) (answer : Answer) → e.below.transfer ≡ None → found ≡ None → AnsweredBelow ask e draft answer found → answer.after.below.transfer ≡ None
@@ -31,12 +31,11 @@ action_none : (came : Option Content) (to : ℕ) (old new : Ledger) → Action c
 action_none came to old _ (queues now sending fit some) none = none
 action_none came to old _ (sets setting) none = none
 action_none came to old _ (prepares ids) none = none
-action_none came to old _ (commits go_on) none = none
-action_none came to old _ rolls_back none = none
 action_none came to old _ (flushes e draft answers same at tag no_data no_end allowed) none = flush_none first_ask (packets_allowed e.options.max_burst e.core) e draft answers (ap (λ (b : Below). b.transfer) same ∙ none) allowed
 action_none came to old _ (resends now room transfer left tsns chunks emission tag known does are contents) none = absurd (cc)
 action_none came to old _ (resends_nothing now room transfer left tsns known does) none = absurd (cc)
 action_none came to old _ (speaks emission no_data) none = none
+action_none came to old _ (asks_again emission begun tag was contents) none = none
 action_none came to old _ (acknowledges now sack transfer new known valid does) none = absurd (cc)
 action_none came to old _ (loses now transfer known) none = absurd (cc)
 action_none came to old _ (receives chunk transfer new is some known does) none = absurd (cc)
@@ -44,8 +43,6 @@ action_none came to old _ (receives_interleaved chunk transfer new is some known
 action_none came to old _ (forwards tsn streams transfer new is known does) none = absurd (cc)
 action_none came to old _ (forwards_interleaved tsn streams transfer new is known does) none = absurd (cc)
 action_none came to old _ (tracks transfer tracked known cumulative ranges) none = absurd (cc)
-action_none came to old _ (defers transfer last_tsn streams known) none = absurd (cc)
-action_none came to old _ (resets transfer streams new known leaves) none = absurd (cc)
 action_none came to old _ (takes transfer message messages known ready) none = absurd (cc)
 
 pub actions_none : (came : Option Content) (to : ℕ) (old new : Ledger) → Actions came to old new → old.below.transfer ≡ None → new.below.transfer ≡ None

@@ -1,6 +1,6 @@
 -- The turns in which a user resets streams, reads a message or sends some, as actions.
 use Rattle.dcsctp_delivery_turns.specs.Actions as actions
-use Rattle.std.proofs.Common.{◌≡◌, ◌<◌, ◌==◌, ℕ, Bool, true, false, Option, None, Some, List, [], ◌∷◌, ◌++◌, length, refl, sym, ◌∙◌, subst, ap, arith, append-nil}
+use Rattle.std.proofs.Common.{◌≡◌, ◌<◌, ◌==◌, ℕ, Bool, true, false, Option, None, Some, List, [], ◌∷◌, ◌++◌, length, refl, sym, ◌∙◌, subst, ap, arith}
 use Rattle.std.specs.Prelude.{if◌then◌else◌}
 use Rattle.std.specs.List.{AllByRecursion}
 use Rattle.dcsctp_machine.specs.Event.{packets_in}
@@ -16,25 +16,27 @@ use Rattle.dcsctp_machine.specs.turns.MessageOutcomes.{MessageRefusal, empty_pay
 use Rattle.dcsctp_machine.specs.turns.PreparedResets.{ResetRefusal, reset_refusal, with_queue, OwnResetsWhere, OwnResetsTurn}
 use Rattle.dcsctp_machine_refinement.proofs.Bursts.{packets_in-append}
 use Rattle.dcsctp_delivery_sending.specs.Log.{Fits, Message}
-use Rattle.dcsctp_delivery_turns.specs.Actions.{ledger_of, with_below, Actions, nothing, further, Makes, MakesAlso, Becomes, goes_on, queued_where, queued_together, with_first, read_where}
+use Rattle.dcsctp_delivery_turns.specs.Actions.{IsCalm, Inside, inside, ledger_of, with_below, Actions, nothing, further, Made, Makes, MakesAlso, Becomes, goes_on, queued_where, queued_together, with_first, read_where}
 use Rattle.dcsctp_machine.specs.control.Effect.{link_in}
 use Rattle.dcsctp_delivery_turns.specs.Tags.{IsPeerTag}
+use Rattle.dcsctp_delivery_turns.specs.Asking.{Own, AsksFit}
+use Rattle.dcsctp_delivery_directions.specs.Directions.{Asking}
 use Rattle.dcsctp_delivery_sending.specs.Queueing.{message_of}
-use Rattle.dcsctp_delivery_turns.proofs.Actions.{Goes, MakesTo, joined, both, action_of, rests, makes_behind}
-use Rattle.dcsctp_delivery_turns.proofs.Fixed.{prepared_none, queue_all_core, refusal_none}
+use Rattle.dcsctp_delivery_turns.proofs.Actions.{Goes, MakesTo, joined, made_of, both, action_of, rests, makes_behind}
+use Rattle.dcsctp_delivery_turns.proofs.Fixed.{prepared_none, queue_all_core, queue_all_own, refusal_none}
 use Rattle.dcsctp_delivery_turns.proofs.Data.{to_link, turn_link, flush_makes, to_makes}
 
-module _ (came : Option Content) (to : ℕ) where
+module _ (came : Option Content) (calm : IsCalm came) (to : ℕ) where
   -- ---- own streams that the user resets
 
   resets_where_goes : (refusal : Option ResetRefusal) (e : Endpoint) (ids : List ℕ) (o : Outcome) → IsPeerTag e.core to → OwnResetsWhere refusal e ids o → Goes came to e o
   resets_where_goes None e ids o at turn =
       let base : Endpoint = with_queue e (prepared_all ids e.below.queue) in
       subst (Goes came to e) (sym turn.is)
-      (goes_on (turn_link base turn.flushed turn.flushes) (makes_behind came to e.below [] (prepare_all_events ids e.below.queue) turn.flushed (prepared_none ids e.below.queue)
-      (both came to e.below base.below turn.flushed.after.below [] (packets_in turn.flushed.events)
-      (action_of came to e.below base.below (λ queued sent read. actions.prepares ids)) (flush_makes came to base turn.flushed at turn.flushes))))
-  resets_where_goes (Some refusal) e ids o at turn = subst (Goes came to e) (sym turn) (goes_on refl (rests came to e.below))
+      (goes_on calm (turn_link base turn.flushed turn.flushes) (makes_behind came to (inside e) [] (prepare_all_events ids e.below.queue) turn.flushed (prepared_none ids e.below.queue)
+      (both came to (inside e) (inside base) (inside turn.flushed.after) [] (packets_in turn.flushed.events)
+      (action_of came to (inside e) base.below (λ queued sent read asking. actions.prepares ids)) (flush_makes came calm to base turn.flushed at turn.flushes))))
+  resets_where_goes (Some refusal) e ids o at turn = subst (Goes came to e) (sym turn) (goes_on calm refl (rests came to (inside e)))
 
   pub own_resets_go : (e : Endpoint) (ids : List ℕ) (o : Outcome) → IsPeerTag e.core to → OwnResetsTurn e ids o → Goes came to e o
   own_resets_go e ids o at turn = resets_where_goes (reset_refusal e) e ids o at turn
@@ -43,15 +45,15 @@ module _ (came : Option Content) (to : ℕ) where
 
   take_where_goes : (e : Endpoint) (transfer : Transfer) (messages : List MessageContent) (o : Outcome) → e.below.transfer ≡ Some transfer → transfer.reassembly.incoming.ready ≡ messages
       → TakeWhere e transfer messages o → Becomes came to (λ queued. queued) (with_first messages) e o
-  take_where_goes e transfer [] o known ready turn = subst (Becomes came to (λ queued. queued) (with_first []) e) (sym turn) (goes_on refl (rests came to e.below))
+  take_where_goes e transfer [] o known ready turn = subst (Becomes came to (λ queued. queued) (with_first []) e) (sym turn) (goes_on calm refl (rests came to (inside e)))
   take_where_goes e transfer (message ∷ messages) o known ready turn =
       subst (Becomes came to (λ queued. queued) (with_first (message ∷ messages)) e) (sym turn)
-      (goes_on refl (λ queued sent read.
-      subst (λ (s : List Emission). Actions came to (ledger_of queued e.below sent read) (ledger_of queued _ s (read ++ message ∷ []))) (sym (append-nil sent))
-      (further (ledger_of queued e.below sent read) (ledger_of queued _ sent (read ++ message ∷ [])) nothing (actions.takes transfer message messages known ready))))
+      (goes_on calm refl (λ queued sent read tsn asking fit.
+      made_of came to (inside e) _ queued queued sent read (read ++ message ∷ []) tsn asking fit
+      (further (ledger_of queued e.below sent read asking) (ledger_of queued _ sent (read ++ message ∷ []) asking) nothing (actions.takes transfer message messages known ready))))
 
   pub take_goes : (e : Endpoint) (transfer : Option Transfer) (o : Outcome) → e.below.transfer ≡ transfer → TakeTurn e transfer o → Becomes came to (λ queued. queued) (read_where transfer) e o
-  take_goes e None o known turn = subst (Becomes came to (λ queued. queued) (read_where None) e) (sym turn) (goes_on refl (rests came to e.below))
+  take_goes e None o known turn = subst (Becomes came to (λ queued. queued) (read_where None) e) (sym turn) (goes_on calm refl (rests came to (inside e)))
   take_goes e (Some transfer) o known turn = take_where_goes e transfer transfer.reassembly.incoming.ready o known refl turn
 
   not_empty : (payload : List ℕ) (rest : Option MessageRefusal) → (if length payload == 0 then Some empty_payload else rest) ≡ None → 0 < length payload
@@ -59,22 +61,22 @@ module _ (came : Option Content) (to : ℕ) where
   not_empty (byte ∷ bytes) rest is = omega arith
 
   queue_one_makes : (e : Endpoint) (sending : Sending) (refusal : Option MessageRefusal) → sending_refusal e sending ≡ refusal → Fits (message_of sending)
-      → (queued : List Message) (sent : List Emission) (read : List MessageContent)
-      → Actions came to (ledger_of queued e.below sent read) (ledger_of (queued_where refusal sending queued) (queue_by e sending refusal).after.below sent read)
-  queue_one_makes e sending None is fit queued sent read =
-      further (ledger_of queued e.below sent read) (ledger_of (message_of sending ∷ queued) (queue_by e sending None).after.below sent read) nothing
+      → (queued : List Message) (sent : List Emission) (read : List MessageContent) (asking : Asking)
+      → Actions came to (ledger_of queued e.below sent read asking) (ledger_of (queued_where refusal sending queued) (queue_by e sending refusal).after.below sent read asking)
+  queue_one_makes e sending None is fit queued sent read asking =
+      further (ledger_of queued e.below sent read asking) (ledger_of (message_of sending ∷ queued) (queue_by e sending None).after.below sent read asking) nothing
       (actions.queues e.moment sending fit (not_empty sending.message.payload _ is))
-  queue_one_makes e sending (Some refusal) is fit queued sent read = nothing
+  queue_one_makes e sending (Some refusal) is fit queued sent read asking = nothing
 
   queue_all_makes : (e : Endpoint) (sendings : List Sending) → AllByRecursion (λ sending. Fits (message_of sending)) sendings
-      → (queued : List Message) (sent : List Emission) (read : List MessageContent)
-      → Actions came to (ledger_of queued e.below sent read) (ledger_of (queued_together e sendings queued) (queue_all e sendings).after.below sent read)
-  queue_all_makes e [] fit queued sent read = nothing
-  queue_all_makes e (sending ∷ sendings) fit queued sent read =
+      → (queued : List Message) (sent : List Emission) (read : List MessageContent) (asking : Asking)
+      → Actions came to (ledger_of queued e.below sent read asking) (ledger_of (queued_together e sendings queued) (queue_all e sendings).after.below sent read asking)
+  queue_all_makes e [] fit queued sent read asking = nothing
+  queue_all_makes e (sending ∷ sendings) fit queued sent read asking =
       let next : List Message = queued_where (sending_refusal e sending) sending queued in
-      joined came to (ledger_of queued e.below sent read) (ledger_of next (queue_one e sending).after.below sent read)
-      (ledger_of (queued_together (queue_one e sending).after sendings next) (queue_all (queue_one e sending).after sendings).after.below sent read)
-      (queue_one_makes e sending (sending_refusal e sending) refl fit.0 queued sent read) (queue_all_makes (queue_one e sending).after sendings fit.1 next sent read)
+      joined came to (ledger_of queued e.below sent read asking) (ledger_of next (queue_one e sending).after.below sent read asking)
+      (ledger_of (queued_together (queue_one e sending).after sendings next) (queue_all (queue_one e sending).after sendings).after.below sent read asking)
+      (queue_one_makes e sending (sending_refusal e sending) refl fit.0 queued sent read asking) (queue_all_makes (queue_one e sending).after sendings fit.1 next sent read asking)
 
   queue_one_none : (e : Endpoint) (sending : Sending) (refusal : Option MessageRefusal) → packets_in (queue_by e sending refusal).events ≡ []
   queue_one_none e sending None = refl
@@ -87,9 +89,9 @@ module _ (came : Option Content) (to : ℕ) where
       ∙ ap (λ (l : List Emission). l ++ packets_in (queue_all (queue_one e sending).after sendings).events) (queue_one_none e sending (sending_refusal e sending))
       ∙ queue_all_none (queue_one e sending).after sendings
 
-  send_where_makes : (b : Bool) (e : Endpoint) (answers : List Answer) → IsPeerTag e.core to → SendAnswers b e answers → MakesTo came to e.below (send_by b e answers)
-  send_where_makes false e answers at allowed = rests came to e.below
-  send_where_makes true e answers at allowed = to_makes came to e (held_in e.core) answers at refl allowed
+  send_where_makes : (b : Bool) (e : Endpoint) (answers : List Answer) → IsPeerTag e.core to → SendAnswers b e answers → MakesTo came to (inside e) (send_by b e answers)
+  send_where_makes false e answers at allowed = rests came to (inside e)
+  send_where_makes true e answers at allowed = to_makes came calm to e (held_in e.core) answers at refl allowed
 
   send_where_link : (b : Bool) (e : Endpoint) (answers : List Answer) → SendAnswers b e answers → link_in (send_by b e answers).after.core ≡ link_in e.core
   send_where_link false e answers allowed = refl
@@ -103,8 +105,16 @@ module _ (came : Option Content) (to : ℕ) where
       let is : packets_in (all.events ++ last.events) ≡ packets_in last.events =
       packets_in-append all.events last.events ∙ ap (λ (l : List Emission). l ++ packets_in last.events) (queue_all_none e sendings) in
       subst (Becomes came to (queued_together e sendings) (λ read. read) e) (sym turn.2)
-      (goes_on (send_where_link (takes_any e sendings) all.after turn.0 turn.1 ∙ ap link_in (queue_all_core e sendings)) (subst (λ (l : List Emission). MakesAlso came to (queued_together e sendings) (λ read. read) e.below l last.after.below) (sym is)
-      (λ queued sent read. joined came to (ledger_of queued e.below sent read) (ledger_of (queued_together e sendings queued) all.after.below sent read)
-      (ledger_of (queued_together e sendings queued) last.after.below (sent ++ packets_in last.events) read)
-      (queue_all_makes e sendings fit queued sent read)
-      (send_where_makes (takes_any e sendings) all.after turn.0 (subst (λ (c : Core). IsPeerTag c to) (sym (queue_all_core e sendings)) at) turn.1 (queued_together e sendings queued) sent read))))
+      (goes_on calm (send_where_link (takes_any e sendings) all.after turn.0 turn.1 ∙ ap link_in (queue_all_core e sendings)) (subst (λ (l : List Emission). MakesAlso came to (queued_together e sendings) (λ read. read) (inside e) l (inside last.after)) (sym is)
+      (λ queued sent read tsn asking asks.
+      let later : List Message = queued_together e sendings queued in
+      let made : Made came to (ledger_of later all.after.below sent read asking) tsn (inside last.after) later (sent ++ packets_in last.events) read =
+      send_where_makes (takes_any e sendings) all.after turn.0 (subst (λ (c : Core). IsPeerTag c to) (sym (queue_all_core e sendings)) at) turn.1 later sent read tsn asking
+      (subst (λ (own : Option Own). AsksFit tsn own asking) (sym (queue_all_own e sendings)) asks) in
+      record {
+        asking = made.asking;
+        grows = made.grows;
+        fits = made.fits;
+        actions = joined came to (ledger_of queued e.below sent read asking) (ledger_of later all.after.below sent read asking)
+            (ledger_of later last.after.below (sent ++ packets_in last.events) read made.asking) (queue_all_makes e sendings fit queued sent read asking) made.actions;
+      })))

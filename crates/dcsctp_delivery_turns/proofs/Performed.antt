@@ -1,49 +1,152 @@
--- Where a reset of own streams is performed, numbers go on.
+-- What the effects of a RE-CONFIG say, and how it is answered (RFC 6525, section 5.2).
 use Rattle.dcsctp_machine.specs.control.Effect as effects
-use Rattle.std.proofs.Common.{◌≡◌, ℕ, Bool, true, false, Option, None, Some, List, [], ◌∷◌, ◌++◌, refl, sym, ◌∙◌, ap}
+use Rattle.std.proofs.Common.{◌≡◌, ◌⊎◌, inl, inr, ℕ, Bool, true, false, Option, None, Some, List, [], ◌∷◌, ◌++◌, refl, sym, ◌∙◌}
+use Rattle.dcsctp_wire.specs.declared.reconfiguration.ReconfigurationResponseResult.{ReconfigurationResponseResult}
+use Rattle.dcsctp_wire.specs.declared.reconfiguration.ReconfigurationResponseResult.TheVariants.{SuccessNothingToDo, SuccessPerformed, Denied, ErrorWrongSSN, ErrorRequestAlreadyInProgress, ErrorBadSequenceNumber, InProgress}
 use Rattle.dcsctp_machine.specs.declared.association.Pair.{Pair}
 use Rattle.dcsctp_machine.specs.declared.association.Held.{Held}
-use Rattle.dcsctp_machine.specs.Reconfiguration.{ResetParameter}
-use Rattle.dcsctp_machine.specs.Endpoint.{Endpoint}
-use Rattle.dcsctp_machine.specs.Outcome.{Outcome}
+use Rattle.dcsctp_machine.specs.Reconfiguration.{RequestedReset, ResetParameter, outgoing_reset_request, incoming_reset_request, reconfiguration_response, other_reset_parameter}
 use Rattle.dcsctp_machine.specs.control.Effect.{Effect}
-use Rattle.dcsctp_machine.specs.turns.ResetOutcomes.{worked_in, was_performed, own_answer, has_completed, answered_in, WorksResets}
-use Rattle.dcsctp_delivery_turns.specs.Actions.{ResetsNone}
-use Rattle.dcsctp_delivery_sending.specs.Queueing.{NumbersGoOn}
-use Rattle.dcsctp_machine.specs.control.Effect.{Link, link_of, link_in}
+use Rattle.dcsctp_machine.specs.control.ResetChanges.{Place, again, next, astray, place_of, worked, repeated, outgoing_by, incoming_by, informed_where, is_outstanding, work_parameters, work_chunk}
+use Rattle.dcsctp_machine.specs.turns.BegunResets.{BegunReset, begun_effects}
+use Rattle.dcsctp_machine.specs.turns.ResetOutcomes.{requested_in, OwnAnswer, unanswered, retried, was_performed, has_failed, own_answer, has_completed, has_reset}
+use Rattle.dcsctp_delivery_sending.specs.Flushes.{NoRequests}
+
+-- ---- effects one after another
 
 -- an own reset that is performed is one of the turn's effects
-completed_among : (happened later : List Effect) → has_completed happened ≡ true → has_completed (happened ++ later) ≡ true
+pub completed_among : (happened later : List Effect) → has_completed happened ≡ true → has_completed (happened ++ later) ≡ true
 completed_among [] later is = absurd (cc)
-completed_among (effects.draws pair ∷ happened) later is = completed_among happened later is
-completed_among (effects.sends packet ∷ happened) later is = completed_among happened later is
-completed_among (effects.holds link ∷ happened) later is = completed_among happened later is
-completed_among (effects.connects link ∷ happened) later is = completed_among happened later is
-completed_among (effects.ends ∷ happened) later is = completed_among happened later is
-completed_among (effects.begins number ∷ happened) later is = completed_among happened later is
 completed_among (effects.completes my number ∷ happened) later is = refl
-completed_among (effects.fails number ∷ happened) later is = completed_among happened later is
-completed_among (effects.accepts number ∷ happened) later is = completed_among happened later is
-completed_among (effects.performs peer number ∷ happened) later is = completed_among happened later is
-completed_among (effects.resumes link first last ∷ happened) later is = completed_among happened later is
+completed_among (effect ∷ happened) later is = completed_among happened later is
 
-was_completed : (before after : Option ℕ) (in_progress is_performed : Bool) → own_answer before after in_progress is_performed ≡ was_performed → is_performed ≡ true
-was_completed None after in_progress is_performed is = absurd (cc)
-was_completed (Some number) None in_progress true is = refl
-was_completed (Some number) None in_progress false is = absurd (cc)
-was_completed (Some number) (Some still_out) true is_performed is = absurd (cc)
-was_completed (Some number) (Some still_out) false is_performed is = absurd (cc)
+-- Where no streams are reset in the second part, they are in the whole if they are in the first.
+pub reset_in_front : (happened later : List Effect) → has_reset later ≡ false → has_reset (happened ++ later) ≡ has_reset happened
+reset_in_front [] later none = none
+reset_in_front (effects.performs peer number ∷ happened) later none = refl
+reset_in_front (effect ∷ happened) later none = reset_in_front happened later none
 
-pub numbers_go_on : (e : Endpoint) (my : Pair) (held : Held) (parameters : List ResetParameter) (o : Outcome) → ResetsNone e o → WorksResets e my held parameters o
-    → answered_in held (worked_in e my held parameters) parameters ≡ was_performed → NumbersGoOn e.below.queue
-numbers_go_on e my held parameters o none turn performed = go e.below.queue.is_interleaved refl
-  where
-    completed : has_completed (worked_in e my held parameters).effects ≡ true
-    completed = was_completed held.own_outstanding (worked_in e my held parameters).held.own_outstanding _ (has_completed (worked_in e my held parameters).effects) performed
+-- and the other way around
+reset_behind : (happened later : List Effect) → has_reset happened ≡ false → has_reset (happened ++ later) ≡ has_reset later
+reset_behind [] later none = refl
+reset_behind (effects.performs peer number ∷ happened) later none = absurd (cc)
+reset_behind (effect ∷ happened) later none = reset_behind happened later none
 
-    go : (b : Bool) → e.below.queue.is_interleaved ≡ b → e.below.queue.is_interleaved ≡ false
-    go false is = is
-    go true is =
-        let among = completed_among (worked_in e my held parameters).effects _ completed in
-        let clash : false ≡ true = sym (none is) ∙ ap (λ (x : Outcome). has_completed x.effects) turn.is ∙ among in
-        absurd (cc)
+reset_in : (happened later : List Effect) → has_reset (happened ++ later) ≡ true → (has_reset happened ≡ true) ⊎ (has_reset later ≡ true)
+reset_in [] later is = inr is
+reset_in (effects.performs peer number ∷ happened) later is = inl refl
+reset_in (effect ∷ happened) later is = reset_in happened later is
+
+-- A flush resets none of the peer's.
+pub begun_none : (begun : Option BegunReset) → has_reset (begun_effects begun) ≡ false
+begun_none None = refl
+begun_none (Some begun) = refl
+
+-- ---- what is performed
+
+worked_none : (held : Held) (number : ℕ) (reached : Bool) → has_reset (worked held number reached).effects ≡ true → reached ≡ true
+worked_none held number true is = refl
+worked_none held number false is = absurd (cc)
+
+repeated_reached : (held : Held) (result : ReconfigurationResponseResult) (reached : Bool) → has_reset (repeated held result reached).effects ≡ true → reached ≡ true
+repeated_reached held InProgress reached is = worked_none held held.peer_last reached is
+repeated_reached held SuccessNothingToDo reached is = absurd (cc)
+repeated_reached held SuccessPerformed reached is = absurd (cc)
+repeated_reached held Denied reached is = absurd (cc)
+repeated_reached held ErrorWrongSSN reached is = absurd (cc)
+repeated_reached held ErrorRequestAlreadyInProgress reached is = absurd (cc)
+repeated_reached held ErrorBadSequenceNumber reached is = absurd (cc)
+
+outgoing_reached : (held : Held) (number : ℕ) (reached : Bool) (place : Place) → has_reset (outgoing_by held number reached place).effects ≡ true → reached ≡ true
+outgoing_reached held number reached again is = repeated_reached held held.peer_result reached is
+outgoing_reached held number reached next is = worked_none held number reached is
+outgoing_reached held number reached astray is = absurd (cc)
+
+incoming_none : (held : Held) (number : ℕ) (place : Place) → has_reset (incoming_by held number place).effects ≡ false
+incoming_none held number again = refl
+incoming_none held number next = refl
+incoming_none held number astray = refl
+
+informed_none : (my : Pair) (held : Held) (number : ℕ) (result : ReconfigurationResponseResult) (b : Bool) → has_reset (informed_where my held number result b).effects ≡ false
+informed_none my held number result false = refl
+informed_none my held number SuccessNothingToDo true = refl
+informed_none my held number SuccessPerformed true = refl
+informed_none my held number Denied true = refl
+informed_none my held number ErrorWrongSSN true = refl
+informed_none my held number ErrorRequestAlreadyInProgress true = refl
+informed_none my held number ErrorBadSequenceNumber true = refl
+informed_none my held number InProgress true = refl
+
+-- The one request that is handled was reached.
+pub record Performs (reached has_worked : Bool) (parameters : List ResetParameter) : Type 0 where
+  first : has_worked ≡ false
+  pub all : reached ≡ true
+  pub reset : RequestedReset
+  pub asked : requested_in parameters ≡ Some reset
+
+parameters_perform : (my : Pair) (reached has_worked : Bool) (held : Held) (parameters : List ResetParameter) → has_reset (work_parameters my reached has_worked held parameters).effects ≡ true
+    → Performs reached has_worked parameters
+parameters_perform my reached has_worked held [] is = absurd (cc)
+parameters_perform my reached true held (outgoing_reset_request number answered reset ∷ parameters) is = absurd (cc)
+parameters_perform my reached false held (outgoing_reset_request number answered reset ∷ parameters) is =
+    let first = outgoing_by held number reached (place_of held.peer_last number) in
+    elim (reset_in first.effects (work_parameters my reached true first.held parameters).effects is) [
+      | inl at ↦ record { first = refl; all = outgoing_reached held number reached (place_of held.peer_last number) at; reset = reset; asked = refl }
+      | inr later ↦ (let none : true ≡ false = (parameters_perform my reached true first.held parameters later).first in absurd (cc))
+    ]
+parameters_perform my reached has_worked held (incoming_reset_request number streams ∷ parameters) is =
+    let first = incoming_by held number (place_of held.peer_last number) in
+    let rest = work_parameters my reached has_worked first.held parameters in
+    let later : Performs reached has_worked parameters =
+    parameters_perform my reached has_worked first.held parameters (sym (reset_behind first.effects rest.effects (incoming_none held number (place_of held.peer_last number))) ∙ is) in
+    record { first = later.first; all = later.all; reset = later.reset; asked = later.asked }
+parameters_perform my reached has_worked held (reconfiguration_response number result ∷ parameters) is =
+    let first = informed_where my held number result (is_outstanding number held.own_outstanding) in
+    let rest = work_parameters my reached has_worked first.held parameters in
+    let later : Performs reached has_worked parameters =
+    parameters_perform my reached has_worked first.held parameters
+    (sym (reset_behind first.effects rest.effects (informed_none my held number result (is_outstanding number held.own_outstanding))) ∙ is) in
+    record { first = later.first; all = later.all; reset = later.reset; asked = later.asked }
+parameters_perform my reached has_worked held (other_reset_parameter parameter ∷ parameters) is =
+    let later : Performs reached has_worked parameters = parameters_perform my reached has_worked held parameters is in
+    record { first = later.first; all = later.all; reset = later.reset; asked = later.asked }
+
+pub chunk_performs : (my : Pair) (reached : Bool) (held : Held) (parameters : List ResetParameter) → has_reset (work_chunk my reached held parameters).effects ≡ true → Performs reached false parameters
+chunk_performs my reached held [] is = absurd (cc)
+chunk_performs my reached held (parameter ∷ parameters) is = parameters_perform my reached false held (parameter ∷ parameters) is
+
+-- ---- how it is answered
+
+parameters_answer : (my : Pair) (reached has_worked : Bool) (held : Held) (parameters : List ResetParameter) → NoRequests (work_parameters my reached has_worked held parameters).answers
+parameters_answer my reached has_worked held [] = tt
+parameters_answer my reached true held (outgoing_reset_request number answered reset ∷ parameters) = tt
+parameters_answer my reached false held (outgoing_reset_request number answered reset ∷ parameters) =
+    parameters_answer my reached true (outgoing_by held number reached (place_of held.peer_last number)).held parameters
+parameters_answer my reached has_worked held (incoming_reset_request number streams ∷ parameters) =
+    parameters_answer my reached has_worked (incoming_by held number (place_of held.peer_last number)).held parameters
+parameters_answer my reached has_worked held (reconfiguration_response number result ∷ parameters) =
+    parameters_answer my reached has_worked (informed_where my held number result (is_outstanding number held.own_outstanding)).held parameters
+parameters_answer my reached has_worked held (other_reset_parameter parameter ∷ parameters) = parameters_answer my reached has_worked held parameters
+
+pub chunk_answers : (my : Pair) (reached : Bool) (held : Held) (parameters : List ResetParameter) → NoRequests (work_chunk my reached held parameters).answers
+chunk_answers my reached held [] = tt
+chunk_answers my reached held (parameter ∷ parameters) = parameters_answer my reached false held (parameter ∷ parameters)
+
+-- ---- what becomes of the own request
+
+-- by its number before and after, and whether it was performed
+abbrev pub Stays : OwnAnswer → Option ℕ → Option ℕ → Bool → Type 0
+Stays unanswered before after performed = after ≡ before
+Stays retried before after performed = after ≡ before
+Stays was_performed before after performed = (after ≡ None) × (performed ≡ true)
+Stays has_failed before after performed = after ≡ None
+
+pub own_stays : (before after : Option ℕ) (in_progress performed : Bool) → (after ≡ before) ⊎ (after ≡ None) → Stays (own_answer before after in_progress performed) before after performed
+own_stays None after in_progress performed (inl same) = same
+own_stays None after in_progress performed (inr none) = none
+own_stays (Some number) None in_progress true same = (refl, refl)
+own_stays (Some number) None in_progress false same = refl
+own_stays (Some number) (Some other) true performed (inl same) = same
+own_stays (Some number) (Some other) true performed (inr none) = absurd (cc)
+own_stays (Some number) (Some other) false performed (inl same) = same
+own_stays (Some number) (Some other) false performed (inr none) = absurd (cc)

@@ -1,41 +1,33 @@
--- The turns of RE-CONFIG, heartbeats and the other chunks and timers, as actions.
-use Rattle.dcsctp_machine.specs.declared.ends.AbortReason.TheVariants as reasons
+-- The turn of RE-CONFIG, as actions (RFC 6525, section 5.2).
 use Rattle.dcsctp_machine.specs.control.Effect as effects
-use Rattle.dcsctp_delivery_turns.specs.Actions as actions
-use Rattle.std.proofs.Common.{◌≡◌, ◌==◌, ℕ, Bool, true, false, cond, Option, None, Some, List, [], ◌∷◌, ◌++◌, refl, sym, ◌∙◌, subst, ap}
+use Rattle.std.proofs.Common.{◌≡◌, ℕ, Bool, true, false, Option, None, Some, List, [], ◌∷◌, ◌++◌, refl, sym, ◌∙◌, subst, ap}
 use Rattle.dcsctp_machine.specs.declared.association.Pair.{Pair}
 use Rattle.dcsctp_machine.specs.declared.association.Held.{Held}
-use Rattle.dcsctp_machine.specs.declared.ends.Violation.{Violation}
 use Rattle.dcsctp_machine.specs.declared.kinds.ErrorKind.TheVariants.{ProtocolViolation}
-use Rattle.dcsctp_machine.specs.Cause.{Cause}
 use Rattle.dcsctp_machine.specs.Event.{Event, error, packets_in}
-use Rattle.dcsctp_machine.specs.Packet.{Content, Plain, plain, unknown, heartbeat, heartbeat_ack, unworked, re_config, Emission}
+use Rattle.dcsctp_machine.specs.Packet.{Content, re_config, Emission}
 use Rattle.dcsctp_machine.specs.Reconfiguration.{RequestedReset, ResetParameter}
-use Rattle.dcsctp_machine.specs.Endpoint.{Endpoint, Core, closed, cookie_wait, cookie_echoed, open_in, OutstandingRequest, held_in}
+use Rattle.dcsctp_machine.specs.Endpoint.{Endpoint, Core, closed, cookie_wait, cookie_echoed, open_in, OutstandingRequest}
 use Rattle.dcsctp_machine.specs.Outcome.{Outcome, still, to_peer}
 use Rattle.dcsctp_machine.specs.control.Effect.{Effect}
-use Rattle.dcsctp_machine.specs.control.FlushChanges.{reset_request}
 use Rattle.dcsctp_machine.specs.control.ResetChanges.{WorkedParameters}
 use Rattle.dcsctp_machine.specs.transfer.Transfer.{Transfer, Below}
-use Rattle.dcsctp_machine.specs.turns.FlushOutcomes.{Answer, draft_to, flush_of}
-use Rattle.dcsctp_machine.specs.turns.HeartbeatOutcomes.{heartbeat_outcome, info_in, counter_of, answered, heartbeat_ack_outcome, interval_expired, beating, heartbeat_emission, interval_outcome, is_exhausted}
-use Rattle.dcsctp_machine.specs.turns.OwnTimers.{OwnTimer, acknowledgement_delay, retransmission, heartbeat_interval, heartbeat_timeout, reconfiguration, TimerTurn}
-use Rattle.dcsctp_machine.specs.turns.PlainOutcomes.{PlainTurn, PlainTurnBy, violation_at, is_reported, after_unknown, unknown_bytes, unknown_told, unknown_report, error_outcome}
-use Rattle.dcsctp_machine.specs.turns.ReconfigurationOutcomes.{reset_again, request_emitted, request_unless, request_errors, request_expired, reconfiguration_outcome}
-use Rattle.dcsctp_machine.specs.turns.ResetOutcomes.{requested_in, worked_in, has_reset, answers_in_progress, ResetsBelow, OwnAnswer, unanswered, retried, was_performed, has_failed, answered_in, own_streams, their_streams, reset_events, told_of, resets_worked, reset_refusal_text, responses_outcome, responses_by, ResponseAnswers, WorksResets, ResetTurn, is_reached, core_with}
-use Rattle.dcsctp_wire.specs.Content.{ParameterContent, data_chunk, sack_chunk, error_chunk, i_data_chunk, forward_tsn_chunk, i_forward_tsn_chunk}
+use Rattle.dcsctp_machine.specs.turns.FlushOutcomes.{Answer, draft_to, flush_of, first_ask, packets_allowed}
+use Rattle.dcsctp_machine.specs.turns.ReconfigurationOutcomes.{reset_again}
+use Rattle.dcsctp_machine.specs.turns.ResetOutcomes.{own_moved, waiting, has_completed, requested_in, worked_in, has_reset, answers_in_progress, ResetsBelow, OwnAnswer, unanswered, retried, was_performed, has_failed, answered_in, own_streams, their_streams, reset_events, told_of, resets_worked, reset_refusal_text, responses_outcome, responses_by, ResponseAnswers, WorksResets, ResetTurn, is_reached, core_with}
 use Rattle.dcsctp_machine_refinement.proofs.Bursts.{packets_in-append, emits_core}
-use Rattle.dcsctp_delivery_turns.specs.Actions.{Makes, goes_on, ResetsNone}
-use Rattle.dcsctp_delivery_sending.specs.Queueing.{NumbersGoOn}
+use Rattle.dcsctp_delivery_turns.specs.Actions.{Inside, inside, Makes, OwnEnds, unended, committed, rolled_back, PeerResets, unreset, absent, deferred, reset_now, works_resets}
+use Rattle.dcsctp_delivery_turns.specs.Asking.{Own, own_with, own_in, own_of}
+use Rattle.std.specs.Option.{option_map}
+use Rattle.dcsctp_machine.proofs.FlushKeeps.{begun_by, flush_keeps}
+use Rattle.dcsctp_delivery_sending.specs.Flushes.{NoRequests}
 use Rattle.dcsctp_machine.proofs.ResetLemmas.{KeepsPeer, chunk_brings, worked_keeps}
 use Rattle.dcsctp_machine.specs.declared.capabilities.Capabilities.{Capabilities}
 use Rattle.dcsctp_machine.specs.control.Effect.{Link, link_of, link_in}
 use Rattle.dcsctp_delivery_turns.proofs.Tags.{flush_link}
 use Rattle.dcsctp_delivery_turns.specs.Tags.{IsPeerTag}
-use Rattle.dcsctp_delivery_turns.proofs.Actions.{emits_link, Goes, MakesTo, both, action_of, rests, silent, spoken, emitted, flushed}
-use Rattle.dcsctp_delivery_turns.proofs.Handshake.{aborting_goes}
-use Rattle.dcsctp_delivery_turns.proofs.Data.{data_goes, i_data_goes, sack_goes, forward_goes, i_forward_goes, delay_goes, loss_goes}
-use Rattle.dcsctp_delivery_turns.proofs.Performed.{numbers_go_on}
+use Rattle.dcsctp_delivery_turns.proofs.Actions.{emits_link, Goes, MakesTo, both, rests, silent, emitted, flushed}
+use Rattle.dcsctp_delivery_turns.proofs.Performed.{completed_among, reset_in_front, begun_none, chunk_performs, chunk_answers, Stays, own_stays}
 
 events_none : (theirs own : List ℕ) (happened : List Effect) → packets_in (reset_events theirs own happened) ≡ []
 events_none theirs own [] = refl
@@ -51,10 +43,6 @@ events_none theirs own (effects.accepts number ∷ happened) = events_none their
 events_none theirs own (effects.performs peer number ∷ happened) = events_none theirs own happened
 events_none theirs own (effects.resumes link first last ∷ happened) = events_none theirs own happened
 
--- with that in flight and received
-abbrev with_left : Option Transfer → Below → Below
-with_left left below = record below { transfer = left }
-
 abbrev the_link : Link → Option Link
 the_link link = Some link
 
@@ -66,39 +54,86 @@ with_peer_link own my before old held is keeps =
     ∙ ap (λ (p : Pair). the_link (record { my = my; peer = p; capabilities = held.capabilities })) keeps.peer
     ∙ ap (λ (c : Capabilities). the_link (record { my = my; peer = old.peer; capabilities = c })) keeps.capabilities
 
+-- ---- what the peer answers
+
+-- the inside of an endpoint once its own request got this answer, with this known of the peer
+abbrev moved_inside : OwnAnswer → Endpoint → Held → Inside
+moved_inside answer e held = record { below = (own_moved answer e).below; own = Some (own_with held (own_moved answer e).outstanding) }
+
+waits_same : (request : Option OutstandingRequest) → reset_again (option_map waiting request) ≡ reset_again request
+waits_same None = refl
+waits_same (Some request) = refl
+
+-- an own request with these three
+abbrev some_own : Option ℕ → ℕ → RequestedReset → Option Own
+some_own number next again = Some (record { number = number; next = next; again = again })
+
+own_same : (old new : Held) (again other : RequestedReset) → new.own_outstanding ≡ old.own_outstanding → new.own_next ≡ old.own_next → again ≡ other
+    → some_own old.own_outstanding old.own_next other ≡ some_own new.own_outstanding new.own_next again
+own_same old new again other number next same =
+    sym (ap (λ (n : Option ℕ). some_own n new.own_next again) number ∙ ap (λ (n : ℕ). some_own old.own_outstanding n again) next ∙ ap (some_own old.own_outstanding old.own_next) same)
+
+own_ended : (old new : Held) → new.own_outstanding ≡ None → new.own_next ≡ old.own_next → some_own None old.own_next (reset_again None) ≡ some_own new.own_outstanding new.own_next (reset_again None)
+own_ended old new none next =
+    sym (ap (λ (n : Option ℕ). some_own n new.own_next (reset_again None)) none ∙ ap (λ (n : ℕ). some_own None n (reset_again None)) next)
+
+ends_to : (happened : List Effect) (old : Inside) (below : Below) (own other : Option Own) → own ≡ other → OwnEnds happened old (record { below = below; own = own }) → OwnEnds happened old (record { below = below; own = other })
+ends_to happened old below own other is ends = subst (λ (o : Option Own). OwnEnds happened old (record { below = below; own = o })) is ends
+
+own_ends : (answer : OwnAnswer) (e : Endpoint) (old new : Held) (performed : Bool) (happened : List Effect) → Stays answer old.own_outstanding new.own_outstanding performed → new.own_next ≡ old.own_next
+    → own_of e ≡ Some (own_with old e.outstanding) → (performed ≡ true → has_completed happened ≡ true) → OwnEnds happened (inside e) (moved_inside answer e new)
+own_ends unanswered e old new performed happened stays next is completes =
+    ends_to happened (inside e) e.below _ _ (is ∙ own_same old new (reset_again e.outstanding) (reset_again e.outstanding) stays next refl) unended
+own_ends retried e old new performed happened stays next is completes =
+    ends_to happened (inside e) e.below _ _ (is ∙ own_same old new (reset_again (option_map waiting e.outstanding)) (reset_again e.outstanding) stays next (waits_same e.outstanding)) unended
+own_ends was_performed e old new performed happened stays next is completes =
+    ends_to happened (inside e) _ _ _ (own_ended old new stays.0 next) (committed (completes stays.1) (own_with old e.outstanding) is)
+own_ends has_failed e old new performed happened stays next is completes =
+    ends_to happened (inside e) _ _ _ (own_ended old new stays next) (rolled_back (own_with old e.outstanding) is)
+
+moved_transfer : (answer : OwnAnswer) (e : Endpoint) → (own_moved answer e).below.transfer ≡ e.below.transfer
+moved_transfer unanswered e = refl
+moved_transfer retried e = refl
+moved_transfer was_performed e = refl
+moved_transfer has_failed e = refl
+
+-- ---- what the peer asks
+
+-- with that in flight and received
+abbrev with_left : Option Transfer → Inside → Inside
+with_left left old = record old { below = record old.below { transfer = left } }
+
+same_left : (came : Option Content) (happened : List Effect) (old : Inside) (left : Option Transfer) → left ≡ old.below.transfer → PeerResets came happened old old → PeerResets came happened old (with_left left old)
+same_left came happened old left is resets = subst (λ (l : Option Transfer). PeerResets came happened old (with_left l old)) (sym is) resets
+
+no_reset : (came : Option Content) (happened : List Effect) (old : Inside) (transfer left : Option Transfer) → has_reset happened ≡ false → old.below.transfer ≡ transfer → left ≡ transfer
+    → PeerResets came happened old (with_left left old)
+no_reset came happened old transfer left none known same = same_left came happened old left (same ∙ sym known) (unreset none)
+
+peer_resets : (parameters : List ResetParameter) (happened : List Effect) (performed in_progress : Bool) (reset : Option RequestedReset) (transfer left : Option Transfer) (old : Inside) → has_reset happened ≡ performed → requested_in parameters ≡ reset
+    → old.below.transfer ≡ transfer → (performed ≡ true → (is_reached transfer reset ≡ true) × ((one : RequestedReset) × (reset ≡ Some one)))
+    → ResetsBelow performed in_progress reset transfer left → PeerResets (Some (re_config parameters)) happened old (with_left left old)
+peer_resets parameters happened true in_progress (Some reset) (Some transfer) left old has asked known reached below =
+    subst (λ (l : Option Transfer). PeerResets (Some (re_config parameters)) happened old (with_left l old)) (sym (below.1 ∙ ap (λ (t : Transfer). Some t) below.2.rest))
+    (reset_now has parameters reset refl asked transfer below.0.reassembly known (reached refl).0 below.2.reassembly)
+peer_resets parameters happened true in_progress (Some reset) None left old has asked known reached below = same_left _ happened old left (below ∙ sym known) (absent known)
+peer_resets parameters happened true in_progress None transfer left old has asked known reached below = (let none : None ≡ Some (reached refl).1.0 = (reached refl).1.1 in absurd (cc))
+peer_resets parameters happened false true (Some reset) (Some transfer) left old has asked known reached below =
+    subst (λ (l : Option Transfer). PeerResets (Some (re_config parameters)) happened old (with_left l old)) (sym below) (deferred has transfer reset.last_tsn reset.streams known)
+peer_resets parameters happened false true (Some reset) None left old has asked known reached below = no_reset _ happened old None left has known below
+peer_resets parameters happened false true None (Some transfer) left old has asked known reached below = no_reset _ happened old (Some transfer) left has known below
+peer_resets parameters happened false true None None left old has asked known reached below = no_reset _ happened old None left has known below
+peer_resets parameters happened false false (Some reset) (Some transfer) left old has asked known reached below = no_reset _ happened old (Some transfer) left has known below
+peer_resets parameters happened false false (Some reset) None left old has asked known reached below = no_reset _ happened old None left has known below
+peer_resets parameters happened false false None (Some transfer) left old has asked known reached below = no_reset _ happened old (Some transfer) left has known below
+peer_resets parameters happened false false None None left old has asked known reached below = no_reset _ happened old None left has known below
+
+-- ---- how it is answered
+
 module _ (came : Option Content) (to : ℕ) where
-  -- ---- what the peer asks
-
-  same_left : (old : Below) (left : Option Transfer) → left ≡ old.transfer → Makes came to old [] (with_left left old)
-  same_left old left is = subst (λ (l : Option Transfer). Makes came to old [] (with_left l old)) (sym is) (rests came to old)
-
-  left_makes : (performed in_progress : Bool) (reset : Option RequestedReset) (transfer left : Option Transfer) (old : Below) → old.transfer ≡ transfer
-      → ResetsBelow performed in_progress reset transfer left → Makes came to old [] (with_left left old)
-  left_makes true in_progress (Some reset) (Some transfer) left old known below =
-      subst (λ (l : Option Transfer). Makes came to old [] (with_left l old)) (sym (below.1 ∙ ap (λ (t : Transfer). Some t) below.2.rest))
-      (action_of came to old _ (λ queued sent read. actions.resets transfer reset.streams below.0.reassembly known below.2.reassembly))
-  left_makes true in_progress (Some reset) None left old known below = same_left old left (below ∙ sym known)
-  left_makes true in_progress None (Some transfer) left old known below = same_left old left (below ∙ sym known)
-  left_makes true in_progress None None left old known below = same_left old left (below ∙ sym known)
-  left_makes false true (Some reset) (Some transfer) left old known below =
-      subst (λ (l : Option Transfer). Makes came to old [] (with_left l old)) (sym below) (action_of came to old _ (λ queued sent read. actions.defers transfer reset.last_tsn reset.streams known))
-  left_makes false true (Some reset) None left old known below = same_left old left (below ∙ sym known)
-  left_makes false true None (Some transfer) left old known below = same_left old left (below ∙ sym known)
-  left_makes false true None None left old known below = same_left old left (below ∙ sym known)
-  left_makes false false (Some reset) (Some transfer) left old known below = same_left old left (below ∙ sym known)
-  left_makes false false (Some reset) None left old known below = same_left old left (below ∙ sym known)
-  left_makes false false None (Some transfer) left old known below = same_left old left (below ∙ sym known)
-  left_makes false false None None left old known below = same_left old left (below ∙ sym known)
-
-  worked_makes : (e : Endpoint) (answer : OwnAnswer) (held : Held) (left : Option Transfer) → (answer ≡ was_performed → NumbersGoOn e.below.queue) → Makes came to (with_left left e.below) [] (resets_worked e answer held left).below
-  worked_makes e unanswered held left may = rests came to _
-  worked_makes e retried held left may = rests came to _
-  worked_makes e was_performed held left may = action_of came to _ _ (λ queued sent read. actions.commits (may refl))
-  worked_makes e has_failed held left may = action_of came to _ _ (λ queued sent read. actions.rolls_back)
-
-  responses_make : (e : Endpoint) (held : Held) (responses : List ResetParameter) → MakesTo came to e.below (responses_outcome e held responses)
-  responses_make e held [] = rests came to e.below
-  responses_make e held (response ∷ responses) = emitted came to e [] (to_peer held (re_config (response ∷ responses))) (tt, tt)
+  responses_make : (e : Endpoint) (held : Held) (responses : List ResetParameter) → NoRequests responses → MakesTo came to (inside e) (responses_outcome e held responses)
+  responses_make e held [] none = rests came to (inside e)
+  responses_make e held (response ∷ responses) none = emitted came to e [] (to_peer held (re_config (response ∷ responses))) (none, tt)
 
   responses_peer : (e : Endpoint) (held : Held) (responses : List ResetParameter) → IsPeerTag e.core to → IsPeerTag (responses_outcome e held responses).after.core to
   responses_peer e held [] at = at
@@ -110,17 +145,17 @@ module _ (came : Option Content) (to : ℕ) where
   with_peer (cookie_echoed my old cookie) held at is = is
   with_peer (open_in phase my old) held at is = is
 
-  sent_makes : (refused : Bool) (e : Endpoint) (told : List (Event Emission)) (held : Held) (parameters responses : List ResetParameter) (answers : List Answer) → IsPeerTag e.core to → held.peer.tag ≡ to → packets_in told ≡ []
-      → ResponseAnswers refused e held responses answers → MakesTo came to e.below (responses_by refused e told held parameters responses answers)
-  sent_makes true e told held parameters responses answers at tag none allowed =
-      silent came to e.below (packets_in (told ++ error ProtocolViolation (reset_refusal_text parameters) ∷ [])) (packets_in-append told (error ProtocolViolation (reset_refusal_text parameters) ∷ []) ∙ ap (λ (l : List Emission). l ++ []) none)
-  sent_makes false e told held parameters responses answers at tag none allowed =
+  sent_makes : (refused : Bool) (e : Endpoint) (told : List (Event Emission)) (held : Held) (parameters responses : List ResetParameter) (answers : List Answer) → IsPeerTag e.core to → held.peer.tag ≡ to → packets_in told ≡ [] → NoRequests responses
+      → ResponseAnswers refused e held responses answers → MakesTo came to (inside e) (responses_by refused e told held parameters responses answers)
+  sent_makes true e told held parameters responses answers at tag none no_request allowed =
+      silent came to (inside e) (packets_in (told ++ error ProtocolViolation (reset_refusal_text parameters) ∷ [])) (packets_in-append told (error ProtocolViolation (reset_refusal_text parameters) ∷ []) ∙ ap (λ (l : List Emission). l ++ []) none)
+  sent_makes false e told held parameters responses answers at tag none no_request allowed =
       let first : Outcome = responses_outcome e held responses in
       let last : Outcome = flush_of first.after (draft_to held) answers in
       let fronts : packets_in (told ++ first.events) ≡ packets_in first.events = packets_in-append told first.events ∙ ap (λ (l : List Emission). l ++ packets_in first.events) none in
-      subst (λ (l : List Emission). Makes came to e.below l last.after.below)
+      subst (λ (l : List Emission). Makes came to (inside e) l (inside last.after))
       (sym (packets_in-append (told ++ first.events) last.events ∙ ap (λ (l : List Emission). l ++ packets_in last.events) fronts))
-      (both came to e.below first.after.below last.after.below (packets_in first.events) (packets_in last.events) (responses_make e held responses) (flushed came to first.after (draft_to held) answers (responses_peer e held responses at) tag tt tt allowed))
+      (both came to (inside e) (inside first.after) (inside last.after) (packets_in first.events) (packets_in last.events) (responses_make e held responses no_request) (flushed came to first.after (draft_to held) answers (responses_peer e held responses at) tag tt tt allowed))
 
   responses_link : (e : Endpoint) (held : Held) (responses : List ResetParameter) → link_in (responses_outcome e held responses).after.core ≡ link_in e.core
   responses_link e held [] = refl
@@ -139,112 +174,56 @@ module _ (came : Option Content) (to : ℕ) where
   with_link (cookie_echoed own before cookie) my old held is keeps = with_peer_link own my before old held is keeps
   with_link (open_in phase own before) my old held is keeps = with_peer_link own my before old held is keeps
 
-  works_goes : (e : Endpoint) (my : Pair) (held : Held) (parameters : List ResetParameter) (o : Outcome) → link_in e.core ≡ Some (link_of my held) → IsPeerTag e.core to → held.peer.tag ≡ to → ResetsNone e o → WorksResets e my held parameters o → Goes came to e o
-  works_goes e my held parameters o linked at is none turn =
+  -- The flush resets none of the peer's streams.
+  sent_none : (refused : Bool) (e : Endpoint) (told : List (Event Emission)) (held : Held) (parameters responses : List ResetParameter) (answers : List Answer) → ResponseAnswers refused e held responses answers
+      → has_reset (responses_by refused e told held parameters responses answers).effects ≡ false
+  sent_none true e told held parameters responses answers allowed = refl
+  sent_none false e told held parameters responses answers allowed =
+      let base : Endpoint = (responses_outcome e held responses).after in
+      ap has_reset (flush_keeps first_ask (packets_allowed base.options.max_burst base.core) base (draft_to held) answers allowed).effects ∙ begun_none (begun_by answers)
+
+-- ---- the turn
+
+module _ (to : ℕ) where
+  works_goes : (e : Endpoint) (my : Pair) (held : Held) (parameters : List ResetParameter) (o : Outcome) → link_in e.core ≡ Some (link_of my held) → IsPeerTag e.core to → held.peer.tag ≡ to → own_of e ≡ Some (own_with held e.outstanding)
+      → ((new : Held) (request : Option OutstandingRequest) → own_in (core_with e.core new) request ≡ Some (own_with new request)) → WorksResets e my held parameters o → Goes (Some (re_config parameters)) to e o
+  works_goes e my held parameters o linked at is own own_later turn =
       let w : WorkedParameters = worked_in e my held parameters in
-      let brought = chunk_brings my (is_reached e.below.transfer (requested_in parameters)) held parameters in
+      let reached : Bool = is_reached e.below.transfer (requested_in parameters) in
+      let brought = chunk_brings my reached held parameters in
+      let answer : OwnAnswer = answered_in held w parameters in
       let tag : w.held.peer.tag ≡ to = ap (λ (p : Pair). p.tag) brought.keeps.peer ∙ is in
-      let base : Endpoint = resets_worked e (answered_in held w parameters) w.held turn.left in
-      let last : Outcome = responses_by w.is_refused base (told_of e parameters w.effects) w.held parameters w.answers turn.answers in
-      subst (Goes came to e) (sym turn.is)
-      (goes_on
-      (sent_link w.is_refused base (told_of e parameters w.effects) w.held parameters w.answers turn.answers turn.allowed
-      ∙ ap link_in (worked_keeps e (answered_in held w parameters) w.held turn.left).core ∙ with_link e.core my held w.held linked brought.keeps ∙ sym linked)
-      (both came to e.below base.below last.after.below [] (packets_in last.events)
-      (both came to e.below (with_left turn.left e.below) base.below [] []
-      (left_makes (has_reset w.effects) (answers_in_progress w.answers) (requested_in parameters) e.below.transfer turn.left e.below refl turn.below)
-      (worked_makes e (answered_in held w parameters) w.held turn.left (numbers_go_on e my held parameters o none turn)))
-      (sent_makes w.is_refused base (told_of e parameters w.effects) w.held parameters w.answers turn.answers
-      (subst (λ (c : Core). IsPeerTag c to) (sym (worked_keeps e (answered_in held w parameters) w.held turn.left).core) (with_peer e.core w.held at tag)) tag (events_none (their_streams (requested_in parameters)) (own_streams e.outstanding) w.effects) turn.allowed)))
+      let base : Endpoint = resets_worked e answer w.held turn.left in
+      let kept = (worked_keeps e answer w.held turn.left).core in
+      let told : List (Event Emission) = told_of e parameters w.effects in
+      let last : Outcome = responses_by w.is_refused base told w.held parameters w.answers turn.answers in
+      let between : Inside = moved_inside answer e w.held in
+      let silent_end : has_reset (w.effects ++ last.effects) ≡ has_reset w.effects = reset_in_front w.effects last.effects (sent_none (Some (re_config parameters)) to w.is_refused base told w.held parameters w.answers turn.answers turn.allowed) in
+      let ends : OwnEnds (w.effects ++ last.effects) (inside e) between =
+      own_ends answer e held w.held (has_completed w.effects) (w.effects ++ last.effects)
+      (own_stays held.own_outstanding w.held.own_outstanding _ (has_completed w.effects) brought.keeps.own_outstanding) brought.keeps.own_next own (completed_among w.effects last.effects) in
+      let asks : PeerResets (Some (re_config parameters)) (w.effects ++ last.effects) between (with_left turn.left between) =
+      peer_resets parameters (w.effects ++ last.effects) (has_reset w.effects) (answers_in_progress w.answers) (requested_in parameters) e.below.transfer turn.left between silent_end refl
+      (moved_transfer answer e)
+      (λ performed. ((chunk_performs my reached held parameters performed).all, ((chunk_performs my reached held parameters performed).reset, (chunk_performs my reached held parameters performed).asked))) turn.below in
+      let later : inside base ≡ with_left turn.left between = ap (λ (i : Option Own). record { below = base.below; own = i }) (own_later w.held (own_moved answer e).outstanding) in
+      subst (Goes (Some (re_config parameters)) to e) (sym turn.is)
+      (works_resets
+      (sent_link (Some (re_config parameters)) to w.is_refused base told w.held parameters w.answers turn.answers turn.allowed
+      ∙ ap link_in kept ∙ with_link (Some (re_config parameters)) to e.core my held w.held linked brought.keeps ∙ sym linked)
+      between (with_left turn.left between) ends asks
+      (subst (λ (i : Inside). Makes (Some (re_config parameters)) to i (packets_in last.events) (inside last.after)) later
+      (sent_makes (Some (re_config parameters)) to w.is_refused base told w.held parameters w.answers turn.answers
+      (subst (λ (c : Core). IsPeerTag c to) (sym kept) (with_peer (Some (re_config parameters)) to e.core w.held at tag)) tag
+      (events_none (their_streams (requested_in parameters)) (own_streams e.outstanding) w.effects) (chunk_answers my reached held parameters) turn.allowed)))
 
-  pub reset_goes : (e : Endpoint) (core : Core) (parameters : List ResetParameter) (o : Outcome) → e.core ≡ core → IsPeerTag e.core to → IsPeerTag core to → ResetsNone e o → ResetTurn e core parameters o → Goes came to e o
-  reset_goes e closed parameters o same at is none turn = subst (Goes came to e) (sym turn) (goes_on refl (rests came to e.below))
-  reset_goes e (cookie_wait my) parameters o same at is none turn = subst (Goes came to e) (sym turn) (goes_on refl (rests came to e.below))
-  reset_goes e (cookie_echoed my held cookie) parameters o same at is none turn = works_goes e my held parameters o (ap link_in same) at is none turn
-  reset_goes e (open_in phase my held) parameters o same at is none turn = works_goes e my held parameters o (ap link_in same) at is none turn
+  idle_goes : (e : Endpoint) (parameters : List ResetParameter) → Goes (Some (re_config parameters)) to e (still e)
+  idle_goes e parameters = works_resets refl (inside e) (inside e) unended (unreset refl) (rests (Some (re_config parameters)) to (inside e))
 
-  -- ---- chunks that speak of no association
-
-  unknown_goes : (e : Endpoint) (core : Core) (type : ℕ) (chunk : List ℕ) (reported : Bool)
-      → Goes came to e (record (cond reported (unknown_told e core type chunk) (still e)) { following = after_unknown type })
-  unknown_goes e core type chunk false = goes_on refl (rests came to e.below)
-  unknown_goes e closed type chunk true = goes_on refl (rests came to e.below)
-  unknown_goes e (cookie_wait my) type chunk true = goes_on refl (rests came to e.below)
-  unknown_goes e (cookie_echoed my held cookie) type chunk true = goes_on refl (spoken came to e.below (unknown_report e held chunk) (tt, tt))
-  unknown_goes e (open_in phase my held) type chunk true = goes_on refl (spoken came to e.below (unknown_report e held chunk) (tt, tt))
-
-  error_goes : (e : Endpoint) (core : Core) (causes : List Cause) → Goes came to e (error_outcome e core causes)
-  error_goes e closed causes = goes_on refl (rests came to e.below)
-  error_goes e (cookie_wait my) causes = goes_on refl (rests came to e.below)
-  error_goes e (cookie_echoed my held cookie) causes = goes_on refl (rests came to e.below)
-  error_goes e (open_in phase my held) causes = goes_on refl (rests came to e.below)
-
-  heartbeat_goes : (e : Endpoint) (core : Core) (parameters : List ParameterContent) → Goes came to e (heartbeat_outcome e core parameters)
-  heartbeat_goes e closed parameters = goes_on refl (rests came to e.below)
-  heartbeat_goes e (cookie_wait my) parameters = goes_on refl (rests came to e.below)
-  heartbeat_goes e (cookie_echoed my held cookie) parameters = goes_on (emits_link e [] (to_peer held (plain (heartbeat_ack parameters)))) (emitted came to e [] (to_peer held (plain (heartbeat_ack parameters))) (tt, tt))
-  heartbeat_goes e (open_in phase my held) parameters = goes_on (emits_link e [] (to_peer held (plain (heartbeat_ack parameters)))) (emitted came to e [] (to_peer held (plain (heartbeat_ack parameters))) (tt, tt))
-
-  counted_goes : (b : Bool) (e : Endpoint) → Goes came to e (cond b (still (answered e)) (still e))
-  counted_goes true e = goes_on refl (rests came to e.below)
-  counted_goes false e = goes_on refl (rests came to e.below)
-
-  heartbeat_ack_goes : (e : Endpoint) (counter : Option ℕ) → Goes came to e (heartbeat_ack_outcome e counter)
-  heartbeat_ack_goes e None = goes_on refl (rests came to e.below)
-  heartbeat_ack_goes e (Some counter) = counted_goes (counter == e.heartbeat_counter) e
-
-  interval_goes : (e : Endpoint) (core : Core) → Goes came to e (interval_outcome e core)
-  interval_goes e closed = goes_on refl (rests came to e.below)
-  interval_goes e (cookie_wait my) = goes_on refl (rests came to e.below)
-  interval_goes e (cookie_echoed my held cookie) =
-      let base : Endpoint = beating (interval_expired e) in goes_on (emits_link base [] (heartbeat_emission held base.heartbeat_counter)) (emitted came to base [] (heartbeat_emission held base.heartbeat_counter) (tt, tt))
-  interval_goes e (open_in phase my held) =
-      let base : Endpoint = beating (interval_expired e) in goes_on (emits_link base [] (heartbeat_emission held base.heartbeat_counter)) (emitted came to base [] (heartbeat_emission held base.heartbeat_counter) (tt, tt))
-
-  request_makes : (e : Endpoint) (held : Held) (number : Option ℕ) (reset : RequestedReset) → MakesTo came to e.below (request_emitted e held number reset)
-  request_makes e held None reset = rests came to e.below
-  request_makes e held (Some number) reset = emitted came to e [] (to_peer held (reset_request number reset)) (tt, tt)
-
-  unless_makes : (b : Bool) (e : Endpoint) (held : Held) (reset : RequestedReset) → MakesTo came to e.below (request_unless b e held reset)
-  unless_makes true e held reset = rests came to e.below
-  unless_makes false e held reset = request_makes e held held.own_outstanding reset
-
-  request_link : (e : Endpoint) (held : Held) (number : Option ℕ) (reset : RequestedReset) → link_in (request_emitted e held number reset).after.core ≡ link_in e.core
-  request_link e held None reset = refl
-  request_link e held (Some number) reset = emits_link e [] (to_peer held (reset_request number reset))
-
-  unless_link : (b : Bool) (e : Endpoint) (held : Held) (reset : RequestedReset) → link_in (request_unless b e held reset).after.core ≡ link_in e.core
-  unless_link true e held reset = refl
-  unless_link false e held reset = request_link e held held.own_outstanding reset
-
-  reconfiguration_goes : (e : Endpoint) (peer : Option Held) (request : Option OutstandingRequest) → Goes came to e (reconfiguration_outcome e peer request)
-  reconfiguration_goes e None request = goes_on refl (rests came to e.below)
-  reconfiguration_goes e (Some held) None = goes_on refl (rests came to e.below)
-  reconfiguration_goes e (Some held) (Some request) =
-      goes_on (unless_link (is_exhausted e.options.max_retransmissions (request_errors e request)) (request_expired e request) held (reset_again (Some request)))
-      (unless_makes (is_exhausted e.options.max_retransmissions (request_errors e request)) (request_expired e request) held (reset_again (Some request)))
-
-  -- ---- each timer, and each chunk
-
-  pub timer_goes : (e : Endpoint) (timer : OwnTimer) (o : Outcome) → TimerTurn e timer o → Goes came to e o
-  timer_goes e acknowledgement_delay o turn = subst (Goes came to e) (sym turn) (delay_goes came to e e.below.transfer refl)
-  timer_goes e retransmission o turn = loss_goes came to e e.below.transfer o refl turn
-  timer_goes e heartbeat_interval o turn = subst (Goes came to e) (sym turn) (interval_goes e e.core)
-  timer_goes e heartbeat_timeout o turn = subst (Goes came to e) (sym turn) (goes_on refl (rests came to e.below))
-  timer_goes e reconfiguration o turn = subst (Goes came to e) (sym turn) (reconfiguration_goes e (held_in e.core) e.outstanding)
-
-plain_by_goes : (to : ℕ) (e : Endpoint) (chunk : Plain) (violation : Option Violation) (o : Outcome) → IsPeerTag e.core to → PlainTurnBy e chunk violation o → Goes (Some (plain chunk)) to e o
-plain_by_goes to e chunk (Some violation) o at turn = subst (Goes (Some (plain chunk)) to e) (sym turn) (aborting_goes (Some (plain chunk)) to e e.core (reasons.Violation violation))
-plain_by_goes to e (unknown type flags value) None o at turn = subst (Goes _ to e) (sym turn) (unknown_goes _ to e e.core type (unknown_bytes type flags value) (is_reported type))
-plain_by_goes to e (heartbeat parameters) None o at turn = subst (Goes _ to e) (sym turn) (heartbeat_goes _ to e e.core parameters)
-plain_by_goes to e (heartbeat_ack parameters) None o at turn = subst (Goes _ to e) (sym turn) (heartbeat_ack_goes _ to e (counter_of (info_in parameters)))
-plain_by_goes to e (unworked (data_chunk chunk)) None o at turn = data_goes _ to e chunk o refl turn
-plain_by_goes to e (unworked (i_data_chunk chunk)) None o at turn = i_data_goes _ to e chunk o refl turn
-plain_by_goes to e (unworked (sack_chunk chunk)) None o at turn = sack_goes _ to e e.below.transfer chunk o at refl turn
-plain_by_goes to e (unworked (forward_tsn_chunk tsn streams)) None o at turn = forward_goes _ to e tsn streams o refl turn
-plain_by_goes to e (unworked (i_forward_tsn_chunk tsn streams)) None o at turn = i_forward_goes _ to e tsn streams o refl turn
-plain_by_goes to e (unworked (error_chunk causes)) None o at turn = subst (Goes _ to e) (sym turn) (error_goes _ to e e.core causes)
-plain_by_goes to e (unworked chunk) None o at turn = subst (Goes _ to e) (sym turn) (goes_on refl (rests _ to e.below))
-
-pub plain_goes : (to : ℕ) (e : Endpoint) (chunk : Plain) (o : Outcome) → IsPeerTag e.core to → PlainTurn e chunk o → Goes (Some (plain chunk)) to e o
-plain_goes to e chunk o at turn = plain_by_goes to e chunk (violation_at e.core chunk) o at turn
+  pub reset_goes : (e : Endpoint) (core : Core) (parameters : List ResetParameter) (o : Outcome) → e.core ≡ core → IsPeerTag e.core to → IsPeerTag core to → ResetTurn e core parameters o → Goes (Some (re_config parameters)) to e o
+  reset_goes e closed parameters o same at is turn = subst (Goes (Some (re_config parameters)) to e) (sym turn) (idle_goes e parameters)
+  reset_goes e (cookie_wait my) parameters o same at is turn = subst (Goes (Some (re_config parameters)) to e) (sym turn) (idle_goes e parameters)
+  reset_goes e (cookie_echoed my held cookie) parameters o same at is turn =
+      works_goes e my held parameters o (ap link_in same) at is (ap (λ (c : Core). own_in c e.outstanding) same) (λ new request. ap (λ (c : Core). own_in (core_with c new) request) same) turn
+  reset_goes e (open_in phase my held) parameters o same at is turn =
+      works_goes e my held parameters o (ap link_in same) at is (ap (λ (c : Core). own_in c e.outstanding) same) (λ new request. ap (λ (c : Core). own_in (core_with c new) request) same) turn

@@ -11,7 +11,11 @@ use Rattle.dcsctp_machine.specs.turns.EndOutcomes.{reflected_outcome}
 use Rattle.dcsctp_machine.specs.turns.ShutdownOutcomes.{phase_at, received_tsn, is_all_acknowledged, step_by, step_outcome, t1_stopped, shut_down_outcome, shutdown_outcome, shutdown_ack_outcome, completed_outcome, shutdown_complete_outcome, t2_goes_on, sent_again, t2_again_outcome}
 use Rattle.dcsctp_machine.specs.control.Effect.{link_of, link_in}
 use Rattle.dcsctp_delivery_turns.specs.Tags.{IsPeerTag}
-use Rattle.dcsctp_delivery_turns.specs.Actions.{Makes, goes_on, ends}
+use Rattle.dcsctp_delivery_turns.specs.Actions.{IsCalm, Inside, inside, Makes, goes_on, ends}
+use Rattle.dcsctp_delivery_turns.specs.Asking.{Own, own_with, own_in, own_of}
+use Rattle.dcsctp_machine.specs.transfer.Transfer.{Below}
+use Rattle.dcsctp_machine.specs.Packet.{Emission}
+use Rattle.std.proofs.Common.{List}
 use Rattle.dcsctp_delivery_turns.proofs.Actions.{Goes, MakesTo, rests, spoken, ended}
 
 -- a step changes nothing below
@@ -59,66 +63,75 @@ step_link e (cookie_wait my) at = refl
 step_link e (cookie_echoed my held cookie) at = refl
 step_link e (open_in phase my held) at = step_by_link (is_all_acknowledged e.below.transfer) e phase my held (ap link_in at) ∙ sym (ap link_in at)
 
-module _ (came : Option Content) (to : ℕ) where
-  says_shutdown : (e : Endpoint) (held : Held) → Makes came to e.below (to_peer held (shutdown (received_tsn e.below.transfer)) ∷ []) e.below
-  says_shutdown e held = spoken came to e.below (to_peer held (shutdown (received_tsn e.below.transfer))) (tt, tt)
+module _ (came : Option Content) (calm : IsCalm came) (to : ℕ) where
+  says_shutdown : (old : Inside) (e : Endpoint) (held : Held) → Makes came to old (to_peer held (shutdown (received_tsn e.below.transfer)) ∷ []) old
+  says_shutdown old e held = spoken came to old (to_peer held (shutdown (received_tsn e.below.transfer))) (tt, tt)
 
-  says_ack : (e : Endpoint) (held : Held) → Makes came to e.below (to_peer held shutdown_ack ∷ []) e.below
-  says_ack e held = spoken came to e.below (to_peer held shutdown_ack) (tt, tt)
+  says_ack : (old : Inside) (held : Held) → Makes came to old (to_peer held shutdown_ack ∷ []) old
+  says_ack old held = spoken came to old (to_peer held shutdown_ack) (tt, tt)
 
   -- ---- a step of it
 
-  step_by_makes : (b : Bool) (e : Endpoint) (phase : OpenPhase) (my : Pair) (held : Held) → MakesTo came to e.below (step_by b e phase my held)
-  step_by_makes false e phase my held = rests came to e.below
-  step_by_makes true e established my held = rests came to e.below
-  step_by_makes true e shutdown_pending my held = says_shutdown e held
-  step_by_makes true e shutdown_sent my held = rests came to e.below
-  step_by_makes true e shutdown_received my held = says_ack e held
-  step_by_makes true e shutdown_ack_sent my held = rests came to e.below
+  -- once another phase has begun
+  phase_makes : (e : Endpoint) (packets : List Emission) (own : Option Own) → own_of e ≡ own → Makes came to (inside e) packets (inside e) → Makes came to (inside e) packets (record { below = e.below; own = own })
+  phase_makes e packets own is makes = subst (λ (o : Option Own). Makes came to (inside e) packets (record { below = e.below; own = o })) is makes
 
-  pub step_makes : (e : Endpoint) (core : Core) → MakesTo came to e.below (step_outcome e core)
-  step_makes e closed = rests came to e.below
-  step_makes e (cookie_wait my) = rests came to e.below
-  step_makes e (cookie_echoed my held cookie) = rests came to e.below
-  step_makes e (open_in phase my held) = step_by_makes (is_all_acknowledged e.below.transfer) e phase my held
+  step_by_makes : (b : Bool) (e : Endpoint) (phase : OpenPhase) (my : Pair) (held : Held) → own_of e ≡ Some (own_with held e.outstanding) → MakesTo came to (inside e) (step_by b e phase my held)
+  step_by_makes false e phase my held is = rests came to (inside e)
+  step_by_makes true e established my held is = rests came to (inside e)
+  step_by_makes true e shutdown_pending my held is = phase_makes e _ _ is (says_shutdown (inside e) e held)
+  step_by_makes true e shutdown_sent my held is = rests came to (inside e)
+  step_by_makes true e shutdown_received my held is = phase_makes e _ _ is (says_ack (inside e) held)
+  step_by_makes true e shutdown_ack_sent my held is = rests came to (inside e)
+
+  pub step_makes : (e : Endpoint) (core : Core) → e.core ≡ core → MakesTo came to (inside e) (step_outcome e core)
+  step_makes e closed at = rests came to (inside e)
+  step_makes e (cookie_wait my) at = rests came to (inside e)
+  step_makes e (cookie_echoed my held cookie) at = rests came to (inside e)
+  step_makes e (open_in phase my held) at = step_by_makes (is_all_acknowledged e.below.transfer) e phase my held (ap (λ (c : Core). own_in c e.outstanding) at)
 
   -- ---- the user's call
 
-  step_from_goes : (e base : Endpoint) (phase : OpenPhase) (my : Pair) (held : Held) → base.below ≡ e.below
-      → Makes came to base.below (events.packets_in (step_by (is_all_acknowledged base.below.transfer) (phase_at base phase my held) phase my held).events) (step_by (is_all_acknowledged base.below.transfer) (phase_at base phase my held) phase my held).after.below
-  step_from_goes e base phase my held same = step_by_makes (is_all_acknowledged base.below.transfer) (phase_at base phase my held) phase my held
+  step_from_makes : (e base : Endpoint) (phase : OpenPhase) (my : Pair) (held : Held) → base.below ≡ e.below → own_of e ≡ Some (own_with held base.outstanding)
+      → Makes came to (inside e) (events.packets_in (step_by (is_all_acknowledged base.below.transfer) (phase_at base phase my held) phase my held).events) (inside (step_by (is_all_acknowledged base.below.transfer) (phase_at base phase my held) phase my held).after)
+  step_from_makes e base phase my held same is =
+      let at : Endpoint = phase_at base phase my held in
+      let o : Outcome = step_by (is_all_acknowledged base.below.transfer) at phase my held in
+      subst (λ (i : Inside). Makes came to i (events.packets_in o.events) (inside o.after))
+      (ap (λ (b : Below). record { below = b; own = Some (own_with held base.outstanding) }) same ∙ ap (λ (o : Option Own). record { below = e.below; own = o }) (sym is))
+      (step_by_makes (is_all_acknowledged base.below.transfer) at phase my held refl)
 
   from_link : (base : Endpoint) (phase : OpenPhase) (my : Pair) (held : Held)
       → link_in (step_by (is_all_acknowledged base.below.transfer) (phase_at base phase my held) phase my held).after.core ≡ Some (link_of my held)
   from_link base phase my held = step_by_link (is_all_acknowledged base.below.transfer) (phase_at base phase my held) phase my held refl
 
   pub shut_down_goes : (e : Endpoint) (core : Core) → e.core ≡ core → Goes came to e (shut_down_outcome e core)
-  shut_down_goes e closed at = goes_on refl (rests came to e.below)
-  shut_down_goes e (cookie_wait my) at = ends refl (λ read. refl) e.below (rests came to e.below) refl
-  shut_down_goes e (cookie_echoed my held cookie) at = goes_on (from_link (t1_stopped e) shutdown_pending my held ∙ sym (ap link_in at)) (step_from_goes e (t1_stopped e) shutdown_pending my held refl)
-  shut_down_goes e (open_in established my held) at = goes_on (from_link e shutdown_pending my held ∙ sym (ap link_in at)) (step_from_goes e e shutdown_pending my held refl)
-  shut_down_goes e (open_in shutdown_pending my held) at = goes_on refl (rests came to e.below)
-  shut_down_goes e (open_in shutdown_sent my held) at = goes_on refl (rests came to e.below)
-  shut_down_goes e (open_in shutdown_received my held) at = goes_on refl (rests came to e.below)
-  shut_down_goes e (open_in shutdown_ack_sent my held) at = goes_on refl (rests came to e.below)
+  shut_down_goes e closed at = goes_on calm refl (rests came to (inside e))
+  shut_down_goes e (cookie_wait my) at = ends refl (λ read. refl) (inside e) (rests came to (inside e)) refl
+  shut_down_goes e (cookie_echoed my held cookie) at = goes_on calm (from_link (t1_stopped e) shutdown_pending my held ∙ sym (ap link_in at)) (step_from_makes e (t1_stopped e) shutdown_pending my held refl (ap (λ (c : Core). own_in c e.outstanding) at))
+  shut_down_goes e (open_in established my held) at = goes_on calm (from_link e shutdown_pending my held ∙ sym (ap link_in at)) (step_from_makes e e shutdown_pending my held refl (ap (λ (c : Core). own_in c e.outstanding) at))
+  shut_down_goes e (open_in shutdown_pending my held) at = goes_on calm refl (rests came to (inside e))
+  shut_down_goes e (open_in shutdown_sent my held) at = goes_on calm refl (rests came to (inside e))
+  shut_down_goes e (open_in shutdown_received my held) at = goes_on calm refl (rests came to (inside e))
+  shut_down_goes e (open_in shutdown_ack_sent my held) at = goes_on calm refl (rests came to (inside e))
 
   -- ---- chunks
 
   pub shutdown_goes : (e : Endpoint) (core : Core) → e.core ≡ core → Goes came to e (shutdown_outcome e core)
-  shutdown_goes e closed at = goes_on refl (rests came to e.below)
-  shutdown_goes e (cookie_wait my) at = goes_on refl (rests came to e.below)
-  shutdown_goes e (cookie_echoed my held cookie) at = goes_on refl (rests came to e.below)
-  shutdown_goes e (open_in established my held) at = goes_on (from_link e shutdown_received my held ∙ sym (ap link_in at)) (step_from_goes e e shutdown_received my held refl)
-  shutdown_goes e (open_in shutdown_pending my held) at = goes_on (from_link e shutdown_received my held ∙ sym (ap link_in at)) (step_from_goes e e shutdown_received my held refl)
-  shutdown_goes e (open_in shutdown_sent my held) at = goes_on (sym (ap link_in at)) (says_ack e held)
-  shutdown_goes e (open_in shutdown_received my held) at = goes_on refl (rests came to e.below)
-  shutdown_goes e (open_in shutdown_ack_sent my held) at = goes_on (sym (ap link_in at)) (says_ack e held)
+  shutdown_goes e closed at = goes_on calm refl (rests came to (inside e))
+  shutdown_goes e (cookie_wait my) at = goes_on calm refl (rests came to (inside e))
+  shutdown_goes e (cookie_echoed my held cookie) at = goes_on calm refl (rests came to (inside e))
+  shutdown_goes e (open_in established my held) at = goes_on calm (from_link e shutdown_received my held ∙ sym (ap link_in at)) (step_from_makes e e shutdown_received my held refl (ap (λ (c : Core). own_in c e.outstanding) at))
+  shutdown_goes e (open_in shutdown_pending my held) at = goes_on calm (from_link e shutdown_received my held ∙ sym (ap link_in at)) (step_from_makes e e shutdown_received my held refl (ap (λ (c : Core). own_in c e.outstanding) at))
+  shutdown_goes e (open_in shutdown_sent my held) at = goes_on calm (sym (ap link_in at)) (phase_makes e _ _ (ap (λ (c : Core). own_in c e.outstanding) at) (says_ack (inside e) held))
+  shutdown_goes e (open_in shutdown_received my held) at = goes_on calm refl (rests came to (inside e))
+  shutdown_goes e (open_in shutdown_ack_sent my held) at = goes_on calm (sym (ap link_in at)) (phase_makes e _ _ (ap (λ (c : Core). own_in c e.outstanding) at) (says_ack (inside e) held))
 
   completed_goes : (e : Endpoint) (held : Held) → Goes came to e (completed_outcome e held)
-  completed_goes e held = ended came to e (sends e [] [] (to_peer held (shutdown_complete false))) events.closed refl (spoken came to e.below (to_peer held (shutdown_complete false)) (tt, tt))
+  completed_goes e held = ended came to e (sends e [] [] (to_peer held (shutdown_complete false))) events.closed refl (spoken came to (inside e) (to_peer held (shutdown_complete false)) (tt, tt))
 
   reflected_goes : (e : Endpoint) (tag : ℕ) → Goes came to e (reflected_outcome e tag)
-  reflected_goes e tag = goes_on refl (spoken came to e.below (record { with_checksum = true; packet = record { tag = tag; contents = shutdown_complete true ∷ [] } }) (tt, tt))
+  reflected_goes e tag = goes_on calm refl (spoken came to (inside e) (record { with_checksum = true; packet = record { tag = tag; contents = shutdown_complete true ∷ [] } }) (tt, tt))
 
   pub shutdown_ack_goes : (e : Endpoint) (core : Core) (tag : ℕ) → Goes came to e (shutdown_ack_outcome e core tag)
   shutdown_ack_goes e closed tag = reflected_goes e tag
@@ -131,26 +144,26 @@ module _ (came : Option Content) (to : ℕ) where
   shutdown_ack_goes e (open_in shutdown_ack_sent my held) tag = completed_goes e held
 
   pub shutdown_complete_goes : (e : Endpoint) (core : Core) → Goes came to e (shutdown_complete_outcome e core)
-  shutdown_complete_goes e closed = goes_on refl (rests came to e.below)
-  shutdown_complete_goes e (cookie_wait my) = goes_on refl (rests came to e.below)
-  shutdown_complete_goes e (cookie_echoed my held cookie) = goes_on refl (rests came to e.below)
-  shutdown_complete_goes e (open_in established my held) = goes_on refl (rests came to e.below)
-  shutdown_complete_goes e (open_in shutdown_pending my held) = goes_on refl (rests came to e.below)
-  shutdown_complete_goes e (open_in shutdown_sent my held) = goes_on refl (rests came to e.below)
-  shutdown_complete_goes e (open_in shutdown_received my held) = goes_on refl (rests came to e.below)
-  shutdown_complete_goes e (open_in shutdown_ack_sent my held) = ends refl (λ read. refl) e.below (rests came to e.below) refl
+  shutdown_complete_goes e closed = goes_on calm refl (rests came to (inside e))
+  shutdown_complete_goes e (cookie_wait my) = goes_on calm refl (rests came to (inside e))
+  shutdown_complete_goes e (cookie_echoed my held cookie) = goes_on calm refl (rests came to (inside e))
+  shutdown_complete_goes e (open_in established my held) = goes_on calm refl (rests came to (inside e))
+  shutdown_complete_goes e (open_in shutdown_pending my held) = goes_on calm refl (rests came to (inside e))
+  shutdown_complete_goes e (open_in shutdown_sent my held) = goes_on calm refl (rests came to (inside e))
+  shutdown_complete_goes e (open_in shutdown_received my held) = goes_on calm refl (rests came to (inside e))
+  shutdown_complete_goes e (open_in shutdown_ack_sent my held) = ends refl (λ read. refl) (inside e) (rests came to (inside e)) refl
 
   -- ---- T2, and data while a SHUTDOWN waits for its answer
 
-  again_makes : (e : Endpoint) (core : Core) → MakesTo came to e.below (sent_again e core)
-  again_makes e closed = rests came to e.below
-  again_makes e (cookie_wait my) = rests came to e.below
-  again_makes e (cookie_echoed my held cookie) = rests came to e.below
-  again_makes e (open_in established my held) = rests came to e.below
-  again_makes e (open_in shutdown_pending my held) = rests came to e.below
-  again_makes e (open_in shutdown_sent my held) = says_shutdown e held
-  again_makes e (open_in shutdown_received my held) = rests came to e.below
-  again_makes e (open_in shutdown_ack_sent my held) = says_ack e held
+  again_makes : (e : Endpoint) (core : Core) → MakesTo came to (inside e) (sent_again e core)
+  again_makes e closed = rests came to (inside e)
+  again_makes e (cookie_wait my) = rests came to (inside e)
+  again_makes e (cookie_echoed my held cookie) = rests came to (inside e)
+  again_makes e (open_in established my held) = rests came to (inside e)
+  again_makes e (open_in shutdown_pending my held) = rests came to (inside e)
+  again_makes e (open_in shutdown_sent my held) = says_shutdown (inside e) e held
+  again_makes e (open_in shutdown_received my held) = rests came to (inside e)
+  again_makes e (open_in shutdown_ack_sent my held) = says_ack (inside e) held
 
   again_link : (e : Endpoint) (core : Core) → link_in (sent_again e core).after.core ≡ link_in e.core
   again_link e closed = refl
@@ -163,15 +176,15 @@ module _ (came : Option Content) (to : ℕ) where
   again_link e (open_in shutdown_ack_sent my held) = refl
 
   pub t2_again_goes : (e : Endpoint) → Goes came to e (t2_again_outcome e)
-  t2_again_goes e = goes_on (again_link (t2_goes_on e) e.core) (again_makes (t2_goes_on e) e.core)
+  t2_again_goes e = goes_on calm (again_link (t2_goes_on e) e.core) (again_makes (t2_goes_on e) e.core)
 
   pub begin_goes : (e : Endpoint) (core : Core) (has : Bool) (o : Outcome) → BeginTurn e core has o → Goes came to e o
-  begin_goes e closed has o turn = subst (Goes came to e) (sym turn) (goes_on refl (rests came to e.below))
-  begin_goes e (cookie_wait my) has o turn = subst (Goes came to e) (sym turn) (goes_on refl (rests came to e.below))
-  begin_goes e (cookie_echoed my held cookie) has o turn = subst (Goes came to e) (sym turn) (goes_on refl (rests came to e.below))
-  begin_goes e (open_in established my held) has o turn = subst (Goes came to e) (sym turn) (goes_on refl (rests came to e.below))
-  begin_goes e (open_in shutdown_pending my held) has o turn = subst (Goes came to e) (sym turn) (goes_on refl (rests came to e.below))
-  begin_goes e (open_in shutdown_sent my held) true o turn = subst (Goes came to e) (sym turn) (goes_on refl (says_shutdown e held))
-  begin_goes e (open_in shutdown_sent my held) false o turn = subst (Goes came to e) (sym turn) (goes_on refl (rests came to e.below))
-  begin_goes e (open_in shutdown_received my held) has o turn = subst (Goes came to e) (sym turn) (goes_on refl (rests came to e.below))
-  begin_goes e (open_in shutdown_ack_sent my held) has o turn = subst (Goes came to e) (sym turn) (goes_on refl (rests came to e.below))
+  begin_goes e closed has o turn = subst (Goes came to e) (sym turn) (goes_on calm refl (rests came to (inside e)))
+  begin_goes e (cookie_wait my) has o turn = subst (Goes came to e) (sym turn) (goes_on calm refl (rests came to (inside e)))
+  begin_goes e (cookie_echoed my held cookie) has o turn = subst (Goes came to e) (sym turn) (goes_on calm refl (rests came to (inside e)))
+  begin_goes e (open_in established my held) has o turn = subst (Goes came to e) (sym turn) (goes_on calm refl (rests came to (inside e)))
+  begin_goes e (open_in shutdown_pending my held) has o turn = subst (Goes came to e) (sym turn) (goes_on calm refl (rests came to (inside e)))
+  begin_goes e (open_in shutdown_sent my held) true o turn = subst (Goes came to e) (sym turn) (goes_on calm refl (says_shutdown (inside e) e held))
+  begin_goes e (open_in shutdown_sent my held) false o turn = subst (Goes came to e) (sym turn) (goes_on calm refl (rests came to (inside e)))
+  begin_goes e (open_in shutdown_received my held) has o turn = subst (Goes came to e) (sym turn) (goes_on calm refl (rests came to (inside e)))
+  begin_goes e (open_in shutdown_ack_sent my held) has o turn = subst (Goes came to e) (sym turn) (goes_on calm refl (rests came to (inside e)))

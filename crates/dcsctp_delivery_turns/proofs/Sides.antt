@@ -1,114 +1,31 @@
 -- The actions of a socket, as steps of its two directions.
 use Rattle.dcsctp_delivery_directions.specs.Directions as directions
-use Rattle.std.proofs.Common.{◌≡◌, ℕ, ◌+◌, Bool, true, false, Option, None, Some, List, [], ◌∷◌, refl, sym, ◌∙◌, ap, subst}
+use Rattle.std.proofs.Common.{◌≡◌, ℕ, ◌+◌, Option, Some, List, refl, sym, ◌∙◌, ap, subst}
 use Rattle.dcsctp_wire.specs.Content.{data_chunk, i_data_chunk, forward_tsn_chunk, i_forward_tsn_chunk}
 use Rattle.dcsctp_machine.specs.declared.options.Options.{Options}
-use Rattle.dcsctp_machine.specs.Endpoint.{Endpoint}
-use Rattle.dcsctp_machine.specs.Event.{Event}
-use Rattle.dcsctp_machine.specs.Packet.{Content, Plain, Emission}
+use Rattle.dcsctp_machine.specs.Packet.{Content}
 use Rattle.dcsctp_machine.specs.transfer.Messages.{MessageContent}
 use Rattle.dcsctp_machine.specs.transfer.Outstanding.{acknowledged_by}
 use Rattle.dcsctp_machine.specs.transfer.Reassembly.{ReassemblyState}
 use Rattle.dcsctp_machine.specs.transfer.Tracker.{TrackerState}
-use Rattle.dcsctp_machine.specs.transfer.Transfer.{Transfer, Below, is_idle}
-use Rattle.dcsctp_machine.specs.turns.FlushOutcomes.{Answer, answer_contents, filled, goes_out, asked, next_draft, flush_of, Ask, first_ask, later_ask, room_in, wants_sack, Acknowledges, GivesWhere, AnsweredBelow, Answered, Answers, at_limit, at_empty, after_packet, packets_allowed}
-use Rattle.dcsctp_machine.specs.turns.TransferMoves.{ReceivesWhere, MovesWhere, timed_by, lost_all}
-use Rattle.dcsctp_delivery_turns.specs.Actions.{Ledger, Action, queues, sets, prepares, commits, rolls_back, flushes, resends, resends_nothing, speaks, acknowledges, loses, receives, receives_interleaved, forwards, forwards_interleaved, tracks, defers, resets, takes, Actions, nothing, further}
+use Rattle.dcsctp_machine.specs.transfer.Transfer.{Transfer, Below}
+use Rattle.dcsctp_machine.specs.turns.FlushOutcomes.{first_ask, packets_allowed}
+use Rattle.dcsctp_machine.specs.turns.TransferMoves.{timed_by, lost_all}
+use Rattle.dcsctp_delivery_turns.specs.Actions.{Ledger, Action, queues, sets, prepares, flushes, resends, resends_nothing, speaks, asks_again, acknowledges, loses, receives, receives_interleaved, forwards, forwards_interleaved, tracks, takes, Actions, nothing, further}
 use Rattle.dcsctp_delivery_turns.specs.Sides.{Steps, stays, moves, sending, SendingSteps, WasIn, WasSent, receiving, ReceivingSteps}
 use Rattle.dcsctp_delivery_directions.specs.Directions.{Direction, Step, Run, goes_on}
+use Rattle.dcsctp_delivery_turns.proofs.Received.{data_where, forward_where, Alike, alike, alike_then, timed_alike, flush_left}
 
 pub steps_go_on : (options : Options) (first size : ℕ) (old new : Direction) → Run options first size old → Steps old new → Run options first size new
 steps_go_on options first size old _ run stays = run
 steps_go_on options first size old _ run (moves between new first_steps step) = goes_on between new (steps_go_on options first size old between run first_steps) step
 
-all_steps : (old between new : Direction) → Steps old between → Steps between new → Steps old new
+pub all_steps : (old between new : Direction) → Steps old between → Steps between new → Steps old new
 all_steps old between _ first stays = first
 all_steps old between _ first (moves middle new second step) = moves middle new (all_steps old between middle first second) step
 
-one_step : (old new : Direction) → Step old new → Steps old new
+pub one_step : (old new : Direction) → Step old new → Steps old new
 one_step old new step = moves old new stays step
-
--- ---- what data and acknowledgements leave
-
-data_where : (b : Bool) (arrival : _) (old new : Transfer) → ReceivesWhere b arrival old new → new.retransmission ≡ old.retransmission
-data_where true arrival old new does = ap (λ (t : Transfer). t.retransmission) does.rest
-data_where false arrival old new does = ap (λ (t : Transfer). t.retransmission) does
-
-forward_where : (b : Bool) (tsn : ℕ) (entries : _) (old new : Transfer) → MovesWhere b tsn entries old new → new.retransmission ≡ old.retransmission
-forward_where true tsn entries old new does = ap (λ (t : Transfer). t.retransmission) does.rest
-forward_where false tsn entries old new does = ap (λ (t : Transfer). t.retransmission) does
-
--- It has received the same.
-record Alike (old new : Transfer) : Type 0 where
-  cumulative : new.tracker.cumulative ≡ old.tracker.cumulative
-  ranges : new.tracker.ranges ≡ old.tracker.ranges
-  reassembly : new.reassembly ≡ old.reassembly
-
-alike : (transfer : Transfer) → Alike transfer transfer
-alike transfer = record { cumulative = refl; ranges = refl; reassembly = refl }
-
-alike_then : (old between new : Transfer) → Alike old between → Alike between new → Alike old new
-alike_then old between new first second =
-    record { cumulative = second.cumulative ∙ first.cumulative; ranges = second.ranges ∙ first.ranges; reassembly = second.reassembly ∙ first.reassembly }
-
-timed_alike : (round_trip : Option ℕ) (transfer : Transfer) → Alike transfer (timed_by round_trip transfer)
-timed_alike None transfer = alike transfer
-timed_alike (Some round_trip) transfer = record { cumulative = refl; ranges = refl; reassembly = refl }
-
--- ---- what a flush leaves
-
-record Left (old : Transfer) (new : Option Transfer) : Type 0 where
-  left : Transfer
-  is : new ≡ Some left
-  same : Alike old left
-
-acknowledged_alike : (b : Bool) (room : ℕ) (transfer : Transfer) (tracker : TrackerState) (chunks : List Plain) (retransmission : _) → Acknowledges b room transfer tracker chunks
-    → Alike transfer (record transfer { retransmission = retransmission; tracker = tracker })
-acknowledged_alike false room transfer tracker chunks retransmission does =
-    record { cumulative = ap (λ (t : TrackerState). t.cumulative) does.0; ranges = ap (λ (t : TrackerState). t.ranges) does.0; reassembly = refl }
-acknowledged_alike true room transfer tracker chunks retransmission does =
-    record { cumulative = ap (λ (t : TrackerState). t.cumulative) does.0; ranges = ap (λ (t : TrackerState). t.ranges) does.0; reassembly = refl }
-
-gives_left : (b : Bool) (ask : Ask) (e : Endpoint) (draft : Emission) (transfer : Transfer) (answer : Answer) → e.below.transfer ≡ Some transfer → GivesWhere b ask e draft transfer answer
-    → Left transfer answer.after.below.transfer
-gives_left true ask e draft transfer answer known does =
-    record { left = transfer; is = ap (λ (a : Answer). a.after.below.transfer) does ∙ known; same = alike transfer }
-gives_left false ask e draft transfer answer known does =
-    record {
-      left = record transfer { retransmission = does.sent.queue; tracker = does.tracker };
-      is = ap (λ (b : Below). b.transfer) does.below;
-      same = acknowledged_alike (wants_sack ask e.below.queue transfer) (room_in e draft) transfer does.tracker does.sacks does.sent.queue does.acknowledges;
-    }
-
-answered_left : (ask : Ask) (e : Endpoint) (draft : Emission) (found : Option Transfer) (transfer : Transfer) (answer : Answer) → e.below.transfer ≡ found → found ≡ Some transfer → AnsweredBelow ask e draft answer found
-    → Left transfer answer.after.below.transfer
-answered_left ask e draft None transfer answer known is does = absurd (cc)
-answered_left ask e draft (Some other) transfer answer known is does =
-    let same : other ≡ transfer = cc in
-    subst (λ (t : Transfer). Left t answer.after.below.transfer) same (gives_left (is_idle e.below.queue other) ask e draft other answer known does)
-
-pub out_below : (e : Endpoint) (told : List (Event Emission)) (with_checksum : Bool) (tag : ℕ) (contents : List Content) → (goes_out e told with_checksum tag contents).after.below ≡ e.below
-out_below e told with_checksum tag [] = refl
-out_below e told with_checksum tag (content ∷ contents) = refl
-
-asked_left : (ask : Ask) (e : Endpoint) (draft : Emission) (transfer : Transfer) (answer : Answer) → e.below.transfer ≡ Some transfer → Answered ask e draft answer
-    → Left transfer (asked e draft answer).after.below.transfer
-asked_left ask e draft transfer answer known does =
-    let left = answered_left ask e draft e.below.transfer transfer answer refl known does.by_transfer in
-    record {
-      left = left.left;
-      is = ap (λ (b : Below). b.transfer) (out_below answer.after _ draft.with_checksum draft.packet.tag (filled draft (answer_contents answer)).packet.contents) ∙ left.is;
-      same = left.same;
-    }
-
-flush_left : (ask : Ask) (n : ℕ) (e : Endpoint) (draft : Emission) (answers : List Answer) (transfer : Transfer) → e.below.transfer ≡ Some transfer → Answers ask n e draft answers
-    → Left transfer (flush_of e draft answers).after.below.transfer
-flush_left _ _ _ _ _ transfer known (at_limit ask e draft) = record { left = transfer; is = known; same = alike transfer }
-flush_left _ _ _ _ _ transfer known (at_empty ask more e draft answer does empty) = asked_left ask e draft transfer answer known does
-flush_left _ _ _ _ _ transfer known (after_packet ask more e draft answer answers does some rest) =
-    let first = asked_left ask e draft transfer answer known does in
-    let second = flush_left later_ask more (asked e draft answer).after (next_draft e.core draft) answers first.left first.is rest in
-    record { left = second.left; is = second.is; same = alike_then transfer first.left second.left first.same second.same }
 
 -- ---- the direction on which it sends
 
@@ -120,13 +37,12 @@ module _ (came : Option Content) (to : ℕ) (tracker : TrackerState) (reassembly
   action_sends old _ acknowledged (queues now message fits some) = by old _ acknowledged acknowledged (directions.queues now message fits some)
   action_sends old _ acknowledged (sets setting) = by old _ acknowledged acknowledged (directions.sets setting)
   action_sends old _ acknowledged (prepares ids) = by old _ acknowledged acknowledged (directions.prepares ids)
-  action_sends old _ acknowledged (commits go_on) = by old _ acknowledged acknowledged (directions.commits go_on)
-  action_sends old _ acknowledged rolls_back = by old _ acknowledged acknowledged directions.rolls_back
   action_sends old _ acknowledged (flushes e draft answers same at tag no_data no_end allowed) = by old _ acknowledged acknowledged (directions.flushes e draft answers same no_data allowed)
   action_sends old _ acknowledged (resends now room transfer left tsns chunks emission tag known sends are contents) =
       by old _ acknowledged acknowledged (directions.resends now room transfer left tsns chunks emission known sends are contents)
   action_sends old _ acknowledged (resends_nothing now room transfer left tsns known sends) = by old _ acknowledged acknowledged (directions.resends_nothing now room transfer left tsns known sends)
   action_sends old _ acknowledged (speaks emission no_data) = by old _ acknowledged acknowledged (directions.speaks emission no_data)
+  action_sends old _ acknowledged (asks_again emission begun tag was contents) = by old _ acknowledged acknowledged (directions.asks_again emission begun was contents)
   action_sends old _ acknowledged (acknowledges now sack transfer new known valid does) =
       by old _ acknowledged (acknowledged + acknowledged_by transfer.retransmission.outstanding sack.cumulative_tsn_ack) (directions.acknowledges now sack transfer new known valid does)
   action_sends old _ acknowledged (loses now transfer known) = by old _ acknowledged acknowledged (directions.loses now transfer known)
@@ -135,8 +51,6 @@ module _ (came : Option Content) (to : ℕ) (tracker : TrackerState) (reassembly
   action_sends old _ acknowledged (forwards tsn streams transfer new is known does) = by old _ acknowledged acknowledged (directions.turns_aside transfer new known (forward_where _ tsn _ transfer new does))
   action_sends old _ acknowledged (forwards_interleaved tsn streams transfer new is known does) = by old _ acknowledged acknowledged (directions.turns_aside transfer new known (forward_where _ tsn _ transfer new does))
   action_sends old _ acknowledged (tracks transfer tracked known cumulative ranges) = by old _ acknowledged acknowledged (directions.turns_aside transfer _ known refl)
-  action_sends old _ acknowledged (defers transfer last_tsn streams known) = by old _ acknowledged acknowledged (directions.turns_aside transfer _ known refl)
-  action_sends old _ acknowledged (resets transfer streams new known leaves) = by old _ acknowledged acknowledged (directions.turns_aside transfer _ known refl)
   action_sends old _ acknowledged (takes transfer message messages known ready) = by old _ acknowledged acknowledged (directions.turns_aside transfer _ known refl)
 
   all_send : (old new : Ledger) (acknowledged : ℕ) → Actions came to old new → SendingSteps old new acknowledged tracker reassembly read
@@ -177,9 +91,8 @@ module _ (came : Option Content) (to : ℕ) (direction : Direction) (was : WasSe
   action_receives old _ transfer is (queues now message fits some) = alike_receives old _ transfer transfer is refl (alike transfer)
   action_receives old _ transfer is (sets setting) = alike_receives old _ transfer transfer is refl (alike transfer)
   action_receives old _ transfer is (prepares ids) = alike_receives old _ transfer transfer is refl (alike transfer)
-  action_receives old _ transfer is (commits go_on) = alike_receives old _ transfer transfer is refl (alike transfer)
-  action_receives old _ transfer is rolls_back = alike_receives old _ transfer transfer is refl (alike transfer)
   action_receives old _ transfer is (speaks emission no_data) = alike_receives old _ transfer transfer is refl (alike transfer)
+  action_receives old _ transfer is (asks_again emission begun tag has contents) = alike_receives old _ transfer transfer is refl (alike transfer)
   action_receives old _ transfer is (flushes e draft answers same at tag no_data no_end allowed) =
       let left = flush_left first_ask (packets_allowed e.options.max_burst e.core) e draft answers transfer (ap (λ (b : Below). b.transfer) same ∙ is) allowed in
       alike_receives old _ transfer left.left left.is refl left.same
@@ -232,12 +145,6 @@ module _ (came : Option Content) (to : ℕ) (direction : Direction) (was : WasSe
     where
       like : found ≡ transfer → Alike transfer (record found { tracker = tracked })
       like same = subst (λ (t : Transfer). Alike t (record found { tracker = tracked })) same (record { cumulative = cumulative; ranges = ranges; reassembly = refl })
-  action_receives old new transfer is (defers found last_tsn streams known) =
-      subst (λ (t : Transfer). ReceivingSteps direction t old new) (same_transfer old.below.transfer found transfer known is)
-      (by_step old new found _ refl (directions.defers last_tsn streams))
-  action_receives old new transfer is (resets found streams reassembly known leaves) =
-      subst (λ (t : Transfer). ReceivingSteps direction t old new) (same_transfer old.below.transfer found transfer known is)
-      (by_step old new found _ refl (directions.resets streams reassembly leaves))
   action_receives old new transfer is (takes found message messages known ready) =
       subst (λ (t : Transfer). ReceivingSteps direction t old new) (same_transfer old.below.transfer found transfer known is)
       (by_step old new found _ refl (directions.takes message messages ready))

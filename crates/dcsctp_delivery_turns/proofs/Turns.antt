@@ -8,14 +8,15 @@ use Rattle.dcsctp_machine.specs.Outcome.{Outcome}
 use Rattle.dcsctp_machine.specs.Turn.{Input, arrival, refusal, packet_begins, chunk_input, packet_ends, act_input, user_sets, user_sends, user_resets, user_takes, timer_expires, time_passes, restores, has_data, ContentTurn, ActTurn, Turn}
 use Rattle.dcsctp_machine.specs.control.Acts.{Act, connect, t1_expires, shut_down, step_of_shutdown, shutdown_repeats, abort_with, hands_over, flushes, request_again}
 use Rattle.dcsctp_machine.specs.turns.TimerOutcomes.{t1_goes_on}
-use Rattle.dcsctp_delivery_turns.specs.Actions.{Becomes, goes_on, came_by, queued_after, read_after, IsCall, ResetsNone, peer_tag}
+use Rattle.dcsctp_delivery_turns.specs.Actions.{IsCalm, inside, Becomes, goes_on, came_by, queued_after, read_after, IsCall, peer_tag}
 use Rattle.dcsctp_delivery_turns.specs.Tags.{IsPeerTag}
 use Rattle.dcsctp_delivery_turns.proofs.Actions.{Goes, rests, action_of}
 use Rattle.dcsctp_delivery_turns.proofs.Handshake.{again_link, init_goes, connect_goes, init_ack_goes, cookie_ack_goes, echo_goes, hand_over_goes, abort_goes, aborting_goes, again_goes, gives_up_goes}
 use Rattle.dcsctp_delivery_turns.proofs.Shutdown.{step_link, step_makes, shut_down_goes, shutdown_goes, shutdown_ack_goes, shutdown_complete_goes, t2_again_goes, begin_goes}
 use Rattle.dcsctp_delivery_turns.proofs.Data.{turn_link, flush_makes, end_goes}
 use Rattle.dcsctp_delivery_turns.proofs.Messages.{take_goes, send_goes, own_resets_go}
-use Rattle.dcsctp_delivery_turns.proofs.Resets.{reset_goes, plain_goes, timer_goes}
+use Rattle.dcsctp_delivery_turns.proofs.Resets.{reset_goes}
+use Rattle.dcsctp_delivery_turns.proofs.Others.{plain_goes, timer_goes}
 
 own_peer : (core : Core) → IsPeerTag core (peer_tag core)
 own_peer closed = tt
@@ -23,41 +24,45 @@ own_peer (cookie_wait my) = tt
 own_peer (cookie_echoed my held cookie) = refl
 own_peer (open_in phase my held) = refl
 
-content_goes : (e : Endpoint) (tag : ℕ) (content : Content) (o : Outcome) → ResetsNone e o → ContentTurn e tag content o → Goes (Some content) (peer_tag e.core) e o
-content_goes e tag (init theirs) o none turn = subst (Goes _ (peer_tag e.core) e) (sym turn.2) (init_goes _ (peer_tag e.core) e theirs e.core turn.0 turn.1)
-content_goes e tag (init_ack theirs cookie) o none turn = subst (Goes _ (peer_tag e.core) e) (sym turn.3) (init_ack_goes (Some (init_ack theirs cookie)) (peer_tag e.core) tt e theirs cookie e.core turn.0 turn.1 turn.2)
-content_goes e tag (cookie_echo bytes) o none turn = subst (Goes _ (peer_tag e.core) e) (sym turn.3) (echo_goes (Some (cookie_echo bytes)) (peer_tag e.core) tt e e.core tag (cookie_at bytes) turn.0 turn.1 refl (own_peer e.core) (own_peer e.core) turn.2)
-content_goes e tag cookie_ack o none turn = subst (Goes _ (peer_tag e.core) e) (sym turn.2) (cookie_ack_goes _ (peer_tag e.core) e e.core turn.0 refl (own_peer e.core) turn.1)
-content_goes e tag (re_config parameters) o none turn = reset_goes _ (peer_tag e.core) e e.core parameters o refl (own_peer e.core) (own_peer e.core) none turn
-content_goes e tag (abort reflected causes) o none turn = subst (Goes _ (peer_tag e.core) e) (sym turn) (abort_goes _ (peer_tag e.core) e causes e.core)
-content_goes e tag (shutdown tsn) o none turn = subst (Goes _ (peer_tag e.core) e) (sym turn) (shutdown_goes _ (peer_tag e.core) e e.core refl)
-content_goes e tag shutdown_ack o none turn = subst (Goes _ (peer_tag e.core) e) (sym turn) (shutdown_ack_goes _ (peer_tag e.core) e e.core tag)
-content_goes e tag (shutdown_complete reflected) o none turn = subst (Goes _ (peer_tag e.core) e) (sym turn) (shutdown_complete_goes _ (peer_tag e.core) e e.core)
-content_goes e tag (plain chunk) o none turn = plain_goes (peer_tag e.core) e chunk o (own_peer e.core) turn
+-- no chunk is handled
+none_calm : IsCalm None
+none_calm = λ parameters is. absurd (cc)
+
+content_goes : (e : Endpoint) (tag : ℕ) (content : Content) (o : Outcome) → ContentTurn e tag content o → Goes (Some content) (peer_tag e.core) e o
+content_goes e tag (init theirs) o turn = subst (Goes _ (peer_tag e.core) e) (sym turn.2) (init_goes _ (λ parameters is. absurd (cc)) (peer_tag e.core) e theirs e.core turn.0 turn.1)
+content_goes e tag (init_ack theirs cookie) o turn = subst (Goes _ (peer_tag e.core) e) (sym turn.3) (init_ack_goes (Some (init_ack theirs cookie)) (λ parameters is. absurd (cc)) (peer_tag e.core) tt e theirs cookie e.core turn.0 turn.1 turn.2)
+content_goes e tag (cookie_echo bytes) o turn = subst (Goes _ (peer_tag e.core) e) (sym turn.3) (echo_goes (Some (cookie_echo bytes)) (λ parameters is. absurd (cc)) (peer_tag e.core) tt e e.core tag (cookie_at bytes) turn.0 turn.1 refl (own_peer e.core) (own_peer e.core) turn.2)
+content_goes e tag cookie_ack o turn = subst (Goes _ (peer_tag e.core) e) (sym turn.2) (cookie_ack_goes _ (λ parameters is. absurd (cc)) (peer_tag e.core) e e.core turn.0 refl (own_peer e.core) turn.1)
+content_goes e tag (re_config parameters) o turn = reset_goes (peer_tag e.core) e e.core parameters o refl (own_peer e.core) (own_peer e.core) turn
+content_goes e tag (abort reflected causes) o turn = subst (Goes _ (peer_tag e.core) e) (sym turn) (abort_goes _ (λ parameters is. absurd (cc)) (peer_tag e.core) e causes e.core)
+content_goes e tag (shutdown tsn) o turn = subst (Goes _ (peer_tag e.core) e) (sym turn) (shutdown_goes _ (λ parameters is. absurd (cc)) (peer_tag e.core) e e.core refl)
+content_goes e tag shutdown_ack o turn = subst (Goes _ (peer_tag e.core) e) (sym turn) (shutdown_ack_goes _ (λ parameters is. absurd (cc)) (peer_tag e.core) e e.core tag)
+content_goes e tag (shutdown_complete reflected) o turn = subst (Goes _ (peer_tag e.core) e) (sym turn) (shutdown_complete_goes _ (λ parameters is. absurd (cc)) (peer_tag e.core) e e.core)
+content_goes e tag (plain chunk) o turn = plain_goes (peer_tag e.core) e chunk o (own_peer e.core) turn
 
 act_goes : (e : Endpoint) (act : Act) (o : Outcome) → IsCall (act_input act) → ActTurn e act o → Goes None (peer_tag e.core) e o
-act_goes e connect o may turn = subst (Goes None (peer_tag e.core) e) (sym turn.2) (connect_goes None (peer_tag e.core) e e.core turn.0 turn.1 refl)
-act_goes e (t1_expires true) o may turn = subst (Goes None (peer_tag e.core) e) (sym turn.2) (goes_on (again_link None (peer_tag e.core) (t1_goes_on e) e.core turn.0 turn.1) (again_goes None (peer_tag e.core) (t1_goes_on e) e.core turn.0 (own_peer e.core) (own_peer e.core) turn.1))
-act_goes e (t1_expires false) o may turn = subst (Goes None (peer_tag e.core) e) (sym turn) (gives_up_goes None (peer_tag e.core) e e.core)
-act_goes e shut_down o may turn = subst (Goes None (peer_tag e.core) e) (sym turn) (shut_down_goes None (peer_tag e.core) e e.core refl)
-act_goes e step_of_shutdown o may turn = subst (Goes None (peer_tag e.core) e) (sym turn) (goes_on (step_link e e.core refl) (step_makes None (peer_tag e.core) e e.core))
-act_goes e shutdown_repeats o may turn = subst (Goes None (peer_tag e.core) e) (sym turn) (t2_again_goes None (peer_tag e.core) e)
-act_goes e (abort_with reason) o may turn = subst (Goes None (peer_tag e.core) e) (sym turn) (aborting_goes None (peer_tag e.core) e e.core reason)
-act_goes e hands_over o may turn = subst (Goes None (peer_tag e.core) e) (sym turn) (hand_over_goes None (peer_tag e.core) e e.core)
-act_goes e flushes o may turn = goes_on (turn_link e o turn) (flush_makes None (peer_tag e.core) e o (own_peer e.core) turn)
+act_goes e connect o may turn = subst (Goes None (peer_tag e.core) e) (sym turn.2) (connect_goes None none_calm (peer_tag e.core) e e.core turn.0 turn.1 refl)
+act_goes e (t1_expires true) o may turn = subst (Goes None (peer_tag e.core) e) (sym turn.2) (goes_on none_calm (again_link None none_calm (peer_tag e.core) (t1_goes_on e) e.core turn.0 turn.1) (again_goes None none_calm (peer_tag e.core) (t1_goes_on e) e.core turn.0 (own_peer e.core) (own_peer e.core) turn.1))
+act_goes e (t1_expires false) o may turn = subst (Goes None (peer_tag e.core) e) (sym turn) (gives_up_goes None none_calm (peer_tag e.core) e e.core)
+act_goes e shut_down o may turn = subst (Goes None (peer_tag e.core) e) (sym turn) (shut_down_goes None none_calm (peer_tag e.core) e e.core refl)
+act_goes e step_of_shutdown o may turn = subst (Goes None (peer_tag e.core) e) (sym turn) (goes_on none_calm (step_link e e.core refl) (step_makes None none_calm (peer_tag e.core) e e.core refl))
+act_goes e shutdown_repeats o may turn = subst (Goes None (peer_tag e.core) e) (sym turn) (t2_again_goes None none_calm (peer_tag e.core) e)
+act_goes e (abort_with reason) o may turn = subst (Goes None (peer_tag e.core) e) (sym turn) (aborting_goes None none_calm (peer_tag e.core) e e.core reason)
+act_goes e hands_over o may turn = subst (Goes None (peer_tag e.core) e) (sym turn) (hand_over_goes None none_calm (peer_tag e.core) e e.core)
+act_goes e flushes o may turn = goes_on none_calm (turn_link e o turn) (flush_makes None none_calm (peer_tag e.core) e o (own_peer e.core) turn)
 act_goes e (request_again reset) o may turn = absurd may
 
-pub turns_are_actions : (e : Endpoint) (input : Input) (o : Outcome) → IsCall input → ResetsNone e o → Turn e input o → Becomes (came_by input) (peer_tag e.core) (queued_after e input) (read_after e input) e o
-turns_are_actions e arrival o may none turn = subst (Goes None (peer_tag e.core) e) (sym turn) (goes_on refl (rests None (peer_tag e.core) e.below))
-turns_are_actions e (refusal text) o may none turn = subst (Goes None (peer_tag e.core) e) (sym turn) (goes_on refl (rests None (peer_tag e.core) e.below))
-turns_are_actions e (packet_begins contents) o may none turn = begin_goes None (peer_tag e.core) e e.core (has_data contents) o turn
-turns_are_actions e (chunk_input tag content) o may none turn = content_goes e tag content o none turn
-turns_are_actions e packet_ends o may none turn = end_goes None (peer_tag e.core) e e.below.transfer o (own_peer e.core) refl turn
-turns_are_actions e (act_input act) o may none turn = act_goes e act o may turn
-turns_are_actions e (user_sets setting) o may none turn = subst (Goes None (peer_tag e.core) e) (sym turn) (goes_on refl (action_of None (peer_tag e.core) e.below _ (λ queued sent read. actions.sets setting)))
-turns_are_actions e (user_sends messages) o may none turn = send_goes None (peer_tag e.core) e messages o (own_peer e.core) may turn
-turns_are_actions e (user_resets ids) o may none turn = own_resets_go None (peer_tag e.core) e ids o (own_peer e.core) turn
-turns_are_actions e user_takes o may none turn = take_goes None (peer_tag e.core) e e.below.transfer o refl turn
-turns_are_actions e (timer_expires timer) o may none turn = timer_goes None (peer_tag e.core) e timer o turn
-turns_are_actions e (time_passes moment) o may none turn = subst (Goes None (peer_tag e.core) e) (sym turn) (goes_on refl (rests None (peer_tag e.core) e.below))
-turns_are_actions e (restores state) o may none turn = absurd may
+pub turns_are_actions : (e : Endpoint) (input : Input) (o : Outcome) → IsCall input → Turn e input o → Becomes (came_by input) (peer_tag e.core) (queued_after e input) (read_after e input) e o
+turns_are_actions e arrival o may turn = subst (Goes None (peer_tag e.core) e) (sym turn) (goes_on none_calm refl (rests None (peer_tag e.core) (inside e)))
+turns_are_actions e (refusal text) o may turn = subst (Goes None (peer_tag e.core) e) (sym turn) (goes_on none_calm refl (rests None (peer_tag e.core) (inside e)))
+turns_are_actions e (packet_begins contents) o may turn = begin_goes None none_calm (peer_tag e.core) e e.core (has_data contents) o turn
+turns_are_actions e (chunk_input tag content) o may turn = content_goes e tag content o turn
+turns_are_actions e packet_ends o may turn = end_goes None none_calm (peer_tag e.core) e e.below.transfer o (own_peer e.core) refl turn
+turns_are_actions e (act_input act) o may turn = act_goes e act o may turn
+turns_are_actions e (user_sets setting) o may turn = subst (Goes None (peer_tag e.core) e) (sym turn) (goes_on none_calm refl (action_of None (peer_tag e.core) (inside e) _ (λ queued sent read asking. actions.sets setting)))
+turns_are_actions e (user_sends messages) o may turn = send_goes None none_calm (peer_tag e.core) e messages o (own_peer e.core) may turn
+turns_are_actions e (user_resets ids) o may turn = own_resets_go None none_calm (peer_tag e.core) e ids o (own_peer e.core) turn
+turns_are_actions e user_takes o may turn = take_goes None none_calm (peer_tag e.core) e e.below.transfer o refl turn
+turns_are_actions e (timer_expires timer) o may turn = timer_goes None none_calm (peer_tag e.core) e timer o (own_peer e.core) turn
+turns_are_actions e (time_passes moment) o may turn = subst (Goes None (peer_tag e.core) e) (sym turn) (goes_on none_calm refl (rests None (peer_tag e.core) (inside e)))
+turns_are_actions e (restores state) o may turn = absurd may

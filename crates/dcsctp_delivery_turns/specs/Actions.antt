@@ -8,7 +8,7 @@ use Rattle.dcsctp_machine.specs.declared.association.Pair.{Pair}
 use Rattle.dcsctp_machine.specs.Endpoint.{Endpoint, Core, closed, cookie_wait, cookie_echoed, open_in}
 use Rattle.dcsctp_machine.specs.Event.{packets_in}
 use Rattle.dcsctp_machine.specs.Outcome.{Outcome}
-use Rattle.dcsctp_machine.specs.Packet.{Content, init, init_ack, cookie_echo, abort, shutdown_complete, Plain, unworked, plain, Emission}
+use Rattle.dcsctp_machine.specs.Packet.{Content, re_config, init, init_ack, cookie_echo, abort, shutdown_complete, Plain, unworked, plain, Emission}
 use Rattle.dcsctp_machine.specs.Turn.{Input, chunk_input, act_input, user_sends, user_takes, restores, Turn}
 use Rattle.dcsctp_machine.specs.control.Acts.{request_again}
 use Rattle.dcsctp_machine.specs.control.Choices.{plain_contents}
@@ -26,24 +26,32 @@ use Rattle.dcsctp_machine.specs.transfer.Tracker.{TrackerState}
 use Rattle.dcsctp_machine.specs.transfer.Transfer.{Transfer, Below, new_transfer}
 use Rattle.dcsctp_machine.specs.turns.FlushOutcomes.{Answer, FlushAnswers, flush_of}
 use Rattle.dcsctp_machine.specs.turns.MessageOutcomes.{MessageRefusal, Sending, sending_queued, sending_refusal, queue_one}
-use Rattle.dcsctp_machine.specs.turns.ResetOutcomes.{has_completed}
+use Rattle.dcsctp_machine.specs.turns.ResetOutcomes.{has_completed, has_reset, requested_in}
 use Rattle.dcsctp_machine.specs.turns.SettingOutcomes.{Setting, set_in_queue}
 use Rattle.dcsctp_machine.specs.turns.TransferMoves.{ReceivesData, MovesForward, TakesSack, lost_all}
 use Rattle.dcsctp_delivery_sending.specs.Log.{Fits, Message}
-use Rattle.dcsctp_delivery_sending.specs.Flushes.{NoData}
-use Rattle.dcsctp_delivery_sending.specs.Queueing.{message_of, NumbersGoOn}
+use Rattle.dcsctp_delivery_sending.specs.Flushes.{NoData, begun_by}
+use Rattle.dcsctp_delivery_sending.specs.Queueing.{message_of}
+use Rattle.dcsctp_machine.specs.Reconfiguration.{RequestedReset, ResetParameter}
+use Rattle.dcsctp_machine.specs.control.FlushChanges.{reset_request}
+use Rattle.dcsctp_machine.specs.turns.BegunResets.{BegunReset}
+use Rattle.dcsctp_machine.specs.turns.ReconfigurationOutcomes.{reset_again}
+use Rattle.dcsctp_delivery_sending.specs.Places.{Has}
+use Rattle.dcsctp_delivery_directions.specs.Directions.{Asking, asking_with, is_reached}
+use Rattle.dcsctp_delivery_turns.specs.Asking.{Own, own_of, AsksFit, AskingGrows}
 use Rattle.dcsctp_delivery_turns.specs.Tags.{IsPeerTag}
 
 -- What a socket has queued since it was made, newest first; its queues and trackers; what it has sent in its association, and what its user
--- has read in it, oldest first.
+-- has read in it, oldest first; and the requests to reset streams that it has begun in it.
 pub record Ledger : Type 0 where
   pub queued : List Message
   pub below : Below
   pub sent : List Emission
   pub read : List MessageContent
+  pub asking : Asking
 
-abbrev pub ledger_of : List Message → Below → List Emission → List MessageContent → Ledger
-ledger_of queued below sent read = record { queued = queued; below = below; sent = sent; read = read }
+abbrev pub ledger_of : List Message → Below → List Emission → List MessageContent → Asking → Ledger
+ledger_of queued below sent read asking = record { queued = queued; below = below; sent = sent; read = read; asking = asking }
 
 -- with this in place of what the association has
 abbrev pub with_below : Transfer → Below → Below
@@ -63,16 +71,16 @@ pub data Action (came : Option Content) (to : ℕ) (old : Ledger) : Ledger → T
       → Action came to old (record old { queued = message_of sending ∷ old.queued; below = record old.below { queue = sending_queued now sending old.below.queue } })
   sets : (setting : Setting) → Action came to old (record old { below = record old.below { queue = set_in_queue setting old.below.queue } })
   prepares : (ids : List ℕ) → Action came to old (record old { below = record old.below { queue = prepared_all ids old.below.queue } })
-  commits : NumbersGoOn old.below.queue → Action came to old (record old { below = record old.below { queue = queue_committed old.below.queue } })
-  rolls_back : Action came to old (record old { below = record old.below { queue = queue_rolled_back old.below.queue } })
   flushes : (e : Endpoint) (draft : Emission) (answers : List Answer) → e.below ≡ old.below → IsPeerTag e.core to → draft.packet.tag ≡ to → NoData draft.packet.contents → NoEnd draft.packet.contents → FlushAnswers e draft answers
-      → Action came to old (record old { below = (flush_of e draft answers).after.below; sent = old.sent ++ packets_in (flush_of e draft answers).events })
+      → Action came to old (record old { below = (flush_of e draft answers).after.below; sent = old.sent ++ packets_in (flush_of e draft answers).events; asking = asking_with (begun_by answers) old.asking })
   resends : (now room : ℕ) (transfer : Transfer) (left : RetransmissionState) (tsns : List ℕ) (chunks : List Plain) (emission : Emission) → emission.packet.tag ≡ to → old.below.transfer ≡ Some transfer
       → SendsAtOnce now room old.below.queue transfer.retransmission left tsns → AreChunks left.outstanding tsns chunks → emission.packet.contents ≡ plain_contents chunks
       → Action came to old (record old { below = with_below (record transfer { retransmission = left }) old.below; sent = old.sent ++ emission ∷ [] })
   resends_nothing : (now room : ℕ) (transfer : Transfer) (left : RetransmissionState) (tsns : List ℕ) → old.below.transfer ≡ Some transfer
       → SendsAtOnce now room old.below.queue transfer.retransmission left tsns → Action came to old (record old { below = with_below (record transfer { retransmission = left }) old.below })
   speaks : (emission : Emission) → NoData emission.packet.contents → Action came to old (record old { sent = old.sent ++ emission ∷ [] })
+  asks_again : (emission : Emission) (begun : BegunReset) → emission.packet.tag ≡ to → Has begun old.asking.requests → emission.packet.contents ≡ reset_request begun.number begun.reset ∷ []
+      → Action came to old (record old { sent = old.sent ++ emission ∷ [] })
   acknowledges : (now : ℕ) (sack : SackContent) (transfer new : Transfer) → old.below.transfer ≡ Some transfer → is_sack_valid transfer.retransmission sack.cumulative_tsn_ack ≡ true
       → TakesSack now sack transfer new → Action came to old (record old { below = with_below new old.below })
   loses : (now : ℕ) (transfer : Transfer) → old.below.transfer ≡ Some transfer → Action came to old (record old { below = with_below (lost_all now transfer) old.below })
@@ -87,10 +95,6 @@ pub data Action (came : Option Content) (to : ℕ) (old : Ledger) : Ledger → T
   -- When an acknowledgement is due may change.
   tracks : (transfer : Transfer) (tracker : TrackerState) → old.below.transfer ≡ Some transfer → tracker.cumulative ≡ transfer.tracker.cumulative → tracker.ranges ≡ transfer.tracker.ranges
       → Action came to old (record old { below = with_below (record transfer { tracker = tracker }) old.below })
-  defers : (transfer : Transfer) (last_tsn : ℕ) (streams : List ℕ) → old.below.transfer ≡ Some transfer
-      → Action came to old (record old { below = with_below (record transfer { reassembly = deferring last_tsn streams transfer.reassembly }) old.below })
-  resets : (transfer : Transfer) (streams : List ℕ) (reassembly : ReassemblyState) → old.below.transfer ≡ Some transfer → Leaves streams transfer.reassembly reassembly
-      → Action came to old (record old { below = with_below (record transfer { reassembly = reassembly }) old.below })
   takes : (transfer : Transfer) (message : MessageContent) (messages : List MessageContent) → old.below.transfer ≡ Some transfer → transfer.reassembly.incoming.ready ≡ message ∷ messages
       → Action came to old (record old { below = with_below (record transfer { reassembly = with_ready messages transfer.reassembly }) old.below; read = old.read ++ message ∷ [] })
 
@@ -139,14 +143,61 @@ abbrev pub read_after : Endpoint → Input → List MessageContent → List Mess
 read_after e user_takes read = read_where e.below.transfer read
 read_after e input read = read
 
--- Whatever was queued, sent and read before, actions lead from the queues before to those after, with these packets.
-abbrev pub Makes : Option Content → ℕ → Below → List Emission → Below → Type 0
-Makes came to old packets new = (queued : List Message) (sent : List Emission) (read : List MessageContent) → Actions came to (ledger_of queued old sent read) (ledger_of queued new (sent ++ packets) read)
+-- the queues and trackers of a socket, and what it keeps of its own requests
+pub record Inside : Type 0 where
+  pub below : Below
+  pub own : Option Own
+
+abbrev pub inside : Endpoint → Inside
+inside e = record { below = e.below; own = own_of e }
+
+-- Actions lead from the ledger to this one; what the socket keeps of its requests is of those that were begun.
+pub record Made (came : Option Content) (to : ℕ) (old : Ledger) (first : ℕ) (new : Inside) (queued : List Message) (sent : List Emission) (read : List MessageContent) : Type 0 where
+  pub asking : Asking
+  pub grows : AskingGrows old.asking asking
+  pub fits : AsksFit first new.own asking
+  pub actions : Actions came to old (ledger_of queued new.below sent read asking)
+
+-- Whatever was queued, sent, read and begun before, actions lead from the queues before to those after, with these packets.
+abbrev pub Makes : Option Content → ℕ → Inside → List Emission → Inside → Type 0
+Makes came to old packets new =
+    (queued : List Message) (sent : List Emission) (read : List MessageContent) (first : ℕ) (asking : Asking) → AsksFit first old.own asking
+    → Made came to (ledger_of queued old.below sent read asking) first new queued (sent ++ packets) read
 
 -- So they do, with what a turn queues and reads.
-abbrev pub MakesAlso : Option Content → ℕ → (List Message → List Message) → (List MessageContent → List MessageContent) → Below → List Emission → Below → Type 0
+abbrev pub MakesAlso : Option Content → ℕ → (List Message → List Message) → (List MessageContent → List MessageContent) → Inside → List Emission → Inside → Type 0
 MakesAlso came to adds taken old packets new =
-    (queued : List Message) (sent : List Emission) (read : List MessageContent) → Actions came to (ledger_of queued old sent read) (ledger_of (adds queued) new (sent ++ packets) (taken read))
+    (queued : List Message) (sent : List Emission) (read : List MessageContent) (first : ℕ) (asking : Asking) → AsksFit first old.own asking
+    → Made came to (ledger_of queued old.below sent read asking) first new (adds queued) (sent ++ packets) (taken read)
+
+-- ---- what a RE-CONFIG does before
+
+-- its own request has ended
+abbrev pub ended_own : Own → Own
+ended_own own = record own { number = None; again = reset_again None }
+
+-- What the peer answers to the own request, if these are the effects of the turn.
+pub data OwnEnds (happened : List Effect) (old : Inside) : Inside → Type 0 where
+  unended : OwnEnds happened old old
+  committed : has_completed happened ≡ true → (own : Own) → old.own ≡ Some own → OwnEnds happened old (record { below = record old.below { queue = queue_committed old.below.queue }; own = Some (ended_own own) })
+  rolled_back : (own : Own) → old.own ≡ Some own → OwnEnds happened old (record { below = record old.below { queue = queue_rolled_back old.below.queue }; own = Some (ended_own own) })
+
+-- What the peer asks: its streams are reset, or will be once all up to a TSN was received.
+pub data PeerResets (came : Option Content) (happened : List Effect) (old : Inside) : Inside → Type 0 where
+  unreset : has_reset happened ≡ false → PeerResets came happened old old
+  -- There is nothing below the association.
+  absent : old.below.transfer ≡ None → PeerResets came happened old old
+  deferred : has_reset happened ≡ false → (transfer : Transfer) (last_tsn : ℕ) (streams : List ℕ) → old.below.transfer ≡ Some transfer
+      → PeerResets came happened old (record old { below = with_below (record transfer { reassembly = deferring last_tsn streams transfer.reassembly }) old.below })
+  reset_now : has_reset happened ≡ true → (parameters : List ResetParameter) (reset : RequestedReset) → came ≡ Some (re_config parameters) → requested_in parameters ≡ Some reset
+      → (transfer : Transfer) (reassembly : ReassemblyState) → old.below.transfer ≡ Some transfer → is_reached reset transfer.tracker ≡ true → Leaves reset.streams transfer.reassembly reassembly
+      → PeerResets came happened old (record old { below = with_below (record transfer { reassembly = reassembly }) old.below })
+
+-- No RE-CONFIG is handled.
+abbrev pub IsCalm : Option Content → Type 0
+IsCalm came = (parameters : List ResetParameter) → came ≡ Some (re_config parameters) → ⊥
+
+-- ---- all
 
 -- An association begins: what waits to be sent is kept, or what is under way is put back for it.
 pub record Begun (e : Endpoint) (o : Outcome) : Type 0 where
@@ -174,11 +225,14 @@ IsOpening came = ⊥
 -- What becomes of the association of a socket in a turn: it goes on, or there is none and none begins; it ends after its last packets; or
 -- another one begins, and takes its place.
 pub data Becomes (came : Option Content) (to : ℕ) (adds : List Message → List Message) (taken : List MessageContent → List MessageContent) (e : Endpoint) (o : Outcome) : Type 0 where
-  goes_on : link_in o.after.core ≡ link_in e.core → MakesAlso came to adds taken e.below (packets_in o.events) o.after.below → Becomes came to adds taken e o
-  ends : link_in o.after.core ≡ None → ((read : List MessageContent) → taken read ≡ read) → (last : Below) → MakesAlso came to adds taken e.below (packets_in o.events) last → o.after.below ≡ record last { transfer = None }
-      → Becomes came to adds taken e o
+  goes_on : IsCalm came → link_in o.after.core ≡ link_in e.core → MakesAlso came to adds taken (inside e) (packets_in o.events) (inside o.after) → Becomes came to adds taken e o
+  works_resets : link_in o.after.core ≡ link_in e.core → (between worked : Inside) → OwnEnds o.effects (inside e) between → PeerResets came o.effects between worked
+      → MakesAlso came to adds taken worked (packets_in o.events) (inside o.after) → Becomes came to adds taken e o
+  ends : link_in o.after.core ≡ None → ((read : List MessageContent) → taken read ≡ read) → (last : Inside) → MakesAlso came to adds taken (inside e) (packets_in o.events) last
+      → o.after.below ≡ record last.below { transfer = None } → Becomes came to adds taken e o
   begins : (begun : Begun e o) → IsOpening came → link_in o.after.core ≡ Some (link_of begun.my begun.held) → ((queued : List Message) → adds queued ≡ queued) → ((read : List MessageContent) → taken read ≡ read)
-      → Makes came begun.held.peer.tag (begun_below e o begun) (packets_in o.events) o.after.below → Becomes came to adds taken e o
+      → (again : RequestedReset) → Makes came begun.held.peer.tag (record { below = begun_below e o begun; own = Some (record { number = None; next = begun.my.first_tsn; again = again }) }) (packets_in o.events) (inside o.after)
+      → Becomes came to adds taken e o
 
 -- The messages of a call fit their fields, as those in memory do; no snapshot is restored; and a request to reset streams is sent again
 -- by its timer alone.
@@ -188,10 +242,6 @@ IsCall (act_input (request_again reset)) = ⊥
 IsCall (restores state) = ⊥
 IsCall input = Unit {0}
 
--- In an association with interleaving no reset of own streams is performed: the numbers of their messages would begin at 0 again.
-abbrev pub ResetsNone : Endpoint → Outcome → Type 0
-ResetsNone e o = e.below.queue.is_interleaved ≡ true → has_completed o.effects ≡ false
-
 -- So it is of each turn.
 abbrev pub TurnsAreActions : Type 0
-TurnsAreActions = (e : Endpoint) (input : Input) (o : Outcome) → IsCall input → ResetsNone e o → Turn e input o → Becomes (came_by input) (peer_tag e.core) (queued_after e input) (read_after e input) e o
+TurnsAreActions = (e : Endpoint) (input : Input) (o : Outcome) → IsCall input → Turn e input o → Becomes (came_by input) (peer_tag e.core) (queued_after e input) (read_after e input) e o

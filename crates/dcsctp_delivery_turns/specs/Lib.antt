@@ -1,3 +1,4 @@
+pub mod Asking
 pub mod Tags
 pub mod Actions
 pub mod Sides

@@ -1,5 +1,5 @@
 -- A turn of a socket, as what it does to runs of the two directions of its association.
-use Rattle.std.specs.Prelude.{◌≡◌, ◌<◌, ◌^◌, ℕ, None, Some, List, [], ◌++◌, length}
+use Rattle.std.specs.Prelude.{◌≡◌, ◌⊎◌, ◌<◌, ◌^◌, ℕ, Bool, true, false, Option, None, Some, List, [], ◌∷◌, ◌++◌, length}
 use Rattle.dcsctp_machine.specs.declared.options.Options.{Options}
 use Rattle.dcsctp_machine.specs.Endpoint.{Endpoint}
 use Rattle.dcsctp_machine.specs.Event.{packets_in}
@@ -14,15 +14,22 @@ use Rattle.dcsctp_machine.specs.transfer.Tracker.{new_tracker}
 use Rattle.dcsctp_machine.specs.transfer.Transfer.{Transfer, Below}
 use Rattle.std.specs.List.{AllByRecursion}
 use Rattle.dcsctp_delivery_sending.specs.Log.{Fits, Message}
-use Rattle.dcsctp_delivery_turns.specs.Actions.{peer_tag, came_by, queued_after, read_after, Begun, begun_transfer, IsOpening, IsCall, ResetsNone}
+use Rattle.dcsctp_delivery_turns.specs.Actions.{peer_tag, came_by, queued_after, read_after, Begun, begun_transfer, IsOpening, IsCall, IsCalm}
+use Rattle.dcsctp_machine.specs.Packet.{Content, re_config}
+use Rattle.dcsctp_machine.specs.Reconfiguration.{RequestedReset, ResetParameter}
+use Rattle.dcsctp_machine.specs.control.Effect.{Effect}
+use Rattle.dcsctp_machine.specs.turns.BegunResets.{BegunReset}
+use Rattle.dcsctp_machine.specs.turns.ResetOutcomes.{has_completed, has_reset, requested_in}
+use Rattle.dcsctp_delivery_receiving.specs.Clear.{IsOwn}
+use Rattle.dcsctp_delivery_turns.specs.Asking.{own_of, AsksFit, SomeFit, AskingGrows}
 use Rattle.dcsctp_delivery_turns.specs.Addressed.{AreAddressed}
-use Rattle.dcsctp_delivery_sending.specs.Queueing.{QueueHolds}
+use Rattle.dcsctp_delivery_sending.specs.Queueing.{QueueWaits}
 use Rattle.dcsctp_delivery_turns.specs.Sides.{WasSent, receiving}
-use Rattle.dcsctp_delivery_directions.specs.Directions.{Direction, Run, IsAwaited}
+use Rattle.dcsctp_delivery_directions.specs.Directions.{Direction, Asking, nothing_asked, Run, IsAwaited}
 
 -- the direction, with this at its sender
-abbrev pub sender_at : Direction → List Message → Below → ℕ → List Emission → Direction
-sender_at direction queued below acknowledged sent = record direction { queued = queued; below = below; acknowledged = acknowledged; sent = sent }
+abbrev pub sender_at : Direction → List Message → Below → ℕ → List Emission → Asking → Direction
+sender_at direction queued below acknowledged sent asking = record direction { queued = queued; below = below; acknowledged = acknowledged; sent = sent; asking = asking }
 
 -- a direction on which nothing was received yet
 abbrev pub new_direction : Options → ℕ → ℕ → List Message → Below → ℕ → List Emission → Direction
@@ -35,29 +42,40 @@ new_direction options first size queued below acknowledged sent =
       tracker = new_tracker options first;
       reassembly = new_reassembly size;
       read = [];
+      asking = nothing_asked;
     }
 
 -- A run goes on by a turn of the sender; or the association ends after its last packets, and there is none; or another one begins, whoever
 -- receives, and whatever that side has done before. All data goes to the peer's tag. Where an association ends or begins, what no longer
 -- waits may be marked as spent.
 pub data SenderTurns (options : Options) (first size : ℕ) (direction : Direction) (e : Endpoint) (input : Input) (o : Outcome) : Type 0 where
-  run_goes_on : link_in o.after.core ≡ link_in e.core → AreAddressed (peer_tag e.core) (packets_in o.events) → (acknowledged : ℕ)
-      → Run options first size (sender_at direction (queued_after e input direction.queued) o.after.below acknowledged (direction.sent ++ packets_in o.events)) → SenderTurns options first size direction e input o
-  run_ends : link_in o.after.core ≡ None → AreAddressed (peer_tag e.core) (packets_in o.events) → (last : Below) (acknowledged : ℕ)
-      → Run options first size (sender_at direction (queued_after e input direction.queued) last acknowledged (direction.sent ++ packets_in o.events))
-      → o.after.below ≡ record last { transfer = None } → QueueHolds (queued_after e input direction.queued) [] last.queue → AllByRecursion Fits (queued_after e input direction.queued)
+  run_goes_on : link_in o.after.core ≡ link_in e.core → AreAddressed (peer_tag e.core) (packets_in o.events) → (acknowledged : ℕ) (asking : Asking) → AskingGrows direction.asking asking → AsksFit first (own_of o.after) asking
+      → Run options first size (sender_at direction (queued_after e input direction.queued) o.after.below acknowledged (direction.sent ++ packets_in o.events) asking) → SenderTurns options first size direction e input o
+  run_ends : link_in o.after.core ≡ None → AreAddressed (peer_tag e.core) (packets_in o.events) → (last : Below) (acknowledged : ℕ) (asking : Asking) → AskingGrows direction.asking asking
+      → Run options first size (sender_at direction (queued_after e input direction.queued) last acknowledged (direction.sent ++ packets_in o.events) asking)
+      → o.after.below ≡ record last { transfer = None } → QueueWaits (queued_after e input direction.queued) last.queue → AllByRecursion Fits (queued_after e input direction.queued)
       → SenderTurns options first size direction e input o
   run_begins : (begun : Begun e o) → IsOpening (came_by input) → link_in o.after.core ≡ Some (link_of begun.my begun.held) → AreAddressed begun.held.peer.tag (packets_in o.events) → queued_after e input direction.queued ≡ direction.queued
-      → QueueHolds direction.queued [] e.below.queue → AllByRecursion Fits direction.queued
-      → ((other : Options) (room : ℕ) (awaiting : Direction) (queued : List Message) → QueueHolds queued [] e.below.queue → AllByRecursion Fits queued → Run other begun.my.first_tsn room awaiting → IsAwaited awaiting
-      → (acknowledged : ℕ) × Run other begun.my.first_tsn room (sender_at awaiting queued o.after.below acknowledged (packets_in o.events)))
+      → QueueWaits direction.queued e.below.queue → AllByRecursion Fits direction.queued
+      → ((other : Options) (room : ℕ) (awaiting : Direction) (queued : List Message) → QueueWaits queued e.below.queue → AllByRecursion Fits queued → Run other begun.my.first_tsn room awaiting → IsAwaited awaiting
+      → (acknowledged : ℕ) × (asking : Asking) × AsksFit begun.my.first_tsn (own_of o.after) asking
+      × Run other begun.my.first_tsn room (sender_at awaiting queued o.after.below acknowledged (packets_in o.events) asking))
       → SenderTurns options first size direction e input o
+
+-- Where the turn ends a request as performed, the receiver has performed the newest one, with interleaving.
+abbrev pub EndsPerformed : Endpoint → Outcome → Asking → Type 0
+EndsPerformed e o asking = has_completed o.effects ≡ true → e.below.queue.is_interleaved ≡ true → asking.is_performed ≡ true
+
+-- If an association begins in this turn, its own first TSN has 32 bits.
+abbrev pub OpensSmall : Endpoint → Input → Outcome → Type 0
+OpensSmall e input o = (begun : Begun e o) → IsOpening (came_by input) → link_in o.after.core ≡ Some (link_of begun.my begun.held) → begun.my.first_tsn < 2 ^ 32
 
 -- So it is of each turn, also of a closed socket, with a direction on which nothing is in flight.
 abbrev pub SendersGoOn : Type 0
 SendersGoOn =
     (options : Options) (first size : ℕ) (direction : Direction) (e : Endpoint) (input : Input) (o : Outcome) → Run options first size direction → first < 2 ^ 32 → direction.below ≡ e.below
-    → length (queued_after e input direction.queued) < 2 ^ 64 → IsCall input → ResetsNone e o → Turn e input o → SenderTurns options first size direction e input o
+    → AsksFit first (own_of e) direction.asking → EndsPerformed e o direction.asking → OpensSmall e input o
+    → length (queued_after e input direction.queued) < 2 ^ 64 → IsCall input → Turn e input o → SenderTurns options first size direction e input o
 
 -- A run begins where the socket was just made,
 abbrev pub SendersBegin : Type 0
@@ -67,7 +85,7 @@ SendersBegin =
 -- and where its association has ended.
 abbrev pub SendersBeginAnew : Type 0
 SendersBeginAnew =
-    (options : Options) (first size : ℕ) (queued : List Message) (below : Below) → AllByRecursion Fits queued → QueueHolds queued [] below.queue → below.transfer ≡ None
+    (options : Options) (first size : ℕ) (queued : List Message) (below : Below) → AllByRecursion Fits queued → QueueWaits queued below.queue → below.transfer ≡ None
     → Run options first size (new_direction options first size queued below 0 [])
 
 -- An association begins, and what its receiver does in the same turn are steps of a run.
@@ -80,25 +98,51 @@ pub record Opens (e : Endpoint) (input : Input) (o : Outcome) : Type 0 where
   pub is : o.after.below.transfer ≡ Some left
   pub runs : (options : Options) (first size : ℕ) (direction : Direction) → Run options first size (receiving direction (begun_transfer e o begun) direction.read)
       → Run options first size (receiving direction left direction.read)
+  pub fits : SomeFit (own_of o.after)
+
+-- The request that is handled is the newest that the sender has begun, and what waits, waits for it.
+pub record IsNewest (direction : Direction) (transfer : Transfer) (reset : RequestedReset) : Type 0 where
+  pub newest : BegunReset
+  pub earlier : List BegunReset
+  pub is : direction.asking.requests ≡ newest ∷ earlier
+  pub asks : newest.reset ≡ reset
+  pub own : IsOwn reset transfer.reassembly.deferral
+
+-- So it is of a request that is performed in this turn.
+abbrev pub PerformsNewest : Direction → Transfer → Option Content → List Effect → Type 0
+PerformsNewest direction transfer came happened =
+    has_reset happened ≡ true → (parameters : List ResetParameter) (reset : RequestedReset) → came ≡ Some (re_config parameters) → requested_in parameters ≡ Some reset
+    → IsNewest direction transfer reset
+
+-- once a request was performed, if it is known to be the newest
+abbrev pub performed_where : Bool → Bool → Asking → Asking
+performed_where true true asking = record asking { is_performed = true }
+performed_where true false asking = asking
+performed_where false is_reset asking = asking
+
+-- So it is after the turn, if it performs a request.
+abbrev pub PerformedBy : Bool → Input → Outcome → Direction → Asking → Type 0
+PerformedBy is_known input o direction asking =
+    (is_reset : Bool) × (is_reset ≡ false → has_reset o.effects ≡ false ⊎ IsCalm (came_by input)) × (asking ≡ performed_where is_known is_reset direction.asking)
 
 -- A run goes on by a turn of the receiver, where what is handled was sent; or the association ends, maybe after it has received more; or
 -- another one begins.
-pub data ReceiverTurns (options : Options) (first size : ℕ) (direction : Direction) (transfer : Transfer) (e : Endpoint) (input : Input) (o : Outcome) : Type 0 where
-  receiver_goes_on : link_in o.after.core ≡ link_in e.core → (left : Transfer) → o.after.below.transfer ≡ Some left → Run options first size (receiving direction left (read_after e input direction.read))
-      → ReceiverTurns options first size direction transfer e input o
-  receiver_ends : link_in o.after.core ≡ None → o.after.below.transfer ≡ None → ((read : List MessageContent) → read_after e input read ≡ read) → ReceiverTurns options first size direction transfer e input o
-  receiver_begins : Opens e input o → ReceiverTurns options first size direction transfer e input o
+pub data ReceiverTurns (is_known : Bool) (options : Options) (first size : ℕ) (direction : Direction) (transfer : Transfer) (e : Endpoint) (input : Input) (o : Outcome) : Type 0 where
+  receiver_goes_on : link_in o.after.core ≡ link_in e.core → (left : Transfer) → o.after.below.transfer ≡ Some left → SomeFit (own_of o.after) → (asking : Asking) → PerformedBy is_known input o direction asking
+      → Run options first size (record (receiving direction left (read_after e input direction.read)) { asking = asking }) → ReceiverTurns is_known options first size direction transfer e input o
+  receiver_ends : link_in o.after.core ≡ None → o.after.below.transfer ≡ None → ((read : List MessageContent) → read_after e input read ≡ read) → ReceiverTurns is_known options first size direction transfer e input o
+  receiver_begins : Opens e input o → ReceiverTurns is_known options first size direction transfer e input o
 
 -- So it is of each turn.
 abbrev pub ReceiversGoOn : Type 0
 ReceiversGoOn =
-    (options : Options) (first size : ℕ) (direction : Direction) (transfer : Transfer) (e : Endpoint) (input : Input) (o : Outcome) → Run options first size (receiving direction transfer direction.read)
-    → e.below.transfer ≡ Some transfer → WasSent direction.sent (came_by input) → IsCall input → ResetsNone e o → Turn e input o → ReceiverTurns options first size direction transfer e input o
+    (is_known : Bool) (options : Options) (first size : ℕ) (direction : Direction) (transfer : Transfer) (e : Endpoint) (input : Input) (o : Outcome) → Run options first size (receiving direction transfer direction.read)
+    → e.below.transfer ≡ Some transfer → WasSent direction.sent (came_by input) → (is_known ≡ true → PerformsNewest direction transfer (came_by input) o.effects) → SomeFit (own_of e) → OpensSmall e input o → IsCall input → Turn e input o → ReceiverTurns is_known options first size direction transfer e input o
 
 -- Where there is no association, none is there after the turn, and nothing is read; or one begins.
 pub data IdleTurns (e : Endpoint) (input : Input) (o : Outcome) : Type 0 where
-  idle_stays : o.after.below.transfer ≡ None → ((read : List MessageContent) → read_after e input read ≡ read) → IdleTurns e input o
+  idle_stays : o.after.below.transfer ≡ None → SomeFit (own_of o.after) → ((read : List MessageContent) → read_after e input read ≡ read) → IdleTurns e input o
   idle_begins : Opens e input o → IdleTurns e input o
 
 abbrev pub ReceiversBegin : Type 0
-ReceiversBegin = (e : Endpoint) (input : Input) (o : Outcome) → e.below.transfer ≡ None → IsCall input → ResetsNone e o → Turn e input o → IdleTurns e input o
+ReceiversBegin = (e : Endpoint) (input : Input) (o : Outcome) → e.below.transfer ≡ None → SomeFit (own_of e) → OpensSmall e input o → IsCall input → Turn e input o → IdleTurns e input o

@@ -1,12 +1,14 @@
 -- The actions of a socket (specs/Actions) as steps of two directions: the one on which it sends, and the one on which it receives.
-use Rattle.std.specs.Prelude.{◌≡◌, ℕ, Option, Some, List}
+use Rattle.std.specs.Prelude.{◌≡◌, ◌⊎◌, ℕ, Option, Some, List}
 use Rattle.dcsctp_wire.specs.Content.{ChunkContent, data_chunk, i_data_chunk, forward_tsn_chunk, i_forward_tsn_chunk}
 use Rattle.dcsctp_machine.specs.declared.options.Options.{Options}
-use Rattle.dcsctp_machine.specs.Packet.{Content, unworked, plain, Emission}
+use Rattle.dcsctp_machine.specs.Packet.{Content, re_config, unworked, plain, Emission}
+use Rattle.dcsctp_machine.specs.Reconfiguration.{ResetParameter}
 use Rattle.dcsctp_machine.specs.transfer.Messages.{MessageContent}
 use Rattle.dcsctp_machine.specs.transfer.Reassembly.{ReassemblyState}
 use Rattle.dcsctp_machine.specs.transfer.Tracker.{TrackerState}
 use Rattle.dcsctp_machine.specs.transfer.Transfer.{Transfer}
+use Rattle.dcsctp_delivery_sending.specs.Flushes.{NoRequests}
 use Rattle.dcsctp_delivery_turns.specs.Actions.{Ledger, Actions}
 use Rattle.dcsctp_delivery_sending.specs.Places.{Has}
 use Rattle.dcsctp_delivery_directions.specs.Directions.{Direction, Step, Run}
@@ -25,7 +27,7 @@ StepsGoOn = (options : Options) (first size : ℕ) (old new : Direction) → Run
 -- the direction, with what the other side has received
 abbrev pub sending : Ledger → ℕ → TrackerState → ReassemblyState → List MessageContent → Direction
 sending own acknowledged tracker reassembly read =
-    record { queued = own.queued; below = own.below; acknowledged = acknowledged; sent = own.sent; tracker = tracker; reassembly = reassembly; read = read }
+    record { queued = own.queued; below = own.below; acknowledged = acknowledged; sent = own.sent; tracker = tracker; reassembly = reassembly; read = read; asking = own.asking }
 
 -- The socket comes there by steps; more TSNs may have been acknowledged.
 pub record SendingSteps (old new : Ledger) (acknowledged : ℕ) (tracker : TrackerState) (reassembly : ReassemblyState) (read : List MessageContent) : Type 0 where
@@ -46,12 +48,19 @@ pub record WasIn (sent : List Emission) (chunk : ChunkContent) : Type 0 where
   pub was : Has emission sent
   pub holds : Has (plain (unworked chunk)) emission.packet.contents
 
--- The chunk that is handled, if it has data or passes TSNs, was sent by the other side.
+-- So was a RE-CONFIG.
+pub record WasAsked (sent : List Emission) (parameters : List ResetParameter) : Type 0 where
+  pub emission : Emission
+  pub was : Has emission sent
+  pub holds : Has (re_config parameters) emission.packet.contents
+
+-- The chunk that is handled, if it has data, passes TSNs or asks for a reset of streams, was sent by the other side.
 abbrev pub WasSent : List Emission → Option Content → Type 0
 WasSent sent (Some (plain (unworked (data_chunk chunk)))) = WasIn sent (data_chunk chunk)
 WasSent sent (Some (plain (unworked (forward_tsn_chunk tsn streams)))) = WasIn sent (forward_tsn_chunk tsn streams)
 WasSent sent (Some (plain (unworked (i_data_chunk chunk)))) = WasIn sent (i_data_chunk chunk)
 WasSent sent (Some (plain (unworked (i_forward_tsn_chunk tsn streams)))) = WasIn sent (i_forward_tsn_chunk tsn streams)
+WasSent sent (Some (re_config parameters)) = NoRequests parameters ⊎ WasAsked sent parameters
 WasSent sent came = Unit {0}
 
 -- the direction, with what its receiver has received and read

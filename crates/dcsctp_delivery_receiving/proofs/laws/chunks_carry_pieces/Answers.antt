@@ -1,5 +1,5 @@
 use Rattle.dcsctp_delivery_receiving.proofs.Arriving.{carries_piece, carries_interleaved}
-use Rattle.dcsctp_delivery_receiving.proofs.Entries.{forward_names, messages_named}
+use Rattle.dcsctp_delivery_receiving.proofs.Entries.{forward_skips, messages_skipped}
 use Rattle.dcsctp_delivery_receiving.proofs.laws.chunks_carry_pieces.Goals as goal
 
 pub returns-clause-data : goal.returns-clause-data
@@ -9,7 +9,7 @@ pub returns-clause-interleaved : goal.returns-clause-interleaved
 returns-clause-interleaved c = carries_interleaved
 
 pub returns-clause-forward : goal.returns-clause-forward
-returns-clause-forward c = forward_names
+returns-clause-forward c = forward_skips
 
 pub returns-clause-forward_interleaved : goal.returns-clause-forward_interleaved
-returns-clause-forward_interleaved c = messages_named
+returns-clause-forward_interleaved c = messages_skipped

@@ -1,0 +1,89 @@
+-- A flush of the sender, which may begin a reset of streams.
+use Rattle.std.proofs.Common.{◌≡◌, ℕ, ◌<◌, ◌^◌, List, [], ◌∷◌, ◌++◌, length, sym, ◌∙◌, ap, arith, subst, inl, inr}
+use Rattle.std.specs.Prelude.{Option, None, Some}
+use Rattle.std.proofs.lemmas.List.{length-append}
+use Rattle.dcsctp_machine.specs.Endpoint.{Endpoint}
+use Rattle.dcsctp_machine.specs.Event.{Event, packets_in}
+use Rattle.dcsctp_machine.specs.Packet.{Emission}
+use Rattle.dcsctp_machine.specs.transfer.Transfer.{Below}
+use Rattle.dcsctp_machine.specs.turns.BegunResets.{BegunReset}
+use Rattle.dcsctp_machine.specs.turns.FlushOutcomes.{first_ask, packets_allowed, Answer, FlushAnswers, flush_of}
+use Rattle.dcsctp_delivery_sending.specs.Log.{History, Slot, grown, with_mark}
+use Rattle.dcsctp_delivery_sending.specs.Flushes.{NoData, StandsBelow, Sends, begun_by}
+use Rattle.dcsctp_delivery_directions.specs.Directions.{Direction, asking_with}
+use Rattle.dcsctp_delivery_sending.proofs.Packets.{none_said}
+use Rattle.dcsctp_delivery_sending.proofs.Flushes.{flush_sends}
+use Rattle.dcsctp_delivery_sending.proofs.NextIdentifiers.{flush_next, flush_kind}
+use Rattle.dcsctp_delivery_receiving.proofs.Growing.{received_more, received_asked}
+use Rattle.dcsctp_delivery_sending.proofs.Extended.{packets_later, extends_grown, extends_noted}
+use Rattle.dcsctp_delivery_directions.proofs.Cleared.{Fewer, cleared_fewer, cleared_more, quiet_more, quiet_asked}
+use Rattle.dcsctp_delivery_directions.proofs.Standing.{Stands, emissions_both, counted_flight}
+
+pub few_before : (more log : List Slot) → length (more ++ log) < 2 ^ 31 → length log < 2 ^ 31
+few_before more log little = omega (arith, little, length-append more log)
+
+module _ (first : ℕ) (old : Direction) (s : Stands first old) where
+  module _ (below : Below) (events : List (Event Emission)) (next : below.queue.next_message_id ≡ old.below.queue.next_message_id) (kind : below.queue.is_interleaved ≡ old.below.queue.is_interleaved) where
+    flushed : (begun : Option BegunReset) → Sends old.queued s.history first old.acknowledged old.below.queue begun below events
+        → Stands first (record old { below = below; sent = old.sent ++ packets_in events; asking = asking_with begun old.asking })
+    flushed None sends =
+        let fewer : Fewer below.queue.streams old.below.queue.streams = λ id handed. elim (sends.handed id handed) [ inl was ↦ was | inr named ↦ absurd named ] in
+        record {
+          history = grown sends.more s.history;
+          fit = s.fit;
+          next = next ∙ s.next;
+          below = sends.stands;
+          packets = emissions_both (grown sends.more s.history) first old.sent (packets_in events) (packets_later s.history (grown sends.more s.history) (extends_grown sends.more s.history) first old.sent s.packets) sends.packets;
+          count = counted_flight (grown sends.more s.history) first old.acknowledged below.transfer sends.stands.flight;
+          asked = s.asked;
+          quiet = quiet_more sends.more s.history old.asking.out below.queue.streams sends.kept (λ id handed. s.quiet id (fewer id handed));
+          arrived = λ little. (
+              let a = s.arrived (few_before sends.more s.history.log little) in
+              record {
+                places = a.places;
+                were = a.were;
+                once = a.once;
+                received = received_more old.queued [] s.history sends.more first a.places old.tracker old.reassembly sends.current a.received;
+                cleared = λ is performed. cleared_more sends.more s.history first old.tracker.cumulative below.queue.streams old.reassembly
+                    (cleared_fewer s.history first old.tracker.cumulative old.below.queue.streams below.queue.streams old.reassembly fewer (a.cleared (sym kind ∙ is) performed));
+              }
+              );
+        }
+    flushed (Some begun) sends =
+        let now : History = with_mark (Some begun) sends.ids sends.bound (grown sends.more s.history) in
+        record {
+          history = now;
+          fit = s.fit;
+          next = next ∙ s.next;
+          below = sends.stands;
+          packets = emissions_both now first old.sent (packets_in events)
+              (packets_later s.history now (extends_noted (Some begun) sends.ids sends.bound sends.more s.history sends.low) first old.sent s.packets) sends.packets;
+          count = counted_flight now first old.acknowledged below.transfer sends.stands.flight;
+          asked = ap (λ (l : List BegunReset). begun ∷ l) s.asked;
+          quiet = quiet_asked sends.more s.history begun sends.ids sends.bound old.asking.out old.below.queue.streams below.queue.streams sends.low sends.kept sends.handed s.quiet;
+          arrived = λ little. (
+              let a = s.arrived (few_before sends.more s.history.log little) in
+              record {
+                places = a.places;
+                were = a.were;
+                once = a.once;
+                received = received_more old.queued [] (with_mark (Some begun) sends.ids sends.bound s.history) sends.more first a.places old.tracker old.reassembly sends.current
+                    (received_asked old.queued s.history (Some begun) sends.ids sends.bound first a.places old.tracker old.reassembly sends.low a.received);
+                cleared = λ is performed. absurd (cc);
+              }
+              );
+        }
+
+  pub stepped_flushes : (e : Endpoint) (draft : Emission) (answers : List Answer) → e.below ≡ old.below → NoData draft.packet.contents → FlushAnswers e draft answers
+      → Stands first (record old {
+        below = (flush_of e draft answers).after.below;
+        sent = old.sent ++ packets_in (flush_of e draft answers).events;
+        asking = asking_with (begun_by answers) old.asking;
+      })
+  stepped_flushes e draft answers same no_data allowed =
+      let after : Below = (flush_of e draft answers).after.below in
+      let events = (flush_of e draft answers).events in
+      let sends : Sends old.queued s.history first old.acknowledged e.below.queue (begun_by answers) after events =
+      flush_sends old.queued s.history first old.acknowledged e draft answers (subst (λ (b : Below). StandsBelow old.queued s.history first old.acknowledged b) (sym same) s.below) (none_said s.history first draft.packet.contents no_data) allowed in
+      flushed after events (flush_next first_ask (packets_allowed e.options.max_burst e.core) e draft answers allowed ∙ ap (λ (b : Below). b.queue.next_message_id) same) (flush_kind first_ask (packets_allowed e.options.max_burst e.core) e draft answers allowed ∙ ap (λ (b : Below). b.queue.is_interleaved) same) (begun_by answers)
+      (subst (λ (b : Below). Sends old.queued s.history first old.acknowledged b.queue (begun_by answers) after events) same sends)

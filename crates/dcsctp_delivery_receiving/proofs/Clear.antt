@@ -1,0 +1,217 @@
+-- A stream that was reset stays clear: nothing of it comes any more, and what is for other streams leaves it alone.
+use Rattle.std.proofs.Common.{◌≡◌, ◌≢◌, ◌==◌, ℕ, Bool, true, false, ◌<◌, ◌≤◌, ◌+◌, ◌%◌, ◌^◌, List, [], ◌∷◌, ◌++◌, refl, sym, ◌∙◌, ap, arith, length, subst, inl, inr}
+use Rattle.std.specs.Prelude.{◌&&◌, not, if◌then◌else◌, Option, None, Some}
+use Rattle.std.proofs.lemmas.Bool.Decides.{nat_tests, eqb_tells}
+use Rattle.dcsctp_machine.specs.declared.arrivals.Numbering.{Numbering}
+use Rattle.dcsctp_machine.specs.declared.arrivals.Numbering.TheVariants.{Ordered, Unordered, InterleavedOrdered, InterleavedUnordered}
+use Rattle.dcsctp_machine.specs.declared.arrivals.SkippedTo.{SkippedTo}
+use Rattle.dcsctp_machine.specs.declared.arrivals.SkippedTo.TheVariants.{Ssn, Mid}
+use Rattle.dcsctp_machine.specs.transfer.Arrivals.{Arrival}
+use Rattle.dcsctp_machine.specs.transfer.Incoming.{IncomingModel, stream_on, TakesChunk, TakesData, skipped_on, skipped_by, MovesOn, is_named, ResetsStreams}
+use Rattle.dcsctp_machine.specs.transfer.IncomingStreams.{ChunkModel, StreamModel, new_stream, skipped_stream, skipped}
+use Rattle.dcsctp_machine.specs.transfer.Messages.{MessageContent}
+use Rattle.dcsctp_machine.specs.transfer.Reassembly.{WaitingModel, arrived, skipping, DeferralModel, ReassemblyState, can_count, is_deferred, is_forward_deferred, is_above_watermark, with_waiting, entered, deferring, with_ready, AddsData, SkipsData, HandlesAll, actions_of, Leaves}
+use Rattle.dcsctp_machine.specs.transfer.Tracker.{TrackerState, has_received, number_of, is_new_tsn, is_forward, is_valid_tsn}
+use Rattle.dcsctp_machine.specs.transfer.Transfer.{Transfer}
+use Rattle.dcsctp_machine.specs.turns.TransferMoves.{AddsWhere, ReceivesWhere, SkipsWhere, MovesWhere, ReceivesData, MovesForward}
+use Rattle.dcsctp_delivery_sending.specs.Places.{Has, at_place}
+use Rattle.dcsctp_delivery_sending.specs.Log.{Message, Piece, Mark, History, Resets}
+use Rattle.dcsctp_delivery_sending.specs.Numbers.{AreOfKind}
+use Rattle.dcsctp_delivery_sending.proofs.Places.{at_below}
+use Rattle.dcsctp_delivery_receiving.specs.Clear.{NoneSkips, NoneWaits, IsClear, IsOver}
+use Rattle.dcsctp_delivery_receiving.specs.Ready.{Skips, SkipAll}
+use Rattle.dcsctp_delivery_receiving.specs.Received.{Carries, IsTsn, Few, Received}
+use Rattle.dcsctp_delivery_receiving.specs.Tracked.{tracked, Tracks}
+use Rattle.dcsctp_delivery_receiving.proofs.Tracked.{number_is, up_to}
+
+-- ---- numbers
+
+-- A TSN before the mark isn't new.
+old_tsn : (first count offset bound : ℕ) (taken : List ℕ) (tracker : TrackerState) → first < 2 ^ 32 → count < 2 ^ 31 → offset < count → Tracks first count taken tracker → offset < bound
+    → tracked first bound ≤ tracker.cumulative + 1 → is_new_tsn ((first + offset) % 2 ^ 32) tracker ≡ true → ⊥
+old_tsn first count offset bound taken tracker small few below tracks before passed new =
+    let here = number_is first count offset tracker.cumulative small few below tracks.reached tracks.started in
+    let up : tracked first offset ≤ tracker.cumulative = omega (arith, before, passed) in
+    let known : has_received tracker (number_of tracker.cumulative ((first + offset) % 2 ^ 32)) ≡ true = ap (has_received tracker) here ∙ up_to tracker.cumulative (tracked first offset) tracker.ranges up in
+    let clash : false ≡ true = sym (ap not known) ∙ new in
+    absurd (cc)
+
+-- A TSN that is forward lies beyond the mark.
+forward_behind : (first count offset bound : ℕ) (taken : List ℕ) (tracker : TrackerState) → first < 2 ^ 32 → count < 2 ^ 31 → offset < count → Tracks first count taken tracker
+    → tracked first bound ≤ tracker.cumulative + 1 → is_forward tracker.cumulative ((first + offset) % 2 ^ 32) ≡ true → bound < offset + 1
+forward_behind first count offset bound taken tracker small few below tracks passed forward =
+    let here = number_is first count offset tracker.cumulative small few below tracks.reached tracks.started in
+    let ahead : tracker.cumulative < number_of tracker.cumulative ((first + offset) % 2 ^ 32) = grind (arith, nat_tests, forward) in
+    let ahead' : tracker.cumulative < tracked first offset = subst (λ (n : ℕ). tracker.cumulative < n) here ahead in
+    omega (arith, ahead', passed)
+
+-- ---- entries of other streams
+
+-- An entry skips no message of the stream if more TSNs are passed than came before the mark.
+skips_others : (history : History) (passed id : ℕ) (mark : Mark) → AreOfKind true history.log → Has mark history.marks → Resets mark id
+    → ((n : ℕ) (f : Piece) → at_place n history.log ≡ Some (Some f) → f.message.stream ≡ id → n < mark.bound) → mark.bound < passed
+    → (entry : SkippedTo) → Skips history passed entry → skipped_stream entry ≢ id
+skips_others history passed id mark kinds has names below beyond (Ssn stream ssn) skips = λ e. (
+    let clash : true ≡ false = sym (kinds skips.number skips.piece skips.at) ∙ skips.kind in
+    absurd (cc)
+    )
+skips_others history passed id mark kinds has names below beyond (Mid stream is_unordered mid) skips = λ e. (
+    let on : skips.piece.message.stream ≡ id = sym skips.stream ∙ e in
+    let few = skips.within mark has (subst (λ (s : ℕ). Resets mark s) (sym on) names) (below skips.number skips.piece skips.at on) in
+    absurd (omega (arith, few, beyond))
+    )
+
+pub all_skip_others : (history : History) (passed id : ℕ) (mark : Mark) → AreOfKind true history.log → Has mark history.marks → Resets mark id
+    → ((n : ℕ) (f : Piece) → at_place n history.log ≡ Some (Some f) → f.message.stream ≡ id → n < mark.bound) → mark.bound < passed
+    → (entries : List SkippedTo) → SkipAll history passed entries → NoneSkips id entries
+all_skip_others history passed id mark kinds has names below beyond [] skips = tt
+all_skip_others history passed id mark kinds has names below beyond (entry ∷ entries) skips =
+    (skips_others history passed id mark kinds has names below beyond entry skips.0, all_skip_others history passed id mark kinds has names below beyond entries skips.1)
+
+on_others : (entry : SkippedTo) (id : ℕ) (stream : StreamModel) → skipped_stream entry ≢ id → skipped_on entry id stream ≡ stream
+on_others entry id stream ne = go (skipped_stream entry == id) (elim (eqb_tells (skipped_stream entry) id) [ inl e ↦ absurd (ne e.1) | inr e ↦ e.0 ])
+  where
+    go : (b : Bool) → b ≡ false → (if b then skipped entry stream else stream) ≡ stream
+    go true e = absurd (cc)
+    go false e = refl
+
+all_on_others : (entries : List SkippedTo) (id : ℕ) (stream : StreamModel) → NoneSkips id entries → skipped_by entries id stream ≡ stream
+all_on_others [] id stream none = refl
+all_on_others (entry ∷ entries) id stream none = ap (skipped_by entries id) (on_others entry id stream none.0) ∙ all_on_others entries id stream none.1
+
+-- ---- the reassembly queue
+
+takes_others : (id tsn : ℕ) (chunk : ChunkModel) (old new : IncomingModel) → chunk.stream ≢ id → TakesData tsn chunk old new → stream_on id new.streams ≡ stream_on id old.streams
+takes_others id tsn chunk old new ne takes = go chunk.numbering _ takes.takes
+  where
+    go : (numbering : Numbering) (number : ℕ) → TakesChunk number numbering chunk old new → stream_on id new.streams ≡ stream_on id old.streams
+    go (Ordered ssn) number t = t.others id (λ e. ne (sym e))
+    go Unordered number t = ap (stream_on id) t.streams
+    go (InterleavedOrdered mid fsn) number t = t.others id (λ e. ne (sym e))
+    go (InterleavedUnordered mid fsn) number t = t.others id (λ e. ne (sym e))
+
+moves_others : (id tsn : ℕ) (entries : List SkippedTo) (old new : IncomingModel) → NoneSkips id entries → MovesOn tsn entries old new → stream_on id new.streams ≡ stream_on id old.streams
+moves_others id tsn entries old new none moves = moves.streams id ∙ all_on_others entries id (stream_on id old.streams) none
+
+handles_others : (id : ℕ) (actions : List WaitingModel) (old new : IncomingModel) → NoneWaits id actions → HandlesAll actions old new → stream_on id new.streams ≡ stream_on id old.streams
+handles_others id [] old new none works = ap (λ (m : IncomingModel). stream_on id m.streams) works
+handles_others id (arrived tsn chunk ∷ actions) old new none (between, takes, rest) =
+    handles_others id actions between new none.1 rest ∙ takes_others id tsn chunk old between none.0 takes
+handles_others id (skipping tsn entries ∷ actions) old new none (between, moves, rest) =
+    handles_others id actions between new none.1 rest ∙ moves_others id tsn entries old between none.0 moves
+
+-- one more waits, of another stream
+
+waits_others : (id : ℕ) (action : WaitingModel) (actions : List WaitingModel) → NoneWaits id (action ∷ []) → NoneWaits id actions → NoneWaits id (actions ++ action ∷ [])
+waits_others id action [] one none = one
+waits_others id action (arrived tsn chunk ∷ actions) one none = (none.0, waits_others id action actions one none.1)
+waits_others id action (skipping tsn entries ∷ actions) one none = (none.0, waits_others id action actions one none.1)
+
+deferred_others : (id : ℕ) (action : WaitingModel) (deferral : Option DeferralModel) → NoneWaits id (action ∷ []) → NoneWaits id (actions_of deferral) → NoneWaits id (actions_of (with_waiting action deferral))
+deferred_others id action None one none = tt
+deferred_others id action (Some d) one none = waits_others id action d.waiting one none
+
+-- ---- data
+
+added_elsewhere : (id tsn : ℕ) (chunk : ChunkModel) (old new : ReassemblyState) → chunk.stream ≢ id → IsClear id old → AddsData tsn chunk old new → IsClear id new
+added_elsewhere id tsn chunk old new ne clear adds = go (can_count (length chunk.payload) old) refl (is_deferred tsn chunk.stream old.deferral) refl
+  where
+    go : (counts : Bool) → can_count (length chunk.payload) old ≡ counts → (waits : Bool) → is_deferred tsn chunk.stream old.deferral ≡ waits → IsClear id new
+    go false counts waits deferred = subst (λ (s : ReassemblyState). IsClear id s) (sym (adds.too_much counts)) clear
+    go true counts true deferred =
+        subst (λ (s : ReassemblyState). IsClear id s) (sym (adds.deferred counts deferred))
+        (record { stream = clear.stream; none = deferred_others id (arrived tsn chunk) old.deferral (ne, tt) clear.none })
+    go true counts false deferred =
+        let takes = adds.taken counts deferred in
+        record {
+          stream = takes_others id tsn chunk old.incoming new.incoming ne takes.incoming ∙ clear.stream;
+          none = subst (λ (d : Option DeferralModel). NoneWaits id (actions_of d)) (sym takes.deferral) clear.none;
+        }
+
+pub clear_through_data : (queued : List Message) (history : History) (first id : ℕ) (read : List ℕ) (offset : ℕ) (arrival : Arrival) (old new : Transfer) → Few history first
+    → Received queued history first read old.tracker old.reassembly → IsOver history first old.tracker.cumulative id → Carries history.log first offset arrival.tsn arrival.chunk → IsClear id old.reassembly
+    → ReceivesData arrival old new → IsClear id new.reassembly
+clear_through_data queued history first id read offset arrival old new few r over c clear receives =
+    go (not (is_above_watermark old.reassembly) && is_valid_tsn old.tracker.cumulative arrival.tsn) receives
+  where
+    elsewhere : is_new_tsn arrival.tsn old.tracker ≡ true → arrival.chunk.stream ≢ id
+    elsewhere new_tsn e =
+        old_tsn first (length history.log) offset over.mark.bound r.taken old.tracker few.small few.few (at_below offset (Some c.piece) history.log c.at) r.tracks
+        (over.below offset c.piece c.at (sym c.stream ∙ e)) over.passed (subst (λ (t : ℕ). is_new_tsn t old.tracker ≡ true) c.is new_tsn)
+
+    added : (b : Bool) → is_new_tsn arrival.tsn old.tracker ≡ b → AddsWhere b arrival.tsn arrival.chunk old.reassembly new.reassembly → IsClear id new.reassembly
+    added true is adds = added_elsewhere id arrival.tsn arrival.chunk old.reassembly new.reassembly (elsewhere is) clear adds
+    added false is same = subst (λ (s : ReassemblyState). IsClear id s) (sym same) clear
+
+    go : (b : Bool) → ReceivesWhere b arrival old new → IsClear id new.reassembly
+    go true takes = added (is_new_tsn arrival.tsn old.tracker) refl takes.reassembly
+    go false same = subst (λ (t : Transfer). IsClear id t.reassembly) (sym same) clear
+
+-- ---- what is skipped
+
+skipped_elsewhere : (id tsn : ℕ) (entries : List SkippedTo) (old new : ReassemblyState) → NoneSkips id entries → IsClear id old → SkipsData tsn entries old new → IsClear id new
+skipped_elsewhere id tsn entries old new none clear skips = go (is_forward_deferred tsn old.deferral) refl
+  where
+    go : (b : Bool) → is_forward_deferred tsn old.deferral ≡ b → IsClear id new
+    go true is =
+        subst (λ (s : ReassemblyState). IsClear id s) (sym (skips.deferred is))
+        (record { stream = clear.stream; none = deferred_others id (skipping tsn entries) old.deferral (none, tt) clear.none })
+    go false is =
+        let moved = skips.moved is in
+        record {
+          stream = moves_others id tsn entries old.incoming new.incoming none moved.incoming ∙ clear.stream;
+          none = subst (λ (d : Option DeferralModel). NoneWaits id (actions_of d)) (sym moved.deferral) clear.none;
+        }
+
+pub clear_through_forward : (queued : List Message) (history : History) (first id : ℕ) (read : List ℕ) (tsn : ℕ) (entries : List SkippedTo) (old new : Transfer) → AreOfKind true history.log → Few history first
+    → Received queued history first read old.tracker old.reassembly → IsOver history first old.tracker.cumulative id → (is : IsTsn history.log first tsn) → SkipAll history (is.offset + 1) entries → IsClear id old.reassembly
+    → MovesForward tsn entries old new → IsClear id new.reassembly
+clear_through_forward queued history first id read tsn entries old new kinds few r over is skips clear moves = go (is_valid_tsn old.tracker.cumulative tsn) moves
+  where
+    none : is_forward old.tracker.cumulative tsn ≡ true → NoneSkips id entries
+    none forward =
+        all_skip_others history (is.offset + 1) id over.mark kinds over.has over.names over.below
+        (forward_behind first (length history.log) is.offset over.mark.bound r.taken old.tracker few.small few.few is.below r.tracks over.passed
+        (subst (λ (t : ℕ). is_forward old.tracker.cumulative t ≡ true) is.is forward))
+        entries skips
+
+    gone : (b : Bool) → is_forward old.tracker.cumulative tsn ≡ b → SkipsWhere b tsn entries old.reassembly new.reassembly → IsClear id new.reassembly
+    gone true forward skipped = skipped_elsewhere id tsn entries old.reassembly new.reassembly (none forward) clear skipped
+    gone false forward same = subst (λ (s : ReassemblyState). IsClear id s) (sym same) clear
+
+    go : (b : Bool) → MovesWhere b tsn entries old new → IsClear id new.reassembly
+    go true goes = gone (is_forward old.tracker.cumulative tsn) refl goes.reassembly
+    go false same = subst (λ (t : Transfer). IsClear id t.reassembly) (sym same) clear
+
+-- ---- streams that are reset, and the rest
+
+-- The stream is new once the reset was performed: what was handled then is of others.
+pub left_clear : (id : ℕ) (streams : List ℕ) (old new : ReassemblyState) → NoneWaits id (actions_of old.deferral) → ((between : IncomingModel) → ResetsStreams streams old.incoming between → stream_on id between.streams ≡ new_stream id)
+    → Leaves streams old new → IsClear id new
+left_clear id streams old new none renewed leaves =
+    record {
+      stream = handles_others id (actions_of old.deferral) leaves.between new.incoming none leaves.works ∙ renewed leaves.between leaves.resets;
+      none = subst (λ (d : Option DeferralModel). NoneWaits id (actions_of d)) (sym leaves.deferral) tt;
+    }
+
+pub clear_through_resets : (id : ℕ) (streams : List ℕ) (old new : ReassemblyState) → IsClear id old → Leaves streams old new → IsClear id new
+clear_through_resets id streams old new clear leaves = left_clear id streams old new clear.none (renewed streams) leaves
+  where
+    either : (b : Bool) → (if b then new_stream id else stream_on id old.incoming.streams) ≡ new_stream id
+    either true = refl
+    either false = clear.stream
+
+    renewed : (named : List ℕ) (between : IncomingModel) → ResetsStreams named old.incoming between → stream_on id between.streams ≡ new_stream id
+    renewed [] between resets = resets.streams id
+    renewed (one ∷ others) between resets = resets.streams id ∙ either (is_named (one ∷ others) id)
+
+pub clear_through_rest : (id : ℕ) (reassembly : ReassemblyState) → IsClear id reassembly
+    → ((last_tsn : ℕ) (streams : List ℕ) → IsClear id (deferring last_tsn streams reassembly)) × ((messages : List MessageContent) → IsClear id (with_ready messages reassembly))
+clear_through_rest id reassembly clear = (
+  λ last_tsn streams. record { stream = clear.stream; none = begun last_tsn streams reassembly.deferral clear.none },
+  λ messages. record { stream = clear.stream; none = clear.none },
+)
+  where
+    begun : (last_tsn : ℕ) (streams : List ℕ) (deferral : Option DeferralModel) → NoneWaits id (actions_of deferral) → NoneWaits id (actions_of (entered last_tsn streams deferral))
+    begun last_tsn streams None none = tt
+    begun last_tsn streams (Some d) none = none

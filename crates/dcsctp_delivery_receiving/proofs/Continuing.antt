@@ -1,0 +1,140 @@
+-- What was received of a peer stays so as it goes on.
+use Rattle.std.proofs.Common.{◌≡◌, ℕ, Bool, true, false, ◌≤◌, ◌+◌, List, [], ◌∷◌, length, arith, inl, inr}
+use Rattle.std.specs.Prelude.{◌⊎◌, Some}
+use Rattle.dcsctp_machine.specs.declared.arrivals.SkippedTo.{SkippedTo}
+use Rattle.dcsctp_machine.specs.declared.arrivals.SkippedTo.TheVariants.{Ssn, Mid}
+use Rattle.dcsctp_machine.specs.transfer.Runs.{RunModel}
+use Rattle.dcsctp_machine.specs.transfer.IncomingStreams.{ChunkModel}
+use Rattle.dcsctp_machine.specs.transfer.Reassembly.{WaitingModel, arrived, skipping}
+use Rattle.dcsctp_delivery_sending.specs.Places.{Has, at_place}
+use Rattle.dcsctp_delivery_sending.specs.Log.{Piece, Slot, Mark, History}
+use Rattle.dcsctp_delivery_sending.specs.Numbers.{IsCurrent}
+use Rattle.dcsctp_delivery_receiving.specs.Rows.{IsRow, AreRows, Spent}
+use Rattle.dcsctp_delivery_receiving.specs.Ready.{IsNumberedAs, IsOn, IsApart, Reads, Names, NameAll}
+use Rattle.dcsctp_delivery_receiving.specs.Received.{Carries, CarriesCurrent, SkipsTo, Defers}
+
+-- All pieces of a history are in a later one, each current one still is current, and the other marks are of resets that began later.
+pub record GoesOn (history wider : History) : Type 0 where
+  pub stays : (n : ℕ) (slot : Slot) → at_place n history.log ≡ Some slot → at_place n wider.log ≡ Some slot
+  pub current : (n : ℕ) (f : Piece) → at_place n history.log ≡ Some (Some f) → IsCurrent history f → IsCurrent wider f
+  pub longer : length history.log ≤ length wider.log
+  pub marks : (mark : Mark) → Has mark wider.marks → Has mark history.marks ⊎ (length history.log ≤ mark.bound)
+
+module _ (history wider : History) (goes : GoesOn history wider) where
+  numbered_more : (is_unordered : Bool) (n : ℕ) (f : Piece) (number : ℕ) → at_place n history.log ≡ Some (Some f) → IsNumberedAs history is_unordered f number → IsNumberedAs wider is_unordered f number
+  numbered_more is_unordered n f number at named kind = (let is = named kind in (is.0, is.1, goes.current n f at is.2))
+
+  pub on_more : (id n : ℕ) (f : Piece) (number : ℕ) → at_place n history.log ≡ Some (Some f) → IsOn history id f number → IsOn wider id f number
+  on_more id n f number at named = (named.0, numbered_more false n f number at named.1)
+
+  pub apart_more : (id n : ℕ) (f : Piece) (number : ℕ) → at_place n history.log ≡ Some (Some f) → IsApart history id f number → IsApart wider id f number
+  apart_more id n f number at named = (named.0, numbered_more true n f number at named.1)
+
+  pub reads_more : (id : ℕ) (is_unordered : Bool) (number : ℕ) → Reads history id is_unordered number → Reads wider id is_unordered number
+  reads_more id is_unordered number reads start w =
+      reads start
+      (record {
+        kinds = λ n f at. w.kinds n f (goes.stays n (Some f) at);
+        from = λ n f at on kind is. w.from n f (goes.stays n (Some f) at) on kind (goes.current n f at is);
+        below = λ n f at on kind is. w.below n f (goes.stays n (Some f) at) on kind (goes.current n f at is);
+      })
+
+  module _ (got : List ℕ) (base : ℕ) (Named Other : Piece → ℕ → Type 0) (less : (n : ℕ) (f : Piece) (number : ℕ) → at_place n history.log ≡ Some (Some f) → Named f number → Other f number) where
+    row_more : (run : RunModel) → IsRow history.log got base Named run → IsRow wider.log got base Other run
+    row_more run row =
+        record {
+          offset = row.offset;
+          head = row.head;
+          last_offset = row.last_offset;
+          last = row.last;
+          at_head = goes.stays row.offset (Some row.head) row.at_head;
+          at_last = goes.stays row.last_offset (Some row.last) row.at_last;
+          first = row.first;
+          ends = row.ends;
+          some = row.some;
+          covered = row.covered;
+          place = row.place;
+          message = row.message;
+          order = row.order;
+          payload = row.payload;
+          number = less row.offset row.head run.number row.at_head row.number;
+          ppid = row.ppid;
+          beginning = row.beginning;
+          end = row.end;
+        }
+
+    pub rows_more : (runs : List RunModel) → AreRows history.log got base Named runs → AreRows wider.log got base Other runs
+    rows_more [] are = tt
+    rows_more (r ∷ runs) are = (row_more r are.0, rows_more runs are.1)
+
+  pub spent_more : (got : List ℕ) (place : ℕ) → Spent history.log got place → Spent wider.log got place
+  spent_more got place s =
+      record {
+        offset = s.offset;
+        head = s.head;
+        last_offset = s.last_offset;
+        last = s.last;
+        at_head = goes.stays s.offset (Some s.head) s.at_head;
+        at_last = goes.stays s.last_offset (Some s.last) s.at_last;
+        is = s.is;
+        starts = s.starts;
+        same = s.same;
+        ends = s.ends;
+        order = s.order;
+        covered = s.covered;
+      }
+
+  carries_more : (first offset tsn : ℕ) (chunk : ChunkModel) → CarriesCurrent history first offset tsn chunk → CarriesCurrent wider first offset tsn chunk
+  carries_more first offset tsn chunk carries =
+      let c : Carries history.log first offset tsn chunk = carries.carries in
+      record {
+        carries = record {
+          piece = c.piece;
+          at = goes.stays offset (Some c.piece) c.at;
+          is = c.is;
+          stream = c.stream;
+          numbered = c.numbered;
+          ppid = c.ppid;
+          payload = c.payload;
+          beginning = c.beginning;
+          end = c.end;
+        };
+        current = λ kind. goes.current offset c.piece c.at (carries.current kind);
+      }
+
+  -- TSNs were assigned before a reset that began later
+  name_more : (passed : ℕ) → passed ≤ length history.log → (entry : SkippedTo) → Names history passed entry → Names wider passed entry
+  name_more passed assigned (Ssn id ssn) (s, is) = (record { number = s.number; piece = s.piece; at = goes.stays s.number (Some s.piece) s.at; kind = s.kind }, tt)
+  name_more passed assigned (Mid id is_unordered mid) (s, is) = (
+    record {
+      number = s.number;
+      piece = s.piece;
+      at = goes.stays s.number (Some s.piece) s.at;
+      kind = s.kind;
+      stream = s.stream;
+      unordered = s.unordered;
+      is = s.is;
+      within = λ mark has names below. elim (goes.marks mark has) [ inl h ↦ s.within mark h names below | inr up ↦ omega (arith, assigned, up) ];
+    },
+    goes.current s.number s.piece s.at is,
+  )
+
+  names_more : (passed : ℕ) → passed ≤ length history.log → (entries : List SkippedTo) → NameAll history passed entries → NameAll wider passed entries
+  names_more passed assigned [] names = tt
+  names_more passed assigned (entry ∷ entries) names = (name_more passed assigned entry names.0, names_more passed assigned entries names.1)
+
+  skips_more : (first tsn : ℕ) (entries : List SkippedTo) → SkipsTo history first tsn entries → SkipsTo wider first tsn entries
+  skips_more first tsn entries s =
+      let t = s.tsn_is in
+      record {
+        tsn_is = record { offset = t.offset; below = omega (arith, t.below, goes.longer); is = t.is };
+        names = names_more (t.offset + 1) (omega (arith, t.below)) entries s.names;
+      }
+
+  pub defers_more : (first : ℕ) (numbers : List ℕ) (actions : List WaitingModel) → Defers history first numbers actions → Defers wider first numbers actions
+  defers_more first [] [] defers = tt
+  defers_more first (n ∷ numbers) [] defers = absurd defers
+  defers_more first [] (arrived tsn chunk ∷ actions) defers = absurd defers
+  defers_more first (n ∷ numbers) (arrived tsn chunk ∷ actions) defers = (carries_more first n tsn chunk defers.0, defers_more first numbers actions defers.1)
+  defers_more first [] (skipping tsn entries ∷ actions) defers = (skips_more first tsn entries defers.0, defers_more first [] actions defers.1)
+  defers_more first (n ∷ numbers) (skipping tsn entries ∷ actions) defers = (skips_more first tsn entries defers.0, defers_more first (n ∷ numbers) actions defers.1)

@@ -1,0 +1,43 @@
+-- The cumulative TSN of a receiver never goes back, and a FORWARD-TSN that passes nothing leaves what was received.
+use Rattle.std.proofs.Common.{◌≡◌, ℕ, Bool, true, false, ◌≤◌, ◌+◌, ◌-◌, ◌%◌, ◌^◌, List, sym, ap, arith, subst, length}
+use Rattle.std.specs.Prelude.{◌&&◌, not}
+use Rattle.dcsctp_machine.specs.declared.arrivals.SkippedTo.{SkippedTo}
+use Rattle.dcsctp_machine.specs.transfer.Arrivals.{Arrival}
+use Rattle.dcsctp_machine.specs.transfer.Reassembly.{is_above_watermark}
+use Rattle.dcsctp_machine.specs.transfer.Tracker.{TrackerState, is_forward, is_valid_tsn}
+use Rattle.dcsctp_machine.specs.transfer.Transfer.{Transfer}
+use Rattle.dcsctp_machine.specs.turns.TransferMoves.{ReceivesWhere, SkipsWhere, MovesWhere, ReceivesData, MovesForward}
+use Rattle.dcsctp_delivery_sending.specs.Log.{Message, History}
+use Rattle.dcsctp_delivery_receiving.specs.Received.{Received, Few}
+use Rattle.dcsctp_delivery_receiving.proofs.Taking.{nothing_passed}
+use Rattle.dcsctp_delivery_receiving.proofs.Tracked.{observed_up, forward_up}
+
+same_up : (old new : Transfer) → new ≡ old → old.tracker.cumulative ≤ new.tracker.cumulative
+same_up old new same = subst (λ (t : Transfer). old.tracker.cumulative ≤ t.tracker.cumulative) (sym same) (omega arith)
+
+pub received_up : (queued : List Message) (history : History) (first : ℕ) (read : List ℕ) (arrival : Arrival) (old new : Transfer) → Received queued history first read old.tracker old.reassembly → ReceivesData arrival old new
+    → old.tracker.cumulative ≤ new.tracker.cumulative
+received_up queued history first read arrival old new r receives = go (not (is_above_watermark old.reassembly) && is_valid_tsn old.tracker.cumulative arrival.tsn) receives
+  where
+    go : (b : Bool) → ReceivesWhere b arrival old new → old.tracker.cumulative ≤ new.tracker.cumulative
+    go true takes = subst (λ (t : TrackerState). old.tracker.cumulative ≤ t.cumulative) (sym (ap (λ (t : Transfer). t.tracker) takes.rest)) (observed_up arrival.tsn arrival.immediate_ack old.tracker r.tracks.beyond)
+    go false same = same_up old new same
+
+pub forwarded_up : (queued : List Message) (history : History) (first : ℕ) (read : List ℕ) (tsn : ℕ) (entries : List SkippedTo) (old new : Transfer) → Received queued history first read old.tracker old.reassembly
+    → MovesForward tsn entries old new → old.tracker.cumulative ≤ new.tracker.cumulative
+forwarded_up queued history first read tsn entries old new r moves = go (is_valid_tsn old.tracker.cumulative tsn) moves
+  where
+    go : (b : Bool) → MovesWhere b tsn entries old new → old.tracker.cumulative ≤ new.tracker.cumulative
+    go true goes = subst (λ (t : TrackerState). old.tracker.cumulative ≤ t.cumulative) (sym (ap (λ (t : Transfer). t.tracker) goes.rest)) (forward_up tsn old.tracker r.tracks.beyond)
+    go false same = same_up old new same
+
+pub passing_nothing_leaves : (queued : List Message) (history : History) (first : ℕ) → Few history first → (read : List ℕ) (tsn : ℕ) (entries : List SkippedTo) (old new : Transfer) → tsn ≡ (first + 0 + (2 ^ 32 - 1)) % 2 ^ 32
+    → Received queued history first read old.tracker old.reassembly → MovesForward tsn entries old new → new.reassembly ≡ old.reassembly
+passing_nothing_leaves queued history first f read tsn entries old new is r moves = go (is_valid_tsn old.tracker.cumulative tsn) moves
+  where
+    none : is_forward old.tracker.cumulative tsn ≡ false
+    none = nothing_passed first (length history.log) old.tracker.cumulative tsn f.small f.few r.tracks.reached r.tracks.started is
+
+    go : (b : Bool) → MovesWhere b tsn entries old new → new.reassembly ≡ old.reassembly
+    go true goes = subst (λ (b : Bool). SkipsWhere b tsn entries old.reassembly new.reassembly) none goes.reassembly
+    go false same = ap (λ (t : Transfer). t.reassembly) same

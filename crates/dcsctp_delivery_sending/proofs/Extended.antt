@@ -1,0 +1,158 @@
+-- What was said stays said as more is done in an association.
+use Rattle.std.proofs.Common.{◌≡◌, ℕ, Bool, true, false, ◌≤◌, List, [], ◌∷◌, ◌++◌, length, sym, ◌∙◌, arith, inr, ap, inl}
+use Rattle.std.specs.Prelude.{◌⊎◌, Option, None, Some}
+use Rattle.std.proofs.lemmas.List.{length-append}
+use Rattle.dcsctp_wire.specs.Content.{ChunkContent, data_chunk, i_data_chunk, init_chunk, init_ack_chunk, sack_chunk, heartbeat_chunk, heartbeat_ack_chunk, abort_chunk, shutdown_chunk, shutdown_ack_chunk, error_chunk, cookie_echo_chunk, cookie_ack_chunk, shutdown_complete_chunk, re_config_chunk, forward_tsn_chunk, i_forward_tsn_chunk, unknown_chunk}
+use Rattle.dcsctp_machine.specs.Packet.{Plain, unknown, heartbeat, heartbeat_ack, unworked, plain, init, init_ack, cookie_echo, cookie_ack, re_config, abort, shutdown, shutdown_ack, shutdown_complete, Content, Emission}
+use Rattle.dcsctp_machine.specs.Reconfiguration.{ResetParameter, outgoing_reset_request, incoming_reset_request, reconfiguration_response, other_reset_parameter}
+use Rattle.dcsctp_machine.specs.transfer.Sending.{Fragment}
+use Rattle.dcsctp_machine.specs.turns.BegunResets.{BegunReset}
+use Rattle.dcsctp_delivery_sending.specs.Places.{Has, at_place}
+use Rattle.dcsctp_delivery_sending.specs.Log.{Slot, Mark, History, grown, with_mark}
+use Rattle.dcsctp_delivery_sending.specs.Numbers.{KindAt}
+use Rattle.dcsctp_delivery_sending.specs.Stages.{SaysAt}
+use Rattle.dcsctp_delivery_sending.specs.Flushes.{IsPassed, AreEntries, IsForward, SaysPlain, AreBegun, SaysContent, SayAll, PacketsSay}
+use Rattle.dcsctp_delivery_sending.proofs.Places.{at_stays}
+
+pub at_more : {A : Type 0} (more log : List A) (n : ℕ) (x : A) → at_place n log ≡ Some x → at_place n (more ++ log) ≡ Some x
+at_more [] log n x at = at
+at_more (slot ∷ more) log n x at = at_stays n slot x (more ++ log) (at_more more log n x at)
+
+-- The later history has all TSNs and resets of the earlier one.
+pub record Extends (old new : History) : Type 0 where
+  pub at : (n : ℕ) (slot : Slot) → at_place n old.log ≡ Some slot → at_place n new.log ≡ Some slot
+  pub size : length old.log ≤ length new.log
+  pub marks : (mark : Mark) → Has mark old.marks → Has mark new.marks
+  -- A later reset lies behind all TSNs of the earlier history.
+  pub later : (mark : Mark) → Has mark new.marks → (Has mark old.marks) ⊎ (length old.log ≤ mark.bound)
+
+pub extends_grown : (more : List Slot) (history : History) → Extends history (grown more history)
+extends_grown more history = record { at = at_more more history.log; size = omega (arith, length-append more history.log); marks = λ mark has. has; later = λ mark has. inl has }
+
+pub extends_marked : (begun : Option BegunReset) (ids : List ℕ) (bound : ℕ) (history : History) → length history.log ≤ bound → Extends history (with_mark begun ids bound history)
+extends_marked None ids bound history low = record { at = λ n slot at. at; size = omega arith; marks = λ mark has. has; later = λ mark has. inl has }
+extends_marked (Some begun) ids bound history low =
+    record {
+      at = λ n slot at. at;
+      size = omega arith;
+      marks = λ mark has. inr has;
+      later = λ mark has. elim has [ inl e ↦ inr (let is : mark.bound ≡ bound = ap (λ (m : Mark). m.bound) e in omega (arith, low)) | inr old ↦ inl old ];
+    }
+
+-- a reset that was begun among more TSNs
+pub extends_noted : (begun : Option BegunReset) (ids : List ℕ) (bound : ℕ) (more : List Slot) (history : History) → length history.log ≤ bound → Extends history (with_mark begun ids bound (grown more history))
+extends_noted None ids bound more history low = extends_grown more history
+extends_noted (Some begun) ids bound more history low =
+    record {
+      at = at_more more history.log;
+      size = omega (arith, length-append more history.log);
+      marks = λ mark has. inr has;
+      later = λ mark has. elim has [ inl e ↦ inr (let is : mark.bound ≡ bound = ap (λ (m : Mark). m.bound) e in omega (arith, low)) | inr old ↦ inl old ];
+    }
+
+pub extends_then : (old between new : History) → Extends old between → Extends between new → Extends old new
+extends_then old between new one two =
+    record {
+      at = λ n slot at. two.at n slot (one.at n slot at);
+      size = (let less = one.size in let less' = two.size in omega (arith, less, less'));
+      marks = λ mark has. two.marks mark (one.marks mark has);
+      later = λ mark has. elim (two.later mark has) [
+        | inl earlier ↦ one.later mark earlier
+        | inr less' ↦ inr (let less = one.size in omega (arith, less, less'))
+      ];
+    }
+
+module _ (old new : History) (extends : Extends old new) (first : ℕ) where
+  says_later : (n : ℕ) (part : Fragment) → SaysAt old.log n part → SaysAt new.log n part
+  says_later n part says =
+      record {
+        slot = says.slot;
+        at = extends.at n says.slot says.at;
+        says = says.says;
+      }
+
+  kind_later : (is_interleaved : Bool) (n : ℕ) (slot : Slot) → at_place n old.log ≡ Some slot → KindAt is_interleaved old.log n → KindAt is_interleaved new.log n
+  kind_later is_interleaved n slot at kind f at' =
+      let both : Some slot ≡ Some (Some f) = sym (extends.at n slot at) ∙ at' in
+      kind f (at ∙ both)
+
+  entries_later : (is_interleaved : Bool) (passed : ℕ) (entries : List ((ℕ × Bool) × ℕ)) → passed ≤ length old.log → AreEntries is_interleaved old passed entries → AreEntries is_interleaved new passed entries
+  entries_later is_interleaved passed [] below names = tt
+  entries_later is_interleaved passed (entry ∷ entries) below names = (
+    record {
+      number = names.0.number;
+      piece = names.0.piece;
+      at = extends.at names.0.number (Some names.0.piece) names.0.at;
+      within = λ mark has resets less. elim (extends.later mark has) [ inl earlier ↦ names.0.within mark earlier resets less | inr past ↦ omega (arith, below, past) ];
+      kind = names.0.kind;
+      stream = names.0.stream;
+      unordered = names.0.unordered;
+      mid = names.0.mid;
+    },
+    entries_later is_interleaved passed entries below names.1,
+  )
+
+  passed_later : (tsn : ℕ) → IsPassed old.log first tsn → IsPassed new.log first tsn
+  passed_later tsn p = record { passed = p.passed; below = (let size = extends.size in omega (arith, p.below, size)); is = p.is }
+
+  forward_later : (is_interleaved : Bool) (tsn : ℕ) (streams : List ℕ) → IsForward is_interleaved old first tsn streams → IsForward is_interleaved new first tsn streams
+  unfolding passed_later
+  forward_later is_interleaved tsn streams f = record { passed = passed_later tsn f.passed; entries = f.entries; is = f.is; names = entries_later is_interleaved f.passed.passed f.entries f.passed.below f.names }
+
+  open_later : (chunk : ChunkContent) → SaysPlain old first (unworked chunk) → SaysPlain new first (unworked chunk)
+  open_later (data_chunk d) says =
+      record { number = says.number; part = says.part; says = says_later says.number says.part says.says; is = says.is; kind = kind_later false says.number says.says.slot says.says.at says.kind }
+  open_later (i_data_chunk d) says =
+      record { number = says.number; part = says.part; says = says_later says.number says.part says.says; is = says.is; kind = kind_later true says.number says.says.slot says.says.at says.kind }
+  open_later (init_chunk c) says = tt
+  open_later (init_ack_chunk c) says = tt
+  open_later (sack_chunk c) says = tt
+  open_later (heartbeat_chunk ps) says = tt
+  open_later (heartbeat_ack_chunk ps) says = tt
+  open_later (abort_chunk b cs) says = tt
+  open_later (shutdown_chunk t) says = tt
+  open_later shutdown_ack_chunk says = tt
+  open_later (error_chunk cs) says = tt
+  open_later (cookie_echo_chunk bs) says = tt
+  open_later cookie_ack_chunk says = tt
+  open_later (shutdown_complete_chunk b) says = tt
+  open_later (re_config_chunk ps) says = tt
+  open_later (forward_tsn_chunk t bs) says = forward_later false t bs says
+  open_later (i_forward_tsn_chunk t bs) says = forward_later true t bs says
+  open_later (unknown_chunk t f bs) says = tt
+
+  plain_later : (chunk : Plain) → SaysPlain old first chunk → SaysPlain new first chunk
+  plain_later (unknown type flags value) says = tt
+  plain_later (heartbeat parameters) says = tt
+  plain_later (heartbeat_ack parameters) says = tt
+  plain_later (unworked chunk) says = open_later chunk says
+
+  begun_later : (parameters : List ResetParameter) → AreBegun old parameters → AreBegun new parameters
+  begun_later [] are = tt
+  begun_later (outgoing_reset_request number answered reset ∷ parameters) are = (
+    record { mark = are.0.mark; has = extends.marks are.0.mark are.0.has; is = are.0.is },
+    begun_later parameters are.1,
+  )
+  begun_later (incoming_reset_request number streams ∷ parameters) are = absurd are
+  begun_later (reconfiguration_response number result ∷ parameters) are = begun_later parameters are
+  begun_later (other_reset_parameter content ∷ parameters) are = begun_later parameters are
+
+  content_later : (content : Content) → SaysContent old first content → SaysContent new first content
+  content_later (init i) says = tt
+  content_later (init_ack i b) says = tt
+  content_later (cookie_echo b) says = tt
+  content_later cookie_ack says = tt
+  content_later (re_config ps) says = begun_later ps says
+  content_later (abort b cs) says = tt
+  content_later (shutdown t) says = tt
+  content_later shutdown_ack says = tt
+  content_later (shutdown_complete b) says = tt
+  content_later (plain chunk) says = plain_later chunk says
+
+  pub all_later : (contents : List Content) → SayAll old first contents → SayAll new first contents
+  all_later [] say = tt
+  all_later (c ∷ contents) say = (content_later c say.0, all_later contents say.1)
+
+  pub packets_later : (emissions : List Emission) → PacketsSay old first emissions → PacketsSay new first emissions
+  packets_later [] say = tt
+  packets_later (e ∷ emissions) say = (all_later e.packet.contents say.0, packets_later emissions say.1)

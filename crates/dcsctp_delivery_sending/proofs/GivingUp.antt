@@ -1,0 +1,122 @@
+-- Messages that are abandoned: their ends may take TSNs, which bear no piece.
+use Rattle.std.proofs.Common.{◌≡◌, ℕ, Bool, true, false, ◌+◌, List, [], ◌∷◌, ◌++◌, length, refl, sym, ◌∙◌, ap, subst, inl, inr}
+use Rattle.std.specs.Prelude.{Option, None, Some}
+use Rattle.dcsctp_machine.specs.declared.progress.Change.TheVariants.{Abandon}
+use Rattle.dcsctp_machine.specs.declared.sending.UnderWay.{UnderWay}
+use Rattle.dcsctp_machine.specs.transfer.Abandoning.{GivesUpFirst, GivesUpAll}
+use Rattle.dcsctp_machine.specs.transfer.Filling.{Stage, Closes, DropsRestAt, GivesUpAt, Steps, none, more}
+use Rattle.dcsctp_machine.specs.transfer.ItemMessages.{EndsDropped}
+use Rattle.dcsctp_machine.specs.transfer.Items.{Item}
+use Rattle.dcsctp_machine.specs.transfer.Outstanding.{OutstandingState}
+use Rattle.dcsctp_machine.specs.transfer.SendQueue.{SendQueueState}
+use Rattle.dcsctp_machine.specs.transfer.Sending.{Fragment, DiscardsNamed}
+use Rattle.dcsctp_delivery_sending.specs.Log.{Message, Piece, Slot, History, grown, with_slot}
+use Rattle.dcsctp_delivery_sending.specs.Places.{at_place}
+use Rattle.dcsctp_delivery_sending.specs.Pieces.{HoldsQueued}
+use Rattle.dcsctp_delivery_sending.specs.Numbers.{Numbered}
+use Rattle.dcsctp_delivery_sending.specs.Stages.{IsNamed, Bears, Pends, AreMarks, Stands, Stays}
+use Rattle.dcsctp_delivery_sending.proofs.Marks.{pends_later, marks_none, named_end, end_whole}
+use Rattle.dcsctp_delivery_sending.proofs.Discarding.{discards_numbered, discards_hold}
+use Rattle.dcsctp_delivery_sending.proofs.Places.{at_either}
+use Rattle.dcsctp_delivery_sending.proofs.Stages.{with_none, bears_grown, bears_changed, cut_none}
+
+-- More TSNs may have been assigned that bear no piece.
+pub record Ends (queued : List Message) (history : History) (first acknowledged : ℕ) (new : Stage) : Type 0 where
+  pub more : List Slot
+  pub stands : Stands queued (grown more history) first acknowledged new
+  pub none : (n : ℕ) (f : Piece) → at_place n more ≡ Some (Some f) → ⊥
+
+pub ended : (queued : List Message) (history : History) (first acknowledged : ℕ) (new : Stage) → Ends queued history first acknowledged new → Stays queued history first acknowledged new
+ended queued history first acknowledged new ends = record { more = ends.more; stands = ends.stands; current = λ n f at. absurd (ends.none n f at); kept = λ n f at. absurd (ends.none n f at) }
+
+pub end : (queued : List Message) (history : History) (first acknowledged : ℕ) (new : Stage) → Stands queued history first acknowledged new → Ends queued history first acknowledged new
+end queued history first acknowledged new stands = record { more = []; stands = stands; none = λ n f at. absurd (cc) }
+
+pub append_twice : (newest newer : List Slot) (log : List Slot) → (newest ++ newer) ++ log ≡ newest ++ (newer ++ log)
+append_twice [] newer log = refl
+append_twice (slot ∷ newest) newer log = ap (λ (l : List Slot). slot ∷ l) (append_twice newest newer log)
+
+pub grown_twice : (newest newer : List Slot) (history : History) → grown (newest ++ newer) history ≡ grown newest (grown newer history)
+grown_twice newest newer history = ap (λ (l : List Slot). record history { log = l }) (append_twice newest newer history.log)
+
+-- what waits of a message is dropped
+drops_rest_ends : (queued : List Message) (history : History) (first acknowledged own now : ℕ) (last : Item) (old new : Stage) → Stands queued history first acknowledged old → IsNamed history own last.fragment → DropsRestAt now last old new → Ends queued history first acknowledged new
+drops_rest_ends queued history first acknowledged own now last old new stands named drops =
+    subst (λ (s : Stage). Ends queued history first acknowledged s) (sym drops.is) (go drops.drops.is_dropped drops.drops.drops drops.drops.ends)
+  where
+    go : (dropped : Bool) → DiscardsNamed old.waiting last.fragment.stream last.fragment.message_id old.told dropped new.waiting new.told → EndsDropped now old.queue.reset_begun last old.queue.outstanding drops.outstanding dropped
+        → Ends queued history first acknowledged (record old { queue = record old.queue { outstanding = drops.outstanding }; waiting = new.waiting; told = new.told })
+    go true discards ends =
+        record {
+          more = None ∷ [];
+          none = λ n f at. absurd (let nothing : at_place n [] ≡ Some (Some f) = with_none [] n f at in cc);
+          stands = record {
+            queue_holds = discards_hold queued history.log old.waiting new.waiting last.fragment.stream last.fragment.message_id old.told new.told stands.queue_holds discards;
+            cut = cut_none queued history.log stands.cut;
+            bears = subst (λ (o : OutstandingState). Bears (with_slot None history) first acknowledged o) (sym ends.grows)
+                (bears_grown history first acknowledged None ends.item old.queue.outstanding stands.bears (ap (λ (f : Fragment). f.payload) ends.is_end.is)
+                (subst (λ (f : Fragment). IsNamed (with_slot None history) (length history.log) f) (sym ends.is_end.is)
+                (named_end history own last.fragment named (end_whole queued history first own old.waiting new.waiting last.fragment old.told new.told stands.queue_holds stands.marks discards named)))
+                (subst (λ (b : Bool). Pends history b) (sym ends.is_end.begins_after_reset) stands.pends));
+            pends = pends_later None history first old.waiting.under_way old.queue.reset_begun stands.marks;
+            marks = subst (λ (u : Option UnderWay). AreMarks (with_slot None history) first u) (sym (ap (λ (w : SendQueueState). w.under_way) discards.left)) (marks_none history first old.waiting.under_way stands.marks);
+            numbers = discards_numbered history old.waiting new.waiting last.fragment.stream last.fragment.message_id old.told new.told stands.numbers discards;
+            kind = ap (λ (o : OutstandingState). o.is_interleaved) ends.grows ∙ stands.kind ∙ sym (ap (λ (w : SendQueueState). w.is_interleaved) discards.left);
+          };
+        }
+    go false discards ends =
+        end queued history first acknowledged _
+        (record {
+          queue_holds = subst (λ (w : SendQueueState). HoldsQueued queued history.log w.streams w.under_way) (sym discards.1) stands.queue_holds;
+          cut = stands.cut;
+          bears = subst (λ (o : OutstandingState). Bears history first acknowledged o) (sym ends) stands.bears;
+          pends = stands.pends;
+          marks = subst (λ (w : SendQueueState). AreMarks history first w.under_way) (sym discards.1) stands.marks;
+          numbers = subst (λ (w : SendQueueState). Numbered history w) (sym discards.1) stands.numbers;
+          kind = ap (λ (o : OutstandingState). o.is_interleaved) ends ∙ stands.kind ∙ sym (ap (λ (w : SendQueueState). w.is_interleaved) discards.1);
+        })
+
+closes_end : (queued : List Message) (history : History) (first acknowledged own now : ℕ) (last : Item) (old new : Stage) (is_end : Bool) → Stands queued history first acknowledged old → IsNamed history own last.fragment → Closes now last old new is_end → Ends queued history first acknowledged new
+closes_end queued history first acknowledged own now last old new true stands named closes =
+    end queued history first acknowledged new (subst (λ (s : Stage). Stands queued history first acknowledged s) (sym closes) (record { queue_holds = stands.queue_holds; cut = stands.cut; bears = stands.bears; pends = stands.pends; marks = stands.marks; numbers = stands.numbers; kind = stands.kind }))
+closes_end queued history first acknowledged own now last old new false stands named closes =
+    elim closes [
+      | inl e ↦ drops_rest_ends queued history first acknowledged own now last old new stands named e.1
+      | inr e ↦ end queued history first acknowledged new (subst (λ (s : Stage). Stands queued history first acknowledged s) (sym e.1) stands)
+    ]
+
+pub gives_up_ends : (queued : List Message) (history : History) (first acknowledged now place : ℕ) (old new : Stage) → Stands queued history first acknowledged old → GivesUpAt now place old new → Ends queued history first acknowledged new
+gives_up_ends queued history first acknowledged now place old new stands gives =
+    let closed = closes_end queued history first acknowledged (acknowledged + gives.last_place) now gives.last old gives.closed gives.last.fragment.is_end stands (stands.bears.named gives.last_place gives.last gives.at) gives.closes in
+    record {
+      more = closed.more;
+      none = closed.none;
+      stands = subst (λ (s : Stage). Stands queued (grown closed.more history) first acknowledged s) (sym gives.is)
+          (record {
+            queue_holds = closed.stands.queue_holds;
+            cut = closed.stands.cut;
+            bears = bears_changed (grown closed.more history) first acknowledged Abandon gives.start (gives.last_place + 1) gives.closed.queue.outstanding closed.stands.bears;
+            pends = closed.stands.pends;
+            marks = closed.stands.marks;
+            numbers = closed.stands.numbers;
+            kind = closed.stands.kind;
+          });
+    }
+
+-- messages that are given up take TSNs that bear no piece
+give_up_steps : (queued : List Message) (history : History) (first acknowledged now : ℕ) (old new : Stage) → Stands queued history first acknowledged old → Steps (GivesUpFirst now) old new → Ends queued history first acknowledged new
+give_up_steps queued history first acknowledged now old new stands none = end queued history first acknowledged old stands
+give_up_steps queued history first acknowledged now old new stands (more between _ steps step) =
+    let earlier = give_up_steps queued history first acknowledged now old between stands steps in
+    let later = gives_up_ends queued (grown earlier.more history) first acknowledged now step.place between new earlier.stands step.gives_up in
+    record {
+      more = later.more ++ earlier.more;
+      stands = subst (λ (h : History). Stands queued h first acknowledged new) (sym (grown_twice later.more earlier.more history)) later.stands;
+      none = λ n f at. elim (at_either later.more earlier.more n (Some f) at) [ inl e ↦ later.none e.0 f e.1 | inr e ↦ earlier.none n f e ];
+    }
+
+pub give_up_all_ends : (queued : List Message) (history : History) (first acknowledged now : ℕ) (old new : Stage) → Stands queued history first acknowledged old → GivesUpAll now old new → Ends queued history first acknowledged new
+give_up_all_ends queued history first acknowledged now old new stands gives = give_up_steps queued history first acknowledged now old new stands gives.steps
+
+pub give_up_all_stays : (queued : List Message) (history : History) (first acknowledged now : ℕ) (old new : Stage) → Stands queued history first acknowledged old → GivesUpAll now old new → Stays queued history first acknowledged new
+give_up_all_stays queued history first acknowledged now old new stands gives = ended queued history first acknowledged new (give_up_all_ends queued history first acknowledged now old new stands gives)

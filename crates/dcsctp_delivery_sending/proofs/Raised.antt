@@ -1,0 +1,48 @@
+-- What is in flight, and the resets that were begun, where floors are raised by a reset that was performed; and where nothing was done yet.
+use Rattle.std.proofs.Common.{ℕ, Bool, arith, inl}
+use Rattle.std.specs.Prelude.{Option, None, Some}
+use Rattle.dcsctp_machine.specs.declared.sending.UnderWay.{UnderWay}
+use Rattle.dcsctp_machine.specs.transfer.Outstanding.{OutstandingState}
+use Rattle.dcsctp_machine.specs.transfer.Sending.{Fragment}
+use Rattle.dcsctp_machine.specs.transfer.Transfer.{Transfer}
+use Rattle.dcsctp_delivery_sending.specs.Log.{History, new_history}
+use Rattle.dcsctp_delivery_sending.specs.Flushes.{InFlight, PendsWhere}
+use Rattle.dcsctp_delivery_sending.specs.Stages.{IsNamed, Bears, AreMarks}
+use Rattle.dcsctp_delivery_sending.proofs.Extended.{Extends}
+
+-- ---- other floors
+
+abbrev pub with_floors : (ℕ → Bool → ℕ) → History → History
+with_floors floors history = record history { floors = floors }
+
+pub extends_floors : (floors : ℕ → Bool → ℕ) (history : History) → Extends history (with_floors floors history)
+extends_floors floors history = record { at = λ n slot at. at; size = omega arith; marks = λ mark has. has; later = λ mark has. inl has }
+
+named_floors : (floors : ℕ → Bool → ℕ) (history : History) (own : ℕ) (part : Fragment) → IsNamed history own part → IsNamed (with_floors floors history) own part
+named_floors floors history own part n = record { number = n.number; piece = n.piece; at = n.at; of = n.of; whole = n.whole; stream = n.stream; unordered = n.unordered; mid = n.mid }
+
+pub bears_floors : (floors : ℕ → Bool → ℕ) (history : History) (first acknowledged : ℕ) (outstanding : OutstandingState) → Bears history first acknowledged outstanding → Bears (with_floors floors history) first acknowledged outstanding
+bears_floors floors history first acknowledged outstanding b =
+    record { tsn = b.tsn; count = b.count; items = b.items; named = λ k item at. named_floors floors history _ item.fragment (b.named k item at); splits = b.splits }
+
+pub flight_floors : (floors : ℕ → Bool → ℕ) (history : History) (first acknowledged : ℕ) (transfer : Option Transfer) → InFlight history first acknowledged transfer → InFlight (with_floors floors history) first acknowledged transfer
+flight_floors floors history first acknowledged None flight = flight
+flight_floors floors history first acknowledged (Some transfer) flight = bears_floors floors history first acknowledged transfer.retransmission.outstanding flight
+
+pub pends_floors : (floors : ℕ → Bool → ℕ) (history : History) (transfer : Option Transfer) → PendsWhere history transfer → PendsWhere (with_floors floors history) transfer
+pends_floors floors history None pends = tt
+pends_floors floors history (Some transfer) pends = pends
+
+pub marks_floors : (floors : ℕ → Bool → ℕ) (history : History) (first : ℕ) (under_way : Option UnderWay) → AreMarks history first under_way → AreMarks (with_floors floors history) first under_way
+marks_floors floors history first under_way marks mark has =
+    let old = marks mark has in
+    record { within = old.within; last = old.last; fields = old.fields; sides = old.sides; going = old.going }
+
+-- ---- no reset was begun yet
+
+pub marks_new : (floors : ℕ → Bool → ℕ) (first : ℕ) (under_way : Option UnderWay) → AreMarks (new_history floors) first under_way
+marks_new floors first under_way mark has = absurd has
+
+pub pends_new : (floors : ℕ → Bool → ℕ) (transfer : Option Transfer) → PendsWhere (new_history floors) transfer
+pends_new floors None = tt
+pends_new floors (Some transfer) = λ mark has is. absurd has

@@ -1,0 +1,132 @@
+-- How directions begin: with what waits in the queue, and with no request to reset streams.
+use Rattle.dcsctp_delivery_directions.specs.Directions as directions
+use Rattle.std.proofs.Common.{◌≡◌, ◌<◌, ◌≤◌, ◌^◌, ℕ, zero, suc, Option, None, Some, List, [], ◌∷◌, ◌++◌, length, refl, sym, ◌∙◌, ap, subst, inl, inr, arith}
+use Rattle.std.specs.List.{AllByRecursion}
+use Rattle.dcsctp_machine.specs.declared.options.Options.{Options}
+use Rattle.dcsctp_machine.specs.Endpoint.{Endpoint, Core, closed, cookie_wait, cookie_echoed, open_in, OutstandingRequest}
+use Rattle.dcsctp_machine.specs.Outcome.{Outcome}
+use Rattle.dcsctp_machine.specs.control.Effect.{link_in}
+use Rattle.dcsctp_machine.specs.Packet.{Content}
+use Rattle.dcsctp_machine.specs.Turn.{Input, arrival, refusal, packet_begins, chunk_input, packet_ends, act_input, user_sets, user_sends, user_resets, user_takes, timer_expires, time_passes, restores}
+use Rattle.dcsctp_machine.specs.transfer.SendQueue.{SendQueueState, restarted, empty_queue}
+use Rattle.dcsctp_machine.specs.transfer.Transfer.{Below}
+use Rattle.dcsctp_machine.specs.turns.MessageOutcomes.{MessageRefusal, Sending, sending_refusal, queue_one}
+use Rattle.dcsctp_delivery_sending.specs.Log.{Fits, Message, new_history}
+use Rattle.dcsctp_delivery_turns.specs.Actions.{Inside, OwnEnds, PeerResets, queued_where, queued_together, queued_after, Begun}
+use Rattle.dcsctp_machine.specs.transfer.SendStreams.{stream_at}
+use Rattle.dcsctp_delivery_sending.specs.Pieces.{AllQueued, Ascend}
+use Rattle.dcsctp_delivery_sending.specs.Queueing.{QueueWaits}
+use Rattle.dcsctp_delivery_sending.proofs.KeptQueues.{restarted_hold}
+use Rattle.dcsctp_delivery_sending.proofs.Renumbered.{numbered_hold, numbered_kind}
+use Rattle.dcsctp_delivery_turns.specs.Runs.{new_direction}
+use Rattle.dcsctp_delivery_directions.specs.Directions.{Asking, nothing_asked, Run}
+use Rattle.dcsctp_machine.specs.Reconfiguration.{RequestedReset}
+use Rattle.dcsctp_machine.specs.turns.BegunResets.{BegunReset}
+use Rattle.dcsctp_delivery_turns.specs.Asking.{Own, own_in, AsksFit, SomeFit, AskingGrows}
+use Rattle.dcsctp_delivery_turns.proofs.Fronts.{own_ends_fit, own_resets}
+
+-- ---- more is queued
+
+where_more : (why : Option MessageRefusal) (sending : Sending) (queued : List Message) → length queued ≤ length (queued_where why sending queued)
+where_more None sending queued = omega arith
+where_more (Some why) sending queued = omega arith
+
+together_more : (e : Endpoint) (sendings : List Sending) (queued : List Message) → length queued ≤ length (queued_together e sendings queued)
+together_more e [] queued = omega arith
+together_more e (sending ∷ sendings) queued =
+    let first = where_more (sending_refusal e sending) sending queued in
+    let rest = together_more (queue_one e sending).after sendings (queued_where (sending_refusal e sending) sending queued) in
+    omega (arith, first, rest)
+
+pub input_more : (e : Endpoint) (input : Input) (queued : List Message) → length queued ≤ length (queued_after e input queued)
+input_more e (user_sends sendings) queued = together_more e sendings queued
+input_more e arrival queued = omega arith
+input_more e (refusal text) queued = omega arith
+input_more e (packet_begins contents) queued = omega arith
+input_more e (chunk_input tag content) queued = omega arith
+input_more e packet_ends queued = omega arith
+input_more e (act_input act) queued = omega arith
+input_more e (user_sets setting) queued = omega arith
+input_more e (user_resets ids) queued = omega arith
+input_more e user_takes queued = omega arith
+input_more e (timer_expires timer) queued = omega arith
+input_more e (time_passes moment) queued = omega arith
+input_more e (restores state) queued = omega arith
+
+-- ---- what is known of the own requests
+
+-- Nothing was begun yet where an association begins.
+pub nothing_fits : (first : ℕ) (again : RequestedReset) → first < 2 ^ 32 → AsksFit first (Some (record { number = None; next = first; again = again })) nothing_asked
+nothing_fits first again small = record { numbers = tt; next = omega arith; out = refl }
+
+-- So it is where there is no association.
+pub unlinked_fits : (core : Core) (request : Option OutstandingRequest) → link_in core ≡ None → SomeFit (own_in core request)
+unlinked_fits closed request none = record { first = 0; asking = nothing_asked; fits = tt }
+unlinked_fits (cookie_wait my) request none = record { first = 0; asking = nothing_asked; fits = tt }
+unlinked_fits (cookie_echoed my held cookie) request none = absurd (cc)
+unlinked_fits (open_in phase my held) request none = absurd (cc)
+
+-- What was begun by a RE-CONFIG's turn was begun after its request has ended.
+pub grows_after : (old between new : Asking) → between.requests ≡ old.requests → between.is_performed ≡ old.is_performed → AskingGrows between new → AskingGrows old new
+grows_after old between new requests same grows =
+    record { more = grows.more; is = grows.is ∙ ap (λ (l : List BegunReset). grows.more ++ l) requests; same = λ none. grows.same none ∙ same }
+
+-- What is kept after the peer's request fits too.
+pub worked_fits : (came : Option Content) (o : Outcome) (old between worked : Inside) → OwnEnds o.effects old between → PeerResets came o.effects between worked
+    → SomeFit old.own → SomeFit worked.own
+worked_fits came o old between worked own peer fits =
+    let ended = own_ends_fit o.effects old between fits.first fits.asking own fits.fits in
+    record { first = fits.first; asking = ended.0; fits = subst (λ (f : Option Own). AsksFit fits.first f ended.0) (sym (own_resets came o.effects between worked peer)) ended.1 }
+
+-- ---- directions that begin
+
+pub anew_runs : (options : Options) (first size : ℕ) (queued : List Message) (below : Below) → AllByRecursion Fits queued → QueueWaits queued below.queue → directions.NoneInFlight first below.queue.is_interleaved below.transfer
+    → Run options first size (new_direction options first size queued below 0 [])
+anew_runs options first size queued below fit queues none =
+    directions.begins (new_direction options first size queued below 0 [])
+    (record { fit = fit; queues = queues; flight = none; acknowledged = refl; sent = refl; tracker = refl; reassembly = refl; read = refl; asking = refl })
+
+-- Nothing waits in a socket that was just made.
+pub fresh_waits : (mine : Options) → QueueWaits [] (empty_queue mine)
+fresh_waits mine =
+    record {
+      floors = λ id is_unordered. 0;
+      holds = record {
+        queue_holds = record {
+          wait = none_waits;
+          ascend = none_ascend;
+          beyond = λ q n f at of. absurd (cc);
+          distinct = λ p q below below' same. absurd (omega arith);
+          going = tt;
+          room = record { whole = omega arith; count = omega arith };
+        };
+        next = refl;
+        numbers = record { kinds = λ n f at. absurd (cc); counts = tt; kept = tt };
+      };
+    }
+  where
+    none_waits : (q : ℕ) → AllQueued [] (stream_at [] q).id (stream_at [] q).messages
+    none_waits zero = tt
+    none_waits (suc q) = tt
+
+    none_ascend : (q : ℕ) → Ascend (stream_at [] q).messages
+    none_ascend zero = tt
+    none_ascend (suc q) = tt
+
+-- the queue of an association that begins
+pub begun_queues : (e : Endpoint) (o : Outcome) (begun : Begun e o) (queued : List Message) → QueueWaits queued e.below.queue → QueueWaits queued begun.queue
+begun_queues e o begun queued queues =
+    elim begun.keeps [
+      | inl is ↦ subst (λ (q : SendQueueState). QueueWaits queued q) (sym is) (numbered_hold queued begun.held.capabilities.message_interleaving e.below.queue queues)
+      | inr is ↦
+          subst (λ (q : SendQueueState). QueueWaits queued q) (sym is)
+          (numbered_hold queued begun.held.capabilities.message_interleaving (restarted e.below.queue) (restarted_hold queued (new_history queues.floors) e.below.queue queues.holds))
+    ]
+
+-- it numbers messages as what is in flight will be sent
+pub begun_kind : (e : Endpoint) (o : Outcome) (begun : Begun e o) → begun.queue.is_interleaved ≡ begun.held.capabilities.message_interleaving
+begun_kind e o begun =
+    elim begun.keeps [
+      | inl is ↦ ap (λ (q : SendQueueState). q.is_interleaved) is ∙ numbered_kind begun.held.capabilities.message_interleaving e.below.queue
+      | inr is ↦ ap (λ (q : SendQueueState). q.is_interleaved) is ∙ numbered_kind begun.held.capabilities.message_interleaving (restarted e.below.queue)
+    ]

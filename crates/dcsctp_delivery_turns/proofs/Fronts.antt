@@ -1,0 +1,178 @@
+-- What a RE-CONFIG does before all else, as steps of both sides: the own request ends, and streams of the peer are reset.
+use Rattle.dcsctp_delivery_directions.specs.Directions as directions
+use Rattle.std.proofs.Common.{◌≡◌, ◌≤◌, ℕ, Bool, true, false, Option, None, Some, List, refl, sym, ◌∙◌, subst, arith}
+use Rattle.dcsctp_machine.specs.Packet.{Content}
+use Rattle.dcsctp_machine.specs.Reconfiguration.{RequestedReset}
+use Rattle.dcsctp_machine.specs.control.Effect.{Effect}
+use Rattle.dcsctp_machine.specs.transfer.Reassembly.{ReassemblyState, Leaves}
+use Rattle.dcsctp_machine.specs.transfer.Transfer.{Transfer}
+use Rattle.dcsctp_machine.specs.turns.ResetOutcomes.{has_completed, has_reset}
+use Rattle.dcsctp_delivery_receiving.specs.Clear.{IsOwn}
+use Rattle.dcsctp_delivery_directions.specs.Directions.{Asking, all_ended, is_reached, Direction}
+use Rattle.dcsctp_delivery_turns.specs.Asking.{Own, OutIs, IsAsking, AsksFit}
+use Rattle.dcsctp_delivery_turns.specs.Actions.{Inside, ended_own, OwnEnds, unended, committed, rolled_back, PeerResets, unreset, absent, deferred, reset_now}
+use Rattle.dcsctp_delivery_turns.specs.Runs.{IsNewest, PerformsNewest, performed_where}
+use Rattle.dcsctp_delivery_turns.specs.Sides.{Steps, stays, receiving}
+use Rattle.dcsctp_delivery_turns.proofs.Sides.{one_step, all_steps}
+
+-- ---- what is kept of the own requests
+
+out_small : (number : Option ℕ) (again : RequestedReset) (asking : Asking) → OutIs number again asking → asking.out ≤ 1
+out_small None again asking out = omega arith
+out_small (Some number) again asking out = (let one = out.one in omega (arith, one))
+
+is_asking : (first : ℕ) (found : Option Own) (own : Own) (asking : Asking) → found ≡ Some own → AsksFit first found asking → IsAsking first own asking
+is_asking first found own asking is fits = subst (λ (f : Option Own). AsksFit first f asking) is fits
+
+ended_fits : (first : ℕ) (own : Own) (asking : Asking) → IsAsking first own asking → IsAsking first (ended_own own) (all_ended asking)
+ended_fits first own asking fits = record { numbers = fits.numbers; next = fits.next; out = refl }
+
+-- Something that was begun fits what is kept once the own request has ended.
+pub own_ends_fit : (happened : List Effect) (old new : Inside) (first : ℕ) (asking : Asking) → OwnEnds happened old new → AsksFit first old.own asking → (after : Asking) × AsksFit first new.own after
+own_ends_fit happened old _ first asking unended fits = (asking, fits)
+own_ends_fit happened old _ first asking (committed completed own is) fits = (all_ended asking, ended_fits first own asking (is_asking first old.own own asking is fits))
+own_ends_fit happened old _ first asking (rolled_back own is) fits = (all_ended asking, ended_fits first own asking (is_asking first old.own own asking is fits))
+
+pub own_resets : (came : Option Content) (happened : List Effect) (old new : Inside) → PeerResets came happened old new → new.own ≡ old.own
+own_resets came happened old _ (unreset none) = refl
+own_resets came happened old _ (absent gone) = refl
+own_resets came happened old _ (deferred none transfer last_tsn streams known) = refl
+own_resets came happened old _ (reset_now some parameters reset is wants transfer reassembly known reached leaves) = refl
+
+-- ---- the direction on which it sends
+
+-- the direction, with this at its sender
+abbrev pub sending_by : Direction → Inside → Asking → Direction
+sending_by direction inside asking = record direction { below = inside.below; asking = asking }
+
+-- The socket comes there by steps; nothing was begun.
+pub record SendingFront (first : ℕ) (direction : Direction) (old new : Inside) : Type 0 where
+  pub asking : Asking
+  pub requests : asking.requests ≡ direction.asking.requests
+  pub same : asking.is_performed ≡ direction.asking.is_performed
+  pub fits : AsksFit first new.own asking
+  pub steps : Steps (sending_by direction old direction.asking) (sending_by direction new asking)
+
+own_ends_send : (first : ℕ) (direction : Direction) (happened : List Effect) (old new : Inside) → OwnEnds happened old new → AsksFit first old.own direction.asking
+    → (has_completed happened ≡ true → old.below.queue.is_interleaved ≡ true → direction.asking.is_performed ≡ true) → SendingFront first direction old new
+own_ends_send first direction happened old _ unended fits performed = record { asking = direction.asking; requests = refl; same = refl; fits = fits; steps = stays }
+own_ends_send first direction happened old _ (committed completed own is) fits performed =
+    let asks = is_asking first old.own own direction.asking is fits in
+    record {
+      asking = all_ended direction.asking;
+      requests = refl;
+      same = refl;
+      fits = ended_fits first own direction.asking asks;
+      steps = one_step (sending_by direction old direction.asking) _
+          (directions.commits (λ interleaved. (out_small own.number own.again direction.asking asks.out, performed completed interleaved)));
+    }
+own_ends_send first direction happened old _ (rolled_back own is) fits performed =
+    record {
+      asking = all_ended direction.asking;
+      requests = refl;
+      same = refl;
+      fits = ended_fits first own direction.asking (is_asking first old.own own direction.asking is fits);
+      steps = one_step (sending_by direction old direction.asking) _ directions.rolls_back;
+    }
+
+peer_resets_send : (came : Option Content) (direction : Direction) (happened : List Effect) (old new : Inside) (asking : Asking) → PeerResets came happened old new
+    → Steps (sending_by direction old asking) (sending_by direction new asking)
+peer_resets_send came direction happened old _ asking (unreset none) = stays
+peer_resets_send came direction happened old _ asking (absent gone) = stays
+peer_resets_send came direction happened old _ asking (deferred none transfer last_tsn streams known) = one_step (sending_by direction old asking) _ (directions.turns_aside transfer _ known refl)
+peer_resets_send came direction happened old _ asking (reset_now some parameters reset is wants transfer reassembly known reached leaves) =
+    one_step (sending_by direction old asking) _ (directions.turns_aside transfer _ known refl)
+
+pub front_sends : (came : Option Content) (first : ℕ) (direction : Direction) (happened : List Effect) (old between new : Inside) → OwnEnds happened old between → PeerResets came happened between new
+    → AsksFit first old.own direction.asking → (has_completed happened ≡ true → old.below.queue.is_interleaved ≡ true → direction.asking.is_performed ≡ true) → SendingFront first direction old new
+front_sends came first direction happened old between new own peer fits performed =
+    let ended = own_ends_send first direction happened old between own fits performed in
+    record {
+      asking = ended.asking;
+      requests = ended.requests;
+      same = ended.same;
+      fits = subst (λ (f : Option Own). AsksFit first f ended.asking) (sym (own_resets came happened between new peer)) ended.fits;
+      steps = all_steps (sending_by direction old direction.asking) (sending_by direction between ended.asking) (sending_by direction new ended.asking) ended.steps
+          (peer_resets_send came direction happened between new ended.asking peer);
+    }
+
+-- ---- the direction on which it receives
+
+own_ends_received : (happened : List Effect) (old new : Inside) → OwnEnds happened old new → new.below.transfer ≡ old.below.transfer
+own_ends_received happened old _ unended = refl
+own_ends_received happened old _ (committed completed own is) = refl
+own_ends_received happened old _ (rolled_back own is) = refl
+
+-- Nothing is received without an association.
+pub front_none : (came : Option Content) (happened : List Effect) (old between new : Inside) → OwnEnds happened old between → PeerResets came happened between new → old.below.transfer ≡ None → new.below.transfer ≡ None
+front_none came happened old between _ own (unreset none) nowhere = own_ends_received happened old between own ∙ nowhere
+front_none came happened old between _ own (absent gone) nowhere = gone
+front_none came happened old between _ own (deferred none transfer last_tsn streams known) nowhere = (let gone = own_ends_received happened old between own ∙ nowhere in absurd (cc))
+front_none came happened old between _ own (reset_now some parameters reset is wants transfer reassembly known reached leaves) nowhere =
+    (let gone = own_ends_received happened old between own ∙ nowhere in absurd (cc))
+
+-- the direction, once a request was performed in this turn or not
+abbrev pub resetting : Bool → Direction → Transfer → Bool → Direction
+resetting is_known direction transfer is_reset = record (receiving direction transfer direction.read) { asking = performed_where is_known is_reset direction.asking }
+
+pub record ReceivingFront (is_known : Bool) (direction : Direction) (transfer : Transfer) (happened : List Effect) (new : Inside) : Type 0 where
+  pub left : Transfer
+  pub is : new.below.transfer ≡ Some left
+  pub is_reset : Bool
+  pub none : is_reset ≡ false → has_reset happened ≡ false
+  pub steps : Steps (receiving direction transfer direction.read) (resetting is_known direction left is_reset)
+
+pub unperformed : (is_known : Bool) (asking : Asking) → performed_where is_known false asking ≡ asking
+unperformed true asking = refl
+unperformed false asking = refl
+
+-- where no request is performed
+front_by : (is_known : Bool) (direction : Direction) (transfer left : Transfer) (happened : List Effect) (new : Inside) → new.below.transfer ≡ Some left → has_reset happened ≡ false
+    → Steps (receiving direction transfer direction.read) (receiving direction left direction.read) → ReceivingFront is_known direction transfer happened new
+front_by is_known direction transfer left happened new is none steps =
+    record {
+      left = left;
+      is = is;
+      is_reset = false;
+      none = λ no. none;
+      steps = subst (λ (a : Asking). Steps (receiving direction transfer direction.read) (record (receiving direction left direction.read) { asking = a }))
+          (sym (unperformed is_known direction.asking)) steps;
+    }
+
+-- where one is performed: it may be known to be the newest
+performs_by : (direction : Direction) (transfer : Transfer) (reset : RequestedReset) (reassembly : ReassemblyState) (is_known : Bool) → (is_known ≡ true → IsNewest direction transfer reset)
+    → is_reached reset transfer.tracker ≡ true → Leaves reset.streams transfer.reassembly reassembly
+    → Steps (receiving direction transfer direction.read)
+    (record (receiving direction (record transfer { reassembly = reassembly }) direction.read) { asking = performed_where is_known true direction.asking })
+performs_by direction transfer reset reassembly true newest reached leaves =
+    let found = newest refl in
+    one_step (receiving direction transfer direction.read) _
+    (directions.performs found.newest found.earlier reassembly found.is (subst (λ (r : RequestedReset). is_reached r transfer.tracker ≡ true) (sym found.asks) reached)
+    (subst (λ (r : RequestedReset). IsOwn r transfer.reassembly.deferral) (sym found.asks) found.own)
+    (subst (λ (r : RequestedReset). Leaves r.streams transfer.reassembly reassembly) (sym found.asks) leaves))
+performs_by direction transfer reset reassembly false newest reached leaves = one_step (receiving direction transfer direction.read) _ (directions.resets reset.streams reassembly leaves)
+
+peer_resets_receive : (is_known : Bool) (came : Option Content) (happened : List Effect) (direction : Direction) (transfer : Transfer) (old new : Inside) → (is_known ≡ true → PerformsNewest direction transfer came happened)
+    → old.below.transfer ≡ Some transfer → PeerResets came happened old new → ReceivingFront is_known direction transfer happened new
+peer_resets_receive is_known came happened direction transfer old _ newest is (unreset none) = front_by is_known direction transfer transfer happened old is none stays
+peer_resets_receive is_known came happened direction transfer old _ newest is (absent gone) = absurd (cc)
+peer_resets_receive is_known came happened direction transfer old new newest is (deferred none found last_tsn streams known) =
+    let same : found ≡ transfer = cc in
+    subst (λ (t : Transfer). ReceivingFront is_known direction t happened new) same
+    (front_by is_known direction found _ happened new refl none (one_step (receiving direction found direction.read) _ (directions.defers last_tsn streams)))
+peer_resets_receive is_known came happened direction transfer old new newest is (reset_now some parameters reset came_is wants found reassembly known reached leaves) =
+    let same : transfer ≡ found = cc in
+    record {
+      left = record found { reassembly = reassembly };
+      is = refl;
+      is_reset = true;
+      none = λ no. absurd (cc);
+      steps = subst (λ (t : Transfer). Steps (receiving direction t direction.read) (resetting is_known direction (record found { reassembly = reassembly }) true)) (sym same)
+          (performs_by direction found reset reassembly is_known
+          (λ known_so. subst (λ (t : Transfer). IsNewest direction t reset) same (newest known_so some parameters reset came_is wants)) reached leaves);
+    }
+
+pub front_receives : (is_known : Bool) (came : Option Content) (happened : List Effect) (direction : Direction) (transfer : Transfer) (old between new : Inside) → (is_known ≡ true → PerformsNewest direction transfer came happened)
+    → old.below.transfer ≡ Some transfer → OwnEnds happened old between → PeerResets came happened between new → ReceivingFront is_known direction transfer happened new
+front_receives is_known came happened direction transfer old between new newest is own peer =
+    peer_resets_receive is_known came happened direction transfer between new newest (own_ends_received happened old between own ∙ is) peer

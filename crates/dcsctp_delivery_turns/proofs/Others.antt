@@ -1,0 +1,145 @@
+-- The turns of heartbeats and of the other chunks and timers, as actions.
+use Rattle.dcsctp_machine.specs.declared.ends.AbortReason.TheVariants as reasons
+use Rattle.dcsctp_delivery_turns.specs.Actions as actions
+use Rattle.std.proofs.Common.{◌≡◌, ◌==◌, ℕ, Bool, true, false, cond, Option, None, Some, List, [], refl, sym, ◌∙◌, subst, ap, inl}
+use Rattle.dcsctp_machine.specs.declared.association.Held.{Held}
+use Rattle.dcsctp_machine.specs.declared.ends.Violation.{Violation}
+use Rattle.dcsctp_machine.specs.Cause.{Cause}
+use Rattle.dcsctp_machine.specs.Event.{packets_in}
+use Rattle.dcsctp_machine.specs.Packet.{Content, Plain, plain, unknown, heartbeat, heartbeat_ack, unworked, Emission}
+use Rattle.dcsctp_machine.specs.Reconfiguration.{RequestedReset}
+use Rattle.dcsctp_machine.specs.Endpoint.{Endpoint, Core, closed, cookie_wait, cookie_echoed, open_in, OutstandingRequest, held_in}
+use Rattle.dcsctp_machine.specs.Outcome.{Outcome, still, to_peer, fits}
+use Rattle.dcsctp_machine.specs.control.FlushChanges.{reset_request}
+use Rattle.dcsctp_machine.specs.turns.HeartbeatOutcomes.{heartbeat_outcome, info_in, counter_of, answered, heartbeat_ack_outcome, interval_expired, beating, heartbeat_emission, interval_outcome, is_exhausted}
+use Rattle.dcsctp_machine.specs.turns.OwnTimers.{OwnTimer, acknowledgement_delay, retransmission, heartbeat_interval, heartbeat_timeout, reconfiguration, TimerTurn}
+use Rattle.dcsctp_machine.specs.turns.PlainOutcomes.{PlainTurn, PlainTurnBy, violation_at, is_reported, after_unknown, unknown_bytes, unknown_told, unknown_report, error_outcome}
+use Rattle.dcsctp_machine.specs.turns.ReconfigurationOutcomes.{reset_again, request_emitted, request_unless, request_errors, request_expired, reconfiguration_outcome}
+use Rattle.dcsctp_wire.specs.Content.{ParameterContent, data_chunk, sack_chunk, error_chunk, i_data_chunk, forward_tsn_chunk, i_forward_tsn_chunk}
+use Rattle.dcsctp_delivery_turns.specs.Actions.{IsCalm, inside, Makes, goes_on}
+use Rattle.dcsctp_delivery_turns.specs.Asking.{own_with, own_in, own_of, IsAsking, AsksFit, IsOut, OutIs, Own}
+use Rattle.dcsctp_delivery_sending.specs.Places.{Has}
+use Rattle.dcsctp_machine.specs.turns.BegunResets.{BegunReset}
+use Rattle.dcsctp_machine.specs.control.Effect.{link_in}
+use Rattle.dcsctp_delivery_turns.specs.Tags.{IsPeerTag}
+use Rattle.dcsctp_delivery_turns.proofs.Actions.{emits_link, Goes, MakesTo, rests, spoken, emitted, emission_of, packet_if}
+use Rattle.dcsctp_delivery_turns.proofs.Fixed.{held_tag}
+use Rattle.dcsctp_delivery_turns.proofs.Handshake.{aborting_goes}
+use Rattle.dcsctp_delivery_turns.proofs.Data.{data_goes, i_data_goes, sack_goes, forward_goes, i_forward_goes, delay_goes, loss_goes}
+
+module _ (came : Option Content) (calm : IsCalm came) (to : ℕ) where
+  -- ---- chunks that speak of no association
+
+  unknown_goes : (e : Endpoint) (core : Core) (type : ℕ) (chunk : List ℕ) (reported : Bool)
+      → Goes came to e (record (cond reported (unknown_told e core type chunk) (still e)) { following = after_unknown type })
+  unknown_goes e core type chunk false = goes_on calm refl (rests came to (inside e))
+  unknown_goes e closed type chunk true = goes_on calm refl (rests came to (inside e))
+  unknown_goes e (cookie_wait my) type chunk true = goes_on calm refl (rests came to (inside e))
+  unknown_goes e (cookie_echoed my held cookie) type chunk true = goes_on calm refl (spoken came to (inside e) (unknown_report e held chunk) (tt, tt))
+  unknown_goes e (open_in phase my held) type chunk true = goes_on calm refl (spoken came to (inside e) (unknown_report e held chunk) (tt, tt))
+
+  error_goes : (e : Endpoint) (core : Core) (causes : List Cause) → Goes came to e (error_outcome e core causes)
+  error_goes e closed causes = goes_on calm refl (rests came to (inside e))
+  error_goes e (cookie_wait my) causes = goes_on calm refl (rests came to (inside e))
+  error_goes e (cookie_echoed my held cookie) causes = goes_on calm refl (rests came to (inside e))
+  error_goes e (open_in phase my held) causes = goes_on calm refl (rests came to (inside e))
+
+  heartbeat_goes : (e : Endpoint) (core : Core) (parameters : List ParameterContent) → Goes came to e (heartbeat_outcome e core parameters)
+  heartbeat_goes e closed parameters = goes_on calm refl (rests came to (inside e))
+  heartbeat_goes e (cookie_wait my) parameters = goes_on calm refl (rests came to (inside e))
+  heartbeat_goes e (cookie_echoed my held cookie) parameters = goes_on calm (emits_link e [] (to_peer held (plain (heartbeat_ack parameters)))) (emitted came to e [] (to_peer held (plain (heartbeat_ack parameters))) (tt, tt))
+  heartbeat_goes e (open_in phase my held) parameters = goes_on calm (emits_link e [] (to_peer held (plain (heartbeat_ack parameters)))) (emitted came to e [] (to_peer held (plain (heartbeat_ack parameters))) (tt, tt))
+
+  counted_goes : (b : Bool) (e : Endpoint) → Goes came to e (cond b (still (answered e)) (still e))
+  counted_goes true e = goes_on calm refl (rests came to (inside e))
+  counted_goes false e = goes_on calm refl (rests came to (inside e))
+
+  heartbeat_ack_goes : (e : Endpoint) (counter : Option ℕ) → Goes came to e (heartbeat_ack_outcome e counter)
+  heartbeat_ack_goes e None = goes_on calm refl (rests came to (inside e))
+  heartbeat_ack_goes e (Some counter) = counted_goes (counter == e.heartbeat_counter) e
+
+  interval_goes : (e : Endpoint) (core : Core) → Goes came to e (interval_outcome e core)
+  interval_goes e closed = goes_on calm refl (rests came to (inside e))
+  interval_goes e (cookie_wait my) = goes_on calm refl (rests came to (inside e))
+  interval_goes e (cookie_echoed my held cookie) =
+      let base : Endpoint = beating (interval_expired e) in goes_on calm (emits_link base [] (heartbeat_emission held base.heartbeat_counter)) (emitted came to base [] (heartbeat_emission held base.heartbeat_counter) (tt, tt))
+  interval_goes e (open_in phase my held) =
+      let base : Endpoint = beating (interval_expired e) in goes_on calm (emits_link base [] (heartbeat_emission held base.heartbeat_counter)) (emitted came to base [] (heartbeat_emission held base.heartbeat_counter) (tt, tt))
+
+  -- The request that has no end is sent again.
+  request_makes : (e : Endpoint) (held : Held) (number : Option ℕ) → held.peer.tag ≡ to → own_of e ≡ Some (own_with held e.outstanding) → held.own_outstanding ≡ number
+      → MakesTo came to (inside e) (request_emitted e held number (reset_again e.outstanding))
+  request_makes e held None tag own is = rests came to (inside e)
+  request_makes e held (Some number) tag own is =
+      let begun : BegunReset = record { number = number; reset = reset_again e.outstanding } in
+      let emission : Emission = to_peer held (reset_request number (reset_again e.outstanding)) in
+      packet_if came to (fits e emission) e [] emission
+      (emission_of came to (inside e) e.below emission (λ queued sent read tsn asking fit.
+      let asks : IsAsking tsn (own_with held e.outstanding) asking = subst (λ (o : Option Own). AsksFit tsn o asking) own fit in
+      let out : IsOut number (reset_again e.outstanding) asking = subst (λ (n : Option ℕ). OutIs n (reset_again e.outstanding) asking) is asks.out in
+      actions.asks_again emission begun tag (subst (Has begun) (sym out.is) (inl refl)) refl))
+
+  unless_makes : (b : Bool) (e : Endpoint) (held : Held) → held.peer.tag ≡ to → own_of e ≡ Some (own_with held e.outstanding) → MakesTo came to (inside e) (request_unless b e held (reset_again e.outstanding))
+  unless_makes true e held tag own = rests came to (inside e)
+  unless_makes false e held tag own = request_makes e held held.own_outstanding tag own refl
+
+  request_link : (e : Endpoint) (held : Held) (number : Option ℕ) (reset : RequestedReset) → link_in (request_emitted e held number reset).after.core ≡ link_in e.core
+  request_link e held None reset = refl
+  request_link e held (Some number) reset = emits_link e [] (to_peer held (reset_request number reset))
+
+  unless_link : (b : Bool) (e : Endpoint) (held : Held) (reset : RequestedReset) → link_in (request_unless b e held reset).after.core ≡ link_in e.core
+  unless_link true e held reset = refl
+  unless_link false e held reset = request_link e held held.own_outstanding reset
+
+  own_waits : (core : Core) (request : OutstandingRequest) → own_in core (Some (record request { waits_for_retry = false })) ≡ own_in core (Some request)
+  own_waits closed request = refl
+  own_waits (cookie_wait my) request = refl
+  own_waits (cookie_echoed my held cookie) request = refl
+  own_waits (open_in phase my held) request = refl
+
+  own_held : (core : Core) (request : Option OutstandingRequest) (held : Held) → held_in core ≡ Some held → own_in core request ≡ Some (own_with held request)
+  own_held closed request held is = absurd (cc)
+  own_held (cookie_wait my) request held is = absurd (cc)
+  own_held (cookie_echoed my own cookie) request held is = (let same : own ≡ held = cc in ap (λ (h : Held). Some (own_with h request)) same)
+  own_held (open_in phase my own) request held is = (let same : own ≡ held = cc in ap (λ (h : Held). Some (own_with h request)) same)
+
+  reconfiguration_goes : (e : Endpoint) (peer : Option Held) (request : Option OutstandingRequest) → IsPeerTag e.core to → held_in e.core ≡ peer → e.outstanding ≡ request → Goes came to e (reconfiguration_outcome e peer request)
+  reconfiguration_goes e None request at holds is = goes_on calm refl (rests came to (inside e))
+  reconfiguration_goes e (Some held) None at holds is = goes_on calm refl (rests came to (inside e))
+  reconfiguration_goes e (Some held) (Some request) at holds is =
+      let base : Endpoint = request_expired e request in
+      let over : Bool = is_exhausted e.options.max_retransmissions (request_errors e request) in
+      let o : Outcome = request_unless over base held (reset_again (Some request)) in
+      goes_on calm (unless_link over base held (reset_again (Some request)))
+      (subst (λ (own : Option Own). Makes came to (record { below = e.below; own = own }) (packets_in o.events) (inside o.after))
+      (own_waits e.core request ∙ sym (ap (λ (r : Option OutstandingRequest). own_in e.core r) is))
+      (unless_makes over base held (held_tag e.core held to holds at) (own_held e.core base.outstanding held holds)))
+
+  -- ---- each timer, and each chunk
+
+  pub timer_goes : (e : Endpoint) (timer : OwnTimer) (o : Outcome) → IsPeerTag e.core to → TimerTurn e timer o → Goes came to e o
+  timer_goes e acknowledgement_delay o at turn = subst (Goes came to e) (sym turn) (delay_goes came calm to e e.below.transfer refl)
+  timer_goes e retransmission o at turn = loss_goes came calm to e e.below.transfer o refl turn
+  timer_goes e heartbeat_interval o at turn = subst (Goes came to e) (sym turn) (interval_goes e e.core)
+  timer_goes e heartbeat_timeout o at turn = subst (Goes came to e) (sym turn) (goes_on calm refl (rests came to (inside e)))
+  timer_goes e reconfiguration o at turn = subst (Goes came to e) (sym turn) (reconfiguration_goes e (held_in e.core) e.outstanding at refl refl)
+
+-- Such a chunk is no RE-CONFIG.
+plain_calm : (chunk : Plain) → IsCalm (Some (plain chunk))
+plain_calm chunk = λ parameters is. absurd (cc)
+
+plain_by_goes : (to : ℕ) (e : Endpoint) (chunk : Plain) (violation : Option Violation) (o : Outcome) → IsPeerTag e.core to → PlainTurnBy e chunk violation o → Goes (Some (plain chunk)) to e o
+plain_by_goes to e chunk (Some violation) o at turn = subst (Goes (Some (plain chunk)) to e) (sym turn) (aborting_goes (Some (plain chunk)) (plain_calm chunk) to e e.core (reasons.Violation violation))
+plain_by_goes to e (unknown type flags value) None o at turn = subst (Goes _ to e) (sym turn) (unknown_goes _ (plain_calm _) to e e.core type (unknown_bytes type flags value) (is_reported type))
+plain_by_goes to e (heartbeat parameters) None o at turn = subst (Goes _ to e) (sym turn) (heartbeat_goes _ (plain_calm _) to e e.core parameters)
+plain_by_goes to e (heartbeat_ack parameters) None o at turn = subst (Goes _ to e) (sym turn) (heartbeat_ack_goes _ (plain_calm _) to e (counter_of (info_in parameters)))
+plain_by_goes to e (unworked (data_chunk chunk)) None o at turn = data_goes _ (plain_calm _) to e chunk o refl turn
+plain_by_goes to e (unworked (i_data_chunk chunk)) None o at turn = i_data_goes _ (plain_calm _) to e chunk o refl turn
+plain_by_goes to e (unworked (sack_chunk chunk)) None o at turn = sack_goes _ (plain_calm _) to e e.below.transfer chunk o at refl turn
+plain_by_goes to e (unworked (forward_tsn_chunk tsn streams)) None o at turn = forward_goes _ (plain_calm _) to e tsn streams o refl turn
+plain_by_goes to e (unworked (i_forward_tsn_chunk tsn streams)) None o at turn = i_forward_goes _ (plain_calm _) to e tsn streams o refl turn
+plain_by_goes to e (unworked (error_chunk causes)) None o at turn = subst (Goes _ to e) (sym turn) (error_goes _ (plain_calm _) to e e.core causes)
+plain_by_goes to e (unworked chunk) None o at turn = subst (Goes _ to e) (sym turn) (goes_on (plain_calm _) refl (rests _ to (inside e)))
+
+pub plain_goes : (to : ℕ) (e : Endpoint) (chunk : Plain) (o : Outcome) → IsPeerTag e.core to → PlainTurn e chunk o → Goes (Some (plain chunk)) to e o
+plain_goes to e chunk o at turn = plain_by_goes to e chunk (violation_at e.core chunk) o at turn

@@ -1,0 +1,104 @@
+-- A turn, as what it does to runs of the direction on which the socket sends.
+use Rattle.dcsctp_delivery_directions.specs.Directions as directions
+use Rattle.std.proofs.Common.{◌≡◌, ◌<◌, ◌^◌, ℕ, None, Some, List, [], ◌++◌, length, refl, sym, subst, arith}
+use Rattle.std.specs.List.{AllByRecursion}
+use Rattle.dcsctp_machine.specs.declared.options.Options.{Options}
+use Rattle.dcsctp_machine.specs.Endpoint.{Endpoint}
+use Rattle.dcsctp_machine.specs.Event.{packets_in}
+use Rattle.dcsctp_machine.specs.Outcome.{Outcome}
+use Rattle.dcsctp_machine.specs.Packet.{Emission}
+use Rattle.dcsctp_machine.specs.Turn.{Input}
+use Rattle.dcsctp_machine.specs.transfer.Transfer.{Below}
+use Rattle.dcsctp_delivery_sending.specs.Log.{Fits, Message}
+use Rattle.dcsctp_delivery_turns.specs.Actions.{ledger_of, Inside, inside, Made, MakesAlso, came_by, queued_after, read_after, peer_tag, begun_below, Becomes, goes_on, works_resets, ends, begins}
+use Rattle.dcsctp_delivery_sending.specs.Queueing.{QueueWaits}
+use Rattle.dcsctp_delivery_turns.specs.Addressed.{AreAddressed}
+use Rattle.dcsctp_machine.specs.control.Effect.{link_in}
+use Rattle.dcsctp_machine.specs.transfer.Messages.{MessageContent}
+use Rattle.dcsctp_delivery_turns.specs.Runs.{sender_at, OpensSmall, EndsPerformed, SenderTurns, run_goes_on, run_ends, run_begins}
+use Rattle.dcsctp_delivery_directions.specs.Directions.{Asking, nothing_asked, Direction, Run, IsAwaited}
+use Rattle.dcsctp_delivery_turns.proofs.Sides.{steps_go_on, actions_send}
+use Rattle.dcsctp_machine.specs.Reconfiguration.{RequestedReset}
+use Rattle.dcsctp_delivery_turns.specs.Asking.{own_of, AsksFit}
+use Rattle.dcsctp_delivery_turns.proofs.Fronts.{sending_by, front_sends}
+use Rattle.dcsctp_delivery_directions.proofs.Directions.{direction_queues}
+use Rattle.dcsctp_delivery_turns.proofs.Addressed.{data_goes_to_peer}
+use Rattle.dcsctp_delivery_turns.proofs.Beginnings.{input_more, nothing_fits, grows_after, begun_queues, begun_kind}
+
+module _ (options : Options) (first size : ℕ) (direction : Direction) (e : Endpoint) (input : Input) (o : Outcome) (run : Run options first size direction) (small : first < 2 ^ 32) (same : direction.below ≡ e.below)
+    (fits : AsksFit first (own_of e) direction.asking) (performed : EndsPerformed e o direction.asking) (opens : OpensSmall e input o) (few : length (queued_after e input direction.queued) < 2 ^ 64) where
+  both : QueueWaits direction.queued direction.below.queue × AllByRecursion Fits direction.queued
+  both = direction_queues options first size direction run small (let more = input_more e input direction.queued in omega (arith, few, more))
+
+  -- the direction after the turn
+  abbrev after_turn : Below → ℕ → Asking → Direction
+  after_turn last acknowledged asking = sender_at direction (queued_after e input direction.queued) last acknowledged (direction.sent ++ packets_in o.events) asking
+
+  -- Actions lead on from where a run is.
+  moved : (old : Inside) (asking : Asking) → Run options first size (sending_by direction old asking) → (last : Inside)
+      → (made : Made (came_by input) (peer_tag e.core) (ledger_of direction.queued old.below direction.sent [] asking) first last (queued_after e input direction.queued) (direction.sent ++ packets_in o.events) (read_after e input []))
+      → (acknowledged : ℕ) × Run options first size (after_turn last.below acknowledged made.asking)
+  moved old asking start last made =
+      let sends = actions_send (came_by input) (peer_tag e.core) (ledger_of direction.queued old.below direction.sent [] asking)
+      (ledger_of (queued_after e input direction.queued) last.below (direction.sent ++ packets_in o.events) (read_after e input []) made.asking) direction.acknowledged direction.tracker direction.reassembly direction.read made.actions in
+      (sends.later, steps_go_on options first size (sending_by direction old asking) (after_turn last.below sends.later made.asking) start sends.steps)
+
+  starts : Run options first size (sending_by direction (inside e) direction.asking)
+  starts = subst (λ (b : Below). Run options first size (record direction { below = b })) same run
+
+  addressed : (to : ℕ) (old : Inside) (asking : Asking) (start : ℕ) (last : Inside) (queued : List Message) (read : List MessageContent)
+      → Made (came_by input) to (ledger_of direction.queued old.below [] [] asking) start last queued ([] ++ packets_in o.events) read → AreAddressed to (packets_in o.events)
+  addressed to old asking start last queued read made = data_goes_to_peer (came_by input) to _ _ tt made.actions
+
+  -- The turn goes on after these steps.
+  goes_further : link_in o.after.core ≡ link_in e.core → (worked : Inside) (asking : Asking) → asking.requests ≡ direction.asking.requests → asking.is_performed ≡ direction.asking.is_performed
+      → AsksFit first worked.own asking → Run options first size (sending_by direction worked asking)
+      → MakesAlso (came_by input) (peer_tag e.core) (queued_after e input) (read_after e input) worked (packets_in o.events) (inside o.after) → SenderTurns options first size direction e input o
+  goes_further linked worked asking requests alike fit start makes =
+      let made = makes direction.queued direction.sent [] first asking fit in
+      let after = moved worked asking start (inside o.after) made in
+      run_goes_on linked (addressed (peer_tag e.core) worked asking first (inside o.after) _ _ (makes direction.queued [] [] first asking fit)) after.0 made.asking
+      (grows_after direction.asking asking made.asking requests alike made.grows) made.fits after.1
+
+  pub sender_becomes : Becomes (came_by input) (peer_tag e.core) (queued_after e input) (read_after e input) e o → SenderTurns options first size direction e input o
+  sender_becomes (goes_on calm linked makes) = goes_further linked (inside e) direction.asking refl refl fits starts makes
+  sender_becomes (works_resets linked between worked own peer makes) =
+      let front = front_sends (came_by input) first direction o.effects (inside e) between worked own peer fits performed in
+      goes_further linked worked front.asking front.requests front.same front.fits
+      (steps_go_on options first size (sending_by direction (inside e) direction.asking) (sending_by direction worked front.asking) starts front.steps) makes
+  sender_becomes (ends none unread last makes is) =
+      let made = makes direction.queued direction.sent [] first direction.asking fits in
+      let after = moved (inside e) direction.asking starts last made in
+      let left = direction_queues options first size (after_turn last.below after.0 made.asking) after.1 small few in
+      run_ends none (addressed (peer_tag e.core) (inside e) direction.asking first last _ _ (makes direction.queued [] [] first direction.asking fits)) last.below after.0 made.asking made.grows after.1 is left.0 left.1
+  sender_becomes (begins begun opening linked alike unread again makes) =
+      let waits = subst (λ (b : Below). QueueWaits direction.queued b.queue) same both.0 in
+      run_begins begun opening linked
+      (addressed begun.held.peer.tag (started again) nothing_asked begun.my.first_tsn (inside o.after) _ _
+      (makes direction.queued [] [] begun.my.first_tsn nothing_asked (nothing_fits begun.my.first_tsn again (opens begun opening linked))))
+      (alike direction.queued) waits both.1 later
+    where
+      started : RequestedReset → Inside
+      started reset = record { below = begun_below e o begun; own = Some (record { number = None; next = begun.my.first_tsn; again = reset }) }
+
+      later : (other : Options) (room : ℕ) (awaiting : Direction) (queued : List Message) → QueueWaits queued e.below.queue → AllByRecursion Fits queued → Run other begun.my.first_tsn room awaiting → IsAwaited awaiting
+          → (acknowledged : ℕ) × (asking : Asking) × AsksFit begun.my.first_tsn (own_of o.after) asking
+          × Run other begun.my.first_tsn room (sender_at awaiting queued o.after.below acknowledged (packets_in o.events) asking)
+      later other room awaiting queued shown fit waits awaited =
+          let start : Run other begun.my.first_tsn room (sender_at awaiting queued (begun_below e o begun) awaiting.acknowledged awaiting.sent awaiting.asking) =
+          directions.starts awaiting queued (begun_below e o begun) waits awaited fit (begun_queues e o begun queued shown) (refl, refl, sym (begun_kind e o begun)) in
+          let numbered : Run other begun.my.first_tsn room (sender_at awaiting queued (begun_below e o begun) 0 awaiting.sent awaiting.asking) =
+          subst (λ (g : ℕ). Run other begun.my.first_tsn room (sender_at awaiting queued (begun_below e o begun) g awaiting.sent awaiting.asking)) awaited.acknowledged start in
+          let unsent : Run other begun.my.first_tsn room (sender_at awaiting queued (begun_below e o begun) 0 [] awaiting.asking) =
+          subst (λ (l : List Emission). Run other begun.my.first_tsn room (sender_at awaiting queued (begun_below e o begun) 0 l awaiting.asking)) awaited.sent numbered in
+          let here : Run other begun.my.first_tsn room (sender_at awaiting queued (begun_below e o begun) 0 [] nothing_asked) =
+          subst (λ (a : Asking). Run other begun.my.first_tsn room (sender_at awaiting queued (begun_below e o begun) 0 [] a)) awaited.asking unsent in
+          let made = makes queued [] [] begun.my.first_tsn nothing_asked (nothing_fits begun.my.first_tsn again (opens begun opening linked)) in
+          let sends = actions_send (came_by input) begun.held.peer.tag (ledger_of queued (begun_below e o begun) [] [] nothing_asked) (ledger_of queued o.after.below (packets_in o.events) [] made.asking) 0
+          awaiting.tracker awaiting.reassembly awaiting.read made.actions in (
+            sends.later,
+            made.asking,
+            made.fits,
+            steps_go_on other begun.my.first_tsn room (sender_at awaiting queued (begun_below e o begun) 0 [] nothing_asked)
+                (sender_at awaiting queued o.after.below sends.later (packets_in o.events) made.asking) here sends.steps,
+          )
