@@ -150,6 +150,7 @@ ends_begin mine options =
           marks = λ tag place mark at. absurd (cc);
           short = λ tag. omega arith;
           few = λ tag. omega arith;
+          few_requests = λ tag. omega arith;
           last = λ tag ne place below gone. absurd (omega arith);
           pairs = λ one other ne. inl (λ place below gone. absurd (omega arith));
           current = λ some. absurd (some refl);
@@ -158,6 +159,22 @@ ends_begin mine options =
         };
         asks = tt;
         receiver = record { fits = record { first = 0; asking = nothing_asked; fits = tt }; current = λ transfer there. absurd (cc); were_read = λ tag. refl; begun = λ tag. inl refl };
+      };
+      answered = record {
+        pairs = λ tag. record { tag = 0; first_tsn = 0 };
+        answers = record {
+          asked = λ tag some. inl refl;
+          asked_held = λ tag some. inl refl;
+          performed = λ tag joined. absurd joined.held;
+          apart = λ one two ne joined. absurd joined.held;
+          mine_apart = λ link is. absurd (cc);
+          joined = λ my number has. absurd has;
+          mine_held = λ link is. absurd (cc);
+          mine_first = λ link is. absurd (cc);
+          theirs_held = λ link is. absurd (cc);
+          stands = λ link is. absurd (cc);
+        };
+        unlinked = λ none. refl;
       };
     }
   where

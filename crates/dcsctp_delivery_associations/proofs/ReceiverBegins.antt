@@ -8,7 +8,7 @@ use Rattle.dcsctp_machine.specs.Endpoint.{Endpoint}
 use Rattle.dcsctp_machine.specs.Outcome.{Outcome}
 use Rattle.dcsctp_machine.specs.Packet.{Emission}
 use Rattle.dcsctp_machine.specs.Past.{Has}
-use Rattle.dcsctp_machine.specs.Turn.{Input}
+use Rattle.dcsctp_machine.specs.Turn.{Input, Turn}
 use Rattle.dcsctp_machine.specs.World.{after_effects}
 use Rattle.dcsctp_machine.specs.control.Effect.{Link, Effect, holds, link_of}
 use Rattle.dcsctp_machine.specs.transfer.Reassembly.{new_reassembly}
@@ -21,14 +21,16 @@ use Rattle.dcsctp_delivery_sending.proofs.Places.{decide, set_same, set_other}
 use Rattle.dcsctp_delivery_directions.specs.Directions as steps
 use Rattle.dcsctp_delivery_directions.specs.Directions.{Run}
 use Rattle.dcsctp_delivery_directions.proofs.Directions.{direction_queues}
-use Rattle.dcsctp_delivery_turns.specs.Actions.{peer_tag}
+use Rattle.dcsctp_delivery_turns.specs.Actions.{peer_tag, IsCall}
 use Rattle.dcsctp_delivery_turns.specs.Asking.{own_of, AsksFit}
 use Rattle.dcsctp_delivery_turns.specs.Runs.{Opens}
 use Rattle.dcsctp_delivery_associations.specs.Ends.{ReceivingEnd, joined, new_end, Ends, HadPeer, Awaits, Sender, NewTag, HadTag, Receiver, Between}
 use Rattle.dcsctp_delivery_associations.specs.Reads.{Read, with_tag}
 use Rattle.dcsctp_delivery_associations.proofs.Growing.{set_all}
 use Rattle.dcsctp_delivery_associations.proofs.SenderStays.{set_three}
+use Rattle.dcsctp_delivery_associations.specs.Answered.{AreAnswered}
 use Rattle.dcsctp_delivery_associations.specs.Laws.{AreEnds}
+use Rattle.dcsctp_delivery_associations.proofs.ReceiverOpens.{opens_answered}
 use Rattle.dcsctp_delivery_associations.proofs.ReceiverStays.{tag_later, sender_same, sender_first}
 
 -- What an association has received that just begins.
@@ -53,10 +55,10 @@ known ends key below queued past their_past packets new s is =
     ]
   where
     of_had : HadPeer past new.my.tag (ends.firsts new.my.tag) → ends.firsts new.my.tag ≡ new.peer.first_tsn
-    of_had had = sym had.first_is ∙ ap (λ (p : Pair). p.first_tsn) (is.match had.link had.held had.tag_is)
+    of_had had = sym had.first_is ∙ ap (λ (p : Pair). p.first_tsn) (is.match had.link had.held (inl had.tag_is)).0
 
 module _ (options : Options) (ends : Ends) (e : Endpoint) (queued : List Message) (past : List Effect) (packets : List Emission) (d : Endpoint) (their_past : List Effect) (reads : List Read)
-    (h : Between options ends e queued past packets d their_past reads) (few : length queued < 2 ^ 64) (same : SameOptions options d.options) (input : Input) (o : Outcome) where
+    (h : Between options ends e queued past packets d their_past reads) (few : length queued < 2 ^ 64) (same : SameOptions options d.options) (input : Input) (o : Outcome) (w : AreAnswered ends e past d their_past) (may : IsCall input) (turn : Turn d input o) where
   module _ (opens : Opens d input o) (is : NewTag their_past past (link_of opens.begun.my opens.begun.held)) where
     abbrev tag : ℕ
     tag = opens.begun.my.tag
@@ -130,6 +132,7 @@ module _ (options : Options) (ends : Ends) (e : Endpoint) (queued : List Message
             asks = h.asks;
             receiver = later_receiver ends.firsts here (λ t ne. refl) fresh;
           };
+          answered = opens_answered ends e past d their_past w input o may turn opens is (set_at tag got ends.gets) ends.firsts here (λ t ne. refl) (inl here);
         }
 
     awaited_opens : Awaits (ends.sends tag) → tag ≢ peer_tag e.core → ends.gets tag ≡ new_end options (ends.firsts tag) → AreEnds options e queued past packets o.after (after_effects o.effects their_past) reads
@@ -158,13 +161,15 @@ module _ (options : Options) (ends : Ends) (e : Endpoint) (queued : List Message
             asks = subst (λ (n : ℕ). AsksFit n (own_of e) (ends.sends (peer_tag e.core)).asking) (sym (set_other tag (peer_tag e.core) first ends.firsts (λ is'. apart (sym is')))) h.asks;
             receiver = later_receiver (set_at tag first ends.firsts) (set_same tag first ends.firsts) (λ t ne. set_other tag t first ends.firsts ne) fresh;
           };
+          answered = opens_answered ends e past d their_past w input o may turn opens is (set_at tag got ends.gets) (set_at tag first ends.firsts) (set_same tag first ends.firsts) (λ t ne. set_other tag t first ends.firsts ne)
+              (inr (waits.asking, apart));
         }
 
     pub opens_goes : AreEnds options e queued past packets o.after (after_effects o.effects their_past) reads
     opens_goes =
         elim (h.receiver.begun tag) [
           | inl fresh ↦ go fresh (known ends (peer_tag e.core) e.below queued past their_past packets (link_of opens.begun.my opens.begun.held) h.sender is)
-          | inr had ↦ absurd (is.other had.link had.held had.tag_is)
+          | inr had ↦ absurd ((is.other had.link had.held).0 had.tag_is)
         ]
       where
         go : ends.gets tag ≡ new_end options (ends.firsts tag) → Known ends (peer_tag e.core) (link_of opens.begun.my opens.begun.held) → AreEnds options e queued past packets o.after (after_effects o.effects their_past) reads

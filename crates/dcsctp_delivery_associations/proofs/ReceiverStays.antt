@@ -1,5 +1,5 @@
 -- What a turn of the receiver leaves as it is.
-use Rattle.std.proofs.Common.{◌≡◌, ◌≢◌, ℕ, List, sym, subst, inl, inr}
+use Rattle.std.proofs.Common.{◌≡◌, ◌≢◌, ℕ, List, sym, ◌∙◌, ap, subst, inl, inr}
 use Rattle.std.specs.Prelude.{◌⊎◌}
 use Rattle.dcsctp_machine.specs.declared.options.Options.{Options}
 use Rattle.dcsctp_machine.specs.Packet.{Emission}
@@ -9,7 +9,9 @@ use Rattle.dcsctp_machine.specs.transfer.Transfer.{Below}
 use Rattle.dcsctp_machine_agreement.proofs.Growth.{after_within}
 use Rattle.dcsctp_delivery_sending.specs.Places.{set_at}
 use Rattle.dcsctp_delivery_sending.specs.Log.{Message}
-use Rattle.dcsctp_delivery_sending.proofs.Places.{decide, set_other}
+use Rattle.dcsctp_delivery_sending.proofs.Places.{decide, set_same, set_other}
+use Rattle.dcsctp_delivery_directions.specs.Directions.{Asking, nothing_asked}
+use Rattle.dcsctp_delivery_associations.proofs.ReceiverAnswers.{asked_ends}
 use Rattle.dcsctp_delivery_associations.specs.Ends.{ReceivingEnd, new_end, Ends, HadPeer, Awaits, Sender, HadTag}
 use Rattle.dcsctp_delivery_associations.proofs.Senders.{of_more}
 
@@ -33,12 +35,41 @@ sender_same ends gets key below queued past packets s =
       marks = s.marks;
       short = s.short;
       few = s.few;
+      few_requests = s.few_requests;
       last = s.last;
       pairs = s.pairs;
       current = s.current;
       begun = s.begun;
       all_sent = of_more ends (record ends { gets = gets }) packets (λ tag emission some has. has) s.all_sent;
     }
+
+-- More is known of its requests under one tag.
+pub sender_asked : (ends : Ends) (tag : ℕ) (asking : Asking) (got : ReceivingEnd) (key : ℕ) (below : Below) (queued : List Message) (past : List Effect) (packets : List Emission) → Sender ends key below queued past packets
+    → ((ends.sends tag).asking ≡ nothing_asked → asking ≡ nothing_asked) → Sender (asked_ends ends tag asking got) key below queued past packets
+sender_asked ends tag asking got key below queued past packets s still =
+    record {
+      below_is = s.below_is;
+      long = s.long;
+      marks = s.marks;
+      short = s.short;
+      few = s.few;
+      few_requests = s.few_requests;
+      last = s.last;
+      pairs = s.pairs;
+      current = s.current;
+      begun = λ t some. elim (s.begun t some) [
+        | inl waits ↦ inl (record { queued = waits.queued; sent = waits.sent; acknowledged = waits.acknowledged; transfer = waits.transfer; asking = awaits t waits.asking })
+        | inr had ↦ inr had
+      ];
+      all_sent = of_more ends (asked_ends ends tag asking got) packets (λ t emission some has. has) s.all_sent;
+    }
+  where
+    awaits : (t : ℕ) → (ends.sends t).asking ≡ nothing_asked → set_at tag asking (λ n. (ends.sends n).asking) t ≡ nothing_asked
+    awaits t none =
+        elim (decide t tag) [
+          | inl e ↦ ap (set_at tag asking (λ n. (ends.sends n).asking)) e ∙ set_same tag asking (λ n. (ends.sends n).asking) ∙ still (ap (λ (n : ℕ). (ends.sends n).asking) (sym e) ∙ none)
+          | inr ne ↦ set_other tag t asking (λ n. (ends.sends n).asking) ne ∙ none
+        ]
 
 -- The sender has begun no association under this tag.
 pub sender_first : (ends : Ends) (gets : ℕ → ReceivingEnd) (tag first key : ℕ) (below : Below) (queued : List Message) (past : List Effect) (packets : List Emission) → Sender ends key below queued past packets
@@ -50,6 +81,7 @@ sender_first ends gets tag first key below queued past packets s ne waits =
       marks = s.marks;
       short = s.short;
       few = s.few;
+      few_requests = s.few_requests;
       last = s.last;
       pairs = s.pairs;
       current = λ some. subst (λ (n : ℕ). HadPeer past key n) (sym (set_other tag key first ends.firsts (λ is. ne (sym is)))) (s.current some);

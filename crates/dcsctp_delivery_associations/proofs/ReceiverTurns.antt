@@ -1,5 +1,5 @@
 -- Each turn of the receiver.
-use Rattle.std.proofs.Common.{◌≡◌, ◌≢◌, ℕ, true, false, ◌<◌, ◌^◌, Option, None, Some, List, length, refl, sym, ◌∙◌, ap, subst, inl, inr}
+use Rattle.std.proofs.Common.{◌≡◌, ◌≢◌, ℕ, Bool, true, false, ◌<◌, ◌-◌, ◌^◌, Option, None, Some, List, length, arith, refl, sym, ◌∙◌, ap, subst, inl, inr}
 use Rattle.std.specs.Prelude.{◌⊎◌}
 use Rattle.dcsctp_machine.specs.declared.options.Options.{Options}
 use Rattle.dcsctp_machine.specs.Settings.{SameOptions}
@@ -16,7 +16,24 @@ use Rattle.dcsctp_machine.specs.transfer.Transfer.{Transfer}
 use Rattle.dcsctp_delivery_sending.specs.Places.{set_at}
 use Rattle.dcsctp_delivery_sending.specs.Log.{Message}
 use Rattle.dcsctp_delivery_sending.proofs.Places.{decide, set_same, set_other}
-use Rattle.dcsctp_delivery_directions.specs.Directions.{Asking, Run}
+use Rattle.dcsctp_delivery_directions.specs.Directions.{Asking, nothing_asked, Direction, Run}
+use Rattle.dcsctp_delivery_directions.proofs.RequestCounts.{requests_are_sent}
+use Rattle.dcsctp_delivery_turns.specs.Asking.{Own, AsksFit, OutIs}
+use Rattle.dcsctp_delivery_turns.specs.PeerRequests.{KnowsPeerIn}
+use Rattle.dcsctp_delivery_turns.specs.Runs.{IsNewest, PerformsNewest, performed_where, PerformedBy}
+use Rattle.dcsctp_delivery_turns.proofs.PeersTurns.{ends_ask_nothing, unlinked_asks_nothing}
+use Rattle.dcsctp_delivery_associations.specs.Answered.{IsInStep, StandsSo, in_step, plain, requests_of, waits_in, AreAnswered}
+use Rattle.dcsctp_delivery_associations.specs.Laws.{AsksLittle}
+use Rattle.dcsctp_delivery_associations.proofs.UnaskedPasts.{reset_none}
+use Rattle.dcsctp_delivery_associations.proofs.AnsweringRests.{none_performed}
+use Rattle.dcsctp_delivery_associations.proofs.ReceiverAnswers.{asked_ends, Standing, performs_newest, nothing_performed, goes_answered}
+use Rattle.dcsctp_delivery_associations.proofs.ReceiverOpens.{rests_answered}
+use Rattle.dcsctp_machine.specs.declared.association.Pair.{Pair}
+use Rattle.dcsctp_machine.specs.Packet.{re_config}
+use Rattle.dcsctp_machine.specs.Past.{Has}
+use Rattle.dcsctp_machine.specs.Reconfiguration.{RequestedReset, ResetParameter}
+use Rattle.dcsctp_machine.specs.control.Effect.{holds, performs}
+use Rattle.dcsctp_machine.specs.turns.ResetOutcomes.{has_reset, requested_in}
 use Rattle.dcsctp_delivery_turns.specs.Actions.{IsOpening, came_by, peer_tag, read_after, Begun, IsCall}
 use Rattle.dcsctp_delivery_turns.specs.Asking.{own_of, SomeFit}
 use Rattle.dcsctp_delivery_turns.specs.Sides.{WasSent, receiving}
@@ -28,11 +45,13 @@ use Rattle.dcsctp_delivery_associations.proofs.WhatIsRead.{tag_of, reads_still, 
 use Rattle.dcsctp_delivery_associations.proofs.Growing.{set_all}
 use Rattle.dcsctp_delivery_associations.proofs.Own.{unlinked_some}
 use Rattle.dcsctp_delivery_associations.specs.Laws.{AreEnds}
-use Rattle.dcsctp_delivery_associations.proofs.ReceiverStays.{tag_later, begun_later, sender_same}
+use Rattle.dcsctp_delivery_associations.proofs.ReceiverStays.{tag_later, begun_later, sender_asked}
 use Rattle.dcsctp_delivery_associations.proofs.ReceiverBegins.{opens_goes}
 
 module _ (options : Options) (ends : Ends) (e : Endpoint) (queued : List Message) (past : List Effect) (packets : List Emission) (d : Endpoint) (their_past : List Effect) (reads : List Read)
-    (h : Between options ends e queued past packets d their_past reads) (few : length queued < 2 ^ 64) (same : SameOptions options d.options) (input : Input) (o : Outcome) where
+    (h : Between options ends e queued past packets d their_past reads) (few : length queued < 2 ^ 64) (same : SameOptions options d.options) (input : Input) (o : Outcome)
+    (new : (begun : Begun d o) → IsOpening (came_by input) → link_in o.after.core ≡ Some (link_of begun.my begun.held) → NewTag their_past past (link_of begun.my begun.held)) (w : AreAnswered ends e past d their_past)
+    (little : AsksLittle packets) (new_tags : (link old : Link) → Has (holds link) o.effects → Has (holds old) their_past → old.my.tag ≢ link.my.tag) (may : IsCall input) (turn : Turn d input o) where
   -- what is to be shown of the turn
   abbrev pub Turned : Type 0
   Turned = AreEnds options e queued past packets o.after (after_effects o.effects their_past) (reads_after d input reads)
@@ -41,8 +60,9 @@ module _ (options : Options) (ends : Ends) (e : Endpoint) (queued : List Message
   unread_goes unread goes = subst (λ (l : List Read). AreEnds options e queued past packets o.after (after_effects o.effects their_past) l) (sym (reads_still d input reads unread)) goes
 
   -- there is none after the turn
-  rests : o.after.below.transfer ≡ None → SomeFit (own_of o.after) → AreEnds options e queued past packets o.after (after_effects o.effects their_past) reads
-  rests none fits =
+  rests : o.after.below.transfer ≡ None → SomeFit (own_of o.after) → link_in o.after.core ≡ None → ((my : Pair) (number : ℕ) → Has (performs my number) o.effects → ⊥)
+      → AreEnds options e queued past packets o.after (after_effects o.effects their_past) reads
+  rests none fits unlinked no_performs =
       record {
         ends = ends;
         between = record {
@@ -57,26 +77,42 @@ module _ (options : Options) (ends : Ends) (e : Endpoint) (queued : List Message
             begun = λ tag. begun_later options ends o.effects their_past tag (h.receiver.begun tag);
           };
         };
+        answered = rests_answered ends e past d their_past w input o may turn unlinked no_performs;
       }
 
   -- ---- an association goes on
 
   module _ (transfer : Transfer) (there : d.below.transfer ≡ Some transfer) (c : IsCurrent ends d their_past transfer) where
-    receives : link_in o.after.core ≡ link_in d.core → (left : Transfer) → o.after.below.transfer ≡ Some left → SomeFit (own_of o.after)
+    receives : link_in o.after.core ≡ link_in d.core → (left : Transfer) → o.after.below.transfer ≡ Some left → SomeFit (own_of o.after) → (asking : Asking)
+        → ((ends.sends c.link.my.tag).asking ≡ nothing_asked → asking ≡ nothing_asked) → ((first : ℕ) (own : Option Own) → AsksFit first own (ends.sends c.link.my.tag).asking → AsksFit first own asking)
+        → AreAnswered (asked_ends ends c.link.my.tag asking (record { tracker = left.tracker; reassembly = left.reassembly; read = read_after d input (ends.gets c.link.my.tag).read })) e past o.after (after_effects o.effects their_past)
         → Run options (ends.firsts c.link.my.tag) options.max_receiver_window_buffer_size
-        (receiving (joined (ends.sends c.link.my.tag) (ends.gets c.link.my.tag)) left (read_after d input (ends.gets c.link.my.tag).read))
+        (record (receiving (joined (ends.sends c.link.my.tag) (ends.gets c.link.my.tag)) left (read_after d input (ends.gets c.link.my.tag).read)) { asking = asking })
         → Turned
-    receives linked left is fits run =
+    receives linked left is fits asking still fit answered run =
         let tag : ℕ = c.link.my.tag in
         let got : ReceivingEnd = record { tracker = left.tracker; reassembly = left.reassembly; read = read_after d input (ends.gets tag).read } in
         let own : own_tag d.core ≡ tag = tag_of d.core c.link c.linked in
         record {
-          ends = record ends { gets = set_at tag got ends.gets };
+          ends = asked_ends ends tag asking got;
           between = record {
-            runs = set_all (λ t g. Run options (ends.firsts t) options.max_receiver_window_buffer_size (joined (ends.sends t) g)) tag got ends.gets run (λ t ne. h.runs t);
+            runs = λ t. elim (decide t tag) [
+              | inl e' ↦
+                  subst (λ (n : ℕ). Run options (ends.firsts n) options.max_receiver_window_buffer_size (joined ((asked_ends ends tag asking got).sends n) ((asked_ends ends tag asking got).gets n))) (sym e')
+                  (subst (λ (x : Asking). Run options (ends.firsts tag) options.max_receiver_window_buffer_size (joined (record (ends.sends tag) { asking = x }) (set_at tag got ends.gets tag))) (sym (set_same tag asking (λ n. (ends.sends n).asking)))
+                  (subst (λ (g : ReceivingEnd). Run options (ends.firsts tag) options.max_receiver_window_buffer_size (joined (record (ends.sends tag) { asking = asking }) g)) (sym (set_same tag got ends.gets)) run))
+              | inr ne ↦
+                  subst (λ (x : Asking). Run options (ends.firsts t) options.max_receiver_window_buffer_size (joined (record (ends.sends t) { asking = x }) (set_at tag got ends.gets t))) (sym (set_other tag t asking (λ n. (ends.sends n).asking) ne))
+                  (subst (λ (g : ReceivingEnd). Run options (ends.firsts t) options.max_receiver_window_buffer_size (joined (ends.sends t) g)) (sym (set_other tag t got ends.gets ne)) (h.runs t))
+            ];
             small = h.small;
-            sender = sender_same ends (set_at tag got ends.gets) (peer_tag e.core) e.below queued past packets h.sender;
-            asks = h.asks;
+            sender = sender_asked ends tag asking got (peer_tag e.core) e.below queued past packets h.sender still;
+            asks = elim (decide (peer_tag e.core) tag) [
+              | inl e' ↦
+                  subst (λ (x : Asking). AsksFit (ends.firsts (peer_tag e.core)) (own_of e) x) (sym (ap (set_at tag asking (λ n. (ends.sends n).asking)) e' ∙ set_same tag asking (λ n. (ends.sends n).asking)))
+                  (fit (ends.firsts (peer_tag e.core)) (own_of e) (subst (λ (n : ℕ). AsksFit (ends.firsts (peer_tag e.core)) (own_of e) (ends.sends n).asking) e' h.asks))
+              | inr ne ↦ subst (λ (x : Asking). AsksFit (ends.firsts (peer_tag e.core)) (own_of e) x) (sym (set_other tag (peer_tag e.core) asking (λ n. (ends.sends n).asking) ne)) h.asks
+            ];
             receiver = record {
               fits = fits;
               current = λ other there'. (
@@ -98,6 +134,7 @@ module _ (options : Options) (ends : Ends) (e : Endpoint) (queued : List Message
               ];
             };
           };
+          answered = answered;
         }
       where
         same_transfer : (found : Option Transfer) (one two : Transfer) → found ≡ Some one → found ≡ Some two → one ≡ two
@@ -114,35 +151,105 @@ module _ (options : Options) (ends : Ends) (e : Endpoint) (queued : List Message
         (subst (λ (r : ReassemblyState). Run options (ends.firsts c.link.my.tag) options.max_receiver_window_buffer_size (joined (ends.sends c.link.my.tag) (record { tracker = (ends.gets c.link.my.tag).tracker; reassembly = r; read = (ends.gets c.link.my.tag).read }))) c.reassembly
         (h.runs c.link.my.tag))
 
-    by_turn : ((begun : Begun d o) → IsOpening (came_by input) → link_in o.after.core ≡ Some (link_of begun.my begun.held) → NewTag their_past past (link_of begun.my begun.held))
-        → ReceiverTurns false options (ends.firsts c.link.my.tag) options.max_receiver_window_buffer_size (joined (ends.sends c.link.my.tag) (ends.gets c.link.my.tag)) transfer d input o → Turned
-    by_turn new (receiver_goes_on linked left is fits asking by run) =
-        receives linked left is fits
-        (subst
-        (λ (a : Asking).
-        Run options (ends.firsts c.link.my.tag) options.max_receiver_window_buffer_size
-        (record (receiving (joined (ends.sends c.link.my.tag) (ends.gets c.link.my.tag)) left (read_after d input (ends.gets c.link.my.tag).read)) { asking = a }))
-        by.2 run)
-    by_turn new (receiver_ends none gone unread) = unread_goes unread (rests gone (unlinked_some o.after none))
-    by_turn new (receiver_begins opens) = unread_goes opens.unread (opens_goes options ends e queued past packets d their_past reads h few same input o opens (new opens.begun opens.opening opens.linked))
+    -- ---- what is known of the request that is handled
 
-    turn_goes : ((begun : Begun d o) → IsOpening (came_by input) → link_in o.after.core ≡ Some (link_of begun.my begun.held) → NewTag their_past past (link_of begun.my begun.held)) → WasSent (ends.sends c.link.my.tag).sent (came_by input) → IsCall input → Turn d input o → Turned
-    turn_goes new sent may turn =
-        by_turn new
-        (receivers_go_on false options (ends.firsts c.link.my.tag) options.max_receiver_window_buffer_size (joined (ends.sends c.link.my.tag) (ends.gets c.link.my.tag)) transfer d input o now there sent (λ known. (let clash : false ≡ true = known in absurd (cc))) h.receiver.fits
-        (λ begun opening linked. (new begun opening linked).own_small) may turn)
+    direction : Direction
+    direction = joined (ends.sends c.link.my.tag) (ends.gets c.link.my.tag)
 
-  idle_goes : ((begun : Begun d o) → IsOpening (came_by input) → link_in o.after.core ≡ Some (link_of begun.my begun.held) → NewTag their_past past (link_of begun.my begun.held)) → IdleTurns d input o → Turned
-  idle_goes new (idle_stays none fits unread) = unread_goes unread (rests none fits)
-  idle_goes new (idle_begins opens) = unread_goes opens.unread (opens_goes options ends e queued past packets d their_past reads h few same input o opens (new opens.begun opens.opening opens.linked))
+    few_asked : length (ends.sends c.link.my.tag).asking.requests < 2 ^ 32 - 1
+    few_asked =
+        let sent = requests_are_sent options (ends.firsts c.link.my.tag) options.max_receiver_window_buffer_size (joined (ends.sends c.link.my.tag) (ends.gets c.link.my.tag)) (h.runs c.link.my.tag) in
+        let went = h.sender.few_requests c.link.my.tag in
+        let all = little c.link.my.tag in
+        omega (arith, sent, went, all)
+
+    -- An association that begins is another one.
+    new_same : (begun : Begun d o) → IsOpening (came_by input) → link_in o.after.core ≡ Some (link_of begun.my begun.held) → link_of begun.my begun.held ≡ c.link → ⊥
+    new_same begun opening linked same' =
+        let held = (w.answers.theirs_held c.link c.linked).0 in
+        ((new begun opening linked).other held.link held.held).0 (held.tag_is ∙ ap (λ (l : Link). l.my.tag) (sym same'))
+
+    -- What is asked fits too once a request is performed.
+    fits_performed : (known reset : Bool) (first : ℕ) (own : Option Own) (asking : Asking) → AsksFit first own asking → AsksFit first own (performed_where known reset asking)
+    fits_performed false reset first own asking fit = fit
+    fits_performed true false first own asking fit = fit
+    fits_performed true true first None asking fit = fit
+    fits_performed true true first (Some own) asking fit = record { numbers = fit.numbers; next = fit.next; out = out_same own.number fit.out }
+      where
+        out_same : (number : Option ℕ) → OutIs number own.again asking → OutIs number own.again (record asking { is_performed = true })
+        out_same None none = none
+        out_same (Some number) one = record { one = one.one; earlier = one.earlier; is = one.is }
+
+    module _ (sent : WasSent (ends.sends c.link.my.tag).sent (came_by input)) (knows : KnowsPeerIn their_past d.core) where
+      -- Where nothing was asked nothing is performed.
+      still_nothing : (is_known : Bool) (asking : Asking) → PerformedBy is_known input o (joined (ends.sends c.link.my.tag) (ends.gets c.link.my.tag)) asking → (left : Transfer) → o.after.below.transfer ≡ Some left
+          → (ends.sends c.link.my.tag).asking ≡ nothing_asked → asking ≡ nothing_asked
+      still_nothing is_known asking by left is none = by.3 ∙ go by.0 by.2
+        where
+          go : (is_reset : Bool) → (is_reset ≡ true → has_reset o.effects ≡ true) → performed_where is_known is_reset (ends.sends c.link.my.tag).asking ≡ nothing_asked
+          go false says = by_known is_known
+            where
+              by_known : (b : Bool) → performed_where b false (ends.sends c.link.my.tag).asking ≡ nothing_asked
+              by_known true = none
+              by_known false = none
+          go true says =
+              absurd (nothing_performed ends e past d their_past w input o may turn new_tags c.link c.linked transfer left there is options.max_receiver_window_buffer_size options
+              (joined (ends.sends c.link.my.tag) (ends.gets c.link.my.tag)) (ends.firsts c.link.my.tag) (h.runs c.link.my.tag) refl sent few_asked knows (says refl) none)
+
+      by_turn : (is_known : Bool)
+          → ((left : Transfer) (is : o.after.below.transfer ≡ Some left) → Standing ends e past d their_past w input o may turn new_tags c.link c.linked transfer left there is options.max_receiver_window_buffer_size options
+          (joined (ends.sends c.link.my.tag) (ends.gets c.link.my.tag)) (ends.firsts c.link.my.tag) (h.runs c.link.my.tag) refl sent few_asked knows is_known)
+          → ReceiverTurns is_known options (ends.firsts c.link.my.tag) options.max_receiver_window_buffer_size (joined (ends.sends c.link.my.tag) (ends.gets c.link.my.tag)) transfer d input o → Turned
+      by_turn is_known stands (receiver_goes_on linked left is fits asking by run) =
+          receives linked left is fits asking (still_nothing is_known asking by left is)
+          (λ first own fit. subst (λ (a : Asking). AsksFit first own a) (sym by.3) (fits_performed is_known by.0 first own (ends.sends c.link.my.tag).asking fit))
+          (goes_answered ends e past d their_past w input o may turn new_tags c.link c.linked transfer left there is options.max_receiver_window_buffer_size options
+          (joined (ends.sends c.link.my.tag) (ends.gets c.link.my.tag)) (ends.firsts c.link.my.tag) (h.runs c.link.my.tag) refl sent few_asked knows new_same linked is_known (stands left is) asking by _) run
+      by_turn is_known stands (receiver_ends none gone unread) =
+          unread_goes unread (rests gone (unlinked_some o.after none) none (none_performed o.effects (ends_ask_nothing d input o transfer may turn there gone)))
+      by_turn is_known stands (receiver_begins opens) =
+          unread_goes opens.unread (opens_goes options ends e queued past packets d their_past reads h few same input o w may turn opens (new opens.begun opens.opening opens.linked))
+
+      goes_known : (is_known : Bool) → (is_known ≡ true → PerformsNewest (joined (ends.sends c.link.my.tag) (ends.gets c.link.my.tag)) transfer (came_by input) o.effects)
+          → ReceiverTurns is_known options (ends.firsts c.link.my.tag) options.max_receiver_window_buffer_size (joined (ends.sends c.link.my.tag) (ends.gets c.link.my.tag)) transfer d input o
+      goes_known is_known newest =
+          receivers_go_on is_known options (ends.firsts c.link.my.tag) options.max_receiver_window_buffer_size (joined (ends.sends c.link.my.tag) (ends.gets c.link.my.tag)) transfer d input o now there sent newest h.receiver.fits
+          (λ begun opening linked. (new begun opening linked).own_small) may turn
+
+      -- What is performed is the newest where the receiver stands in step.
+      newest_so : IsInStep (requests_of ends w.pairs c.link.my.tag) their_past transfer.reassembly.deferral → PerformsNewest (joined (ends.sends c.link.my.tag) (ends.gets c.link.my.tag)) transfer (came_by input) o.effects
+      newest_so step done = by_left o.after.below.transfer refl
+        where
+          by_left : (found : Option Transfer) → o.after.below.transfer ≡ found → (parameters : List ResetParameter) (reset : RequestedReset) → came_by input ≡ Some (re_config parameters) → requested_in parameters ≡ Some reset
+              → IsNewest (joined (ends.sends c.link.my.tag) (ends.gets c.link.my.tag)) transfer reset
+          by_left None gone = (let clash : true ≡ false = sym done ∙ reset_none o.effects (ends_ask_nothing d input o transfer may turn there gone) in absurd (cc))
+          by_left (Some left) is =
+              performs_newest ends e past d their_past w input o may turn new_tags c.link c.linked transfer left there is options.max_receiver_window_buffer_size options
+              (joined (ends.sends c.link.my.tag) (ends.gets c.link.my.tag)) (ends.firsts c.link.my.tag) (h.runs c.link.my.tag) refl sent few_asked knows step done
+
+      turn_goes : StandsSo (requests_of ends w.pairs c.link.my.tag) their_past transfer.reassembly.deferral → Turned
+      turn_goes (in_step step) = by_turn true (λ left is. step) (goes_known true (λ known. newest_so step))
+      turn_goes (plain kind some) = by_turn false (λ left is. kind) (goes_known false (λ known. (let clash : false ≡ true = known in absurd (cc))))
+
+  -- ---- in any turn
+
+  idle_goes : d.below.transfer ≡ None → IdleTurns d input o → Turned
+  idle_goes nowhere (idle_stays which none fits unread) =
+      unread_goes unread
+      (rests none fits (elim which [ inl gone ↦ gone | inr same' ↦ same' ∙ w.unlinked nowhere ]) (none_performed o.effects (unlinked_asks_nothing d input o may turn (w.unlinked nowhere)).0))
+  idle_goes nowhere (idle_begins opens) =
+      unread_goes opens.unread (opens_goes options ends e queued past packets d their_past reads h few same input o w may turn opens (new opens.begun opens.opening opens.linked))
 
   -- What is handled in an association was sent in it.
   abbrev pub Sent : Type 0
   Sent = (transfer : Transfer) (link : Link) → d.below.transfer ≡ Some transfer → link_in d.core ≡ Some link → WasSent (ends.sends link.my.tag).sent (came_by input)
 
-  by_transfer : ((begun : Begun d o) → IsOpening (came_by input) → link_in o.after.core ≡ Some (link_of begun.my begun.held) → NewTag their_past past (link_of begun.my begun.held)) → Sent → IsCall input → Turn d input o → (found : Option Transfer) → d.below.transfer ≡ found → Turned
-  by_transfer new sent may turn None nowhere = idle_goes new (receivers_begin d input o nowhere h.receiver.fits (λ begun opening linked. (new begun opening linked).own_small) may turn)
-  by_transfer new sent may turn (Some transfer) there = (let c = h.receiver.current transfer there in turn_goes transfer there c new (sent transfer c.link there c.linked) may turn)
+  by_transfer : Sent → KnowsPeerIn their_past d.core → (found : Option Transfer) → d.below.transfer ≡ found → Turned
+  by_transfer sent knows None nowhere = idle_goes nowhere (receivers_begin d input o nowhere h.receiver.fits (λ begun opening linked. (new begun opening linked).own_small) may turn)
+  by_transfer sent knows (Some transfer) there =
+      let c = h.receiver.current transfer there in
+      turn_goes transfer there c (sent transfer c.link there c.linked) knows
+      (subst (λ (t : Option Transfer). StandsSo (requests_of ends w.pairs c.link.my.tag) their_past (waits_in t)) there (w.answers.stands c.link c.linked))
 
-  pub receiver_turns : ((begun : Begun d o) → IsOpening (came_by input) → link_in o.after.core ≡ Some (link_of begun.my begun.held) → NewTag their_past past (link_of begun.my begun.held)) → Sent → IsCall input → Turn d input o → Turned
-  receiver_turns new sent may turn = by_transfer new sent may turn d.below.transfer refl
+  pub receiver_turns : KnowsPeerIn their_past d.core → Sent → Turned
+  receiver_turns knows sent = by_transfer sent knows d.below.transfer refl

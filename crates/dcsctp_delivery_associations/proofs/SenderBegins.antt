@@ -1,5 +1,5 @@
 -- A turn of the sender in which an association begins.
-use Rattle.std.proofs.Common.{◌≡◌, ◌≢◌, ℕ, ◌<◌, ◌^◌, Option, None, Some, List, [], ◌∷◌, ◌++◌, length, refl, sym, ◌∙◌, ap, subst, inl, inr}
+use Rattle.std.proofs.Common.{◌≡◌, ◌≢◌, ℕ, ◌<◌, ◌^◌, Option, None, Some, List, [], ◌∷◌, ◌++◌, length, arith, refl, sym, ◌∙◌, ap, subst, inl, inr}
 use Rattle.std.specs.Prelude.{◌⊎◌}
 use Rattle.std.specs.List.{AllByRecursion}
 use Rattle.dcsctp_machine.specs.declared.options.Options.{Options}
@@ -21,14 +21,19 @@ use Rattle.dcsctp_delivery_sending.specs.Queueing.{QueueWaits}
 use Rattle.dcsctp_delivery_sending.specs.Marking.{all_marked}
 use Rattle.dcsctp_delivery_sending.proofs.Places.{decide, set_same, set_other}
 use Rattle.dcsctp_delivery_sending.proofs.MarkingAll.{all_marked_keep, all_marked_fit}
-use Rattle.dcsctp_delivery_directions.specs.Directions.{Direction, Asking, Run, IsAwaited}
+use Rattle.dcsctp_delivery_directions.specs.Directions.{Direction, Asking, nothing_asked, Run, IsAwaited}
 use Rattle.dcsctp_delivery_turns.specs.Actions.{peer_tag, Begun}
-use Rattle.dcsctp_delivery_turns.specs.Asking.{own_of, AsksFit}
+use Rattle.dcsctp_delivery_turns.specs.Asking.{own_of, AsksFit, AskingGrows}
 use Rattle.dcsctp_delivery_turns.specs.Addressed.{AreAddressed}
 use Rattle.dcsctp_delivery_turns.specs.Runs.{sender_at, new_direction}
 use Rattle.dcsctp_delivery_turns.proofs.Runs.{senders_begin}
 use Rattle.dcsctp_delivery_associations.specs.Ends.{SendingEnd, ReceivingEnd, joined, new_end, Ends, HadPeer, Awaits, Sender, NewPeer, HadTag, IsCurrent, Receiver, Between}
-use Rattle.dcsctp_delivery_associations.specs.Laws.{AreEnds}
+use Rattle.dcsctp_delivery_directions.proofs.RequestCounts.{requests_more_to, requests_are_sent}
+use Rattle.dcsctp_delivery_associations.specs.Answered.{Answers, requests_of, waits_in, AreAnswered}
+use Rattle.dcsctp_delivery_associations.proofs.AskedOn.{MayBegin}
+use Rattle.dcsctp_delivery_associations.proofs.Counting.{addressed_requests}
+use Rattle.dcsctp_delivery_associations.proofs.SenderAnswers.{may_begin, begins_answers}
+use Rattle.dcsctp_delivery_associations.specs.Laws.{AreEnds, AsksLittle}
 use Rattle.dcsctp_delivery_associations.specs.Reads.{Read, with_tag}
 use Rattle.dcsctp_delivery_associations.proofs.Growing.{set_all}
 use Rattle.dcsctp_delivery_associations.proofs.Senders.{link_tag, renewed_end, renewed_ends, renewed}
@@ -46,7 +51,7 @@ same_tag core one two first second = (let same : one ≡ two = cc in ap (λ (l :
 
 module _ (options : Options) (ends : Ends) (d : Endpoint) (past their_past : List Effect) (reads : List Read) (r : Receiver options ends d their_past reads) (new : Link) (is : NewPeer past their_past new) where
   of_had : HadTag their_past new.peer.tag (ends.firsts new.peer.tag) → ends.firsts new.peer.tag ≡ new.my.first_tsn
-  of_had had = sym had.first_is ∙ ap (λ (p : Pair). p.first_tsn) (is.match had.link had.held had.tag_is)
+  of_had had = sym had.first_is ∙ ap (λ (p : Pair). p.first_tsn) (is.match had.link had.held (inl had.tag_is)).0
 
   by_begun : ((transfer : Transfer) (link : Link) → d.below.transfer ≡ Some transfer → link_in d.core ≡ Some link → link.my.tag ≢ new.peer.tag) → Known options ends d new
   by_begun none = elim (r.begun new.peer.tag) [
@@ -99,7 +104,7 @@ receiver_renewed options ends sends d past reads tag first r fresh apart =
     other t ne (inr had) = inr (subst (λ (n : ℕ). HadTag past t n) (sym (set_other tag t first ends.firsts ne)) had)
 
 module _ (options : Options) (ends : Ends) (e : Endpoint) (queued : List Message) (past : List Effect) (packets : List Emission) (d : Endpoint) (their_past : List Effect) (reads : List Read)
-    (h : Between options ends e queued past packets d their_past reads) (input : Input) (o : Outcome) (begun : Begun e o) where
+    (h : Between options ends e queued past packets d their_past reads) (input : Input) (o : Outcome) (w : AreAnswered ends e past d their_past) (little : AsksLittle (packets ++ packets_in o.events)) (begun : Begun e o) where
   abbrev pub new : Link
   new = link_of begun.my begun.held
 
@@ -108,16 +113,40 @@ module _ (options : Options) (ends : Ends) (e : Endpoint) (queued : List Message
 
   abbrev pub Later : Type 0
   Later = (other : Options) (room : ℕ) (awaiting : Direction) (queued : List Message) → QueueWaits queued e.below.queue → AllByRecursion Fits queued → Run other begun.my.first_tsn room awaiting → IsAwaited awaiting
-      → (acknowledged : ℕ) × (asking : Asking) × AsksFit begun.my.first_tsn (own_of o.after) asking
+      → (acknowledged : ℕ) × (asking : Asking) × AskingGrows nothing_asked asking × AsksFit begun.my.first_tsn (own_of o.after) asking
       × Run other begun.my.first_tsn room (sender_at awaiting queued o.after.below acknowledged (packets_in o.events) asking)
+
+  new_held : Has (holds new) (after_effects o.effects past)
+  new_held = subst (λ (l : List Effect). Has (holds new) (after_effects l past)) (sym begun.noted) (after_within begun.later (holds new ∷ past) (holds new) (inl refl))
 
   had_new : HadPeer (after_effects o.effects past) begun.held.peer.tag begun.my.first_tsn
   had_new =
       record {
         link = new;
-        held = subst (λ (l : List Effect). Has (holds new) (after_effects l past)) (sym begun.noted) (after_within begun.later (holds new ∷ past) (holds new) (inl refl));
+        held = new_held;
         tag_is = refl;
         first_is = refl;
+      }
+
+  -- What is begun in this turn is little.
+  begins_little : AreAddressed begun.held.peer.tag (packets_in o.events) → (options : Options) (size : ℕ) (acknowledged : ℕ) (asking : Asking) (direction : Direction) → AskingGrows nothing_asked asking
+      → AsksFit begun.my.first_tsn (own_of o.after) asking → link_in o.after.core ≡ Some new
+      → Run options begun.my.first_tsn size (sender_at direction marks o.after.below acknowledged (packets_in o.events) asking) → MayBegin begun.my.first_tsn nothing_asked asking
+  begins_little addressed options size acknowledged asking direction grows fits linked run =
+      let sent = requests_are_sent options begun.my.first_tsn size (sender_at direction marks o.after.below acknowledged (packets_in o.events) asking) run in
+      let went = addressed_requests begun.held.peer.tag (packets_in o.events) addressed in
+      let all = requests_more_to begun.held.peer.tag packets (packets_in o.events) in
+      let few = little begun.held.peer.tag in
+      may_begin begun.my.first_tsn o.after.core o.after.outstanding nothing_asked asking new linked grows fits (omega (arith, sent, went, all, few))
+
+  -- The answers are those of the association that begins.
+  answered_by : (later : Ends) → link_in o.after.core ≡ Some new → (pairs : ℕ → Pair)
+      → Answers (requests_of later pairs) (Some new) (after_effects o.effects past) (link_in d.core) their_past (waits_in d.below.transfer) → AreAnswered later o.after (after_effects o.effects past) d their_past
+  answered_by later linked pairs answers =
+      record {
+        pairs = pairs;
+        answers = subst (λ (l : Option Link). Answers (requests_of later pairs) l (after_effects o.effects past) (link_in d.core) their_past (waits_in d.below.transfer)) (sym linked) answers;
+        unlinked = w.unlinked;
       }
 
   sender_of : (later : Ends) → link_in o.after.core ≡ Some new → Sender later begun.held.peer.tag o.after.below queued (after_effects o.effects past) (packets ++ packets_in o.events)
@@ -141,16 +170,19 @@ module _ (options : Options) (ends : Ends) (e : Endpoint) (queued : List Message
         ends = ends';
         between = record {
           runs = set_all (λ tag s. Run options (ends.firsts tag) options.max_receiver_window_buffer_size (joined s (ends.gets tag))) to end ends.sends
-              (subst (λ (n : ℕ). Run options n options.max_receiver_window_buffer_size (joined end (ends.gets to))) (sym same) run.3) (λ tag ne. h.runs tag);
+              (subst (λ (n : ℕ). Run options n options.max_receiver_window_buffer_size (joined end (ends.gets to))) (sym same) run.4) (λ tag ne. h.runs tag);
           small = h.small;
           sender = sender_of ends' linked
               (renewed ends (peer_tag e.core) e.below queued past packets h.sender o.effects to o.after.below run.0 ps run.1 ends.gets ends.firsts (inr waits)
               (λ some. subst (λ (n : ℕ). HadPeer (after_effects o.effects past) to n) (sym same) had_new) (λ tag ne. refl) addressed);
           asks = subst (λ (k : ℕ). AsksFit (ends.firsts k) (own_of o.after) (set_at to end ends.sends k).asking) (sym (link_tag o.after.core new linked))
               (subst (λ (s : SendingEnd). AsksFit (ends.firsts to) (own_of o.after) s.asking) (sym (set_same to end ends.sends))
-              (subst (λ (n : ℕ). AsksFit n (own_of o.after) run.1) (sym same) run.2));
+              (subst (λ (n : ℕ). AsksFit n (own_of o.after) run.1) (sym same) run.3));
           receiver = receiver_same options ends ends'.sends d their_past reads h.receiver;
         };
+        answered = answered_by ends' linked (set_at to begun.my w.pairs)
+            (begins_answers ends e past d their_past w new is waits.asking end ends.gets ends.firsts same (λ tag ne. refl)
+            (begins_little addressed options options.max_receiver_window_buffer_size run.0 run.1 (joined (ends.sends to) (ends.gets to)) run.2 run.3 linked run.4) (λ other there tag. same) (after_effects o.effects past) (after_within o.effects past) new_held);
       }
 
   fresh_begins : NewPeer past their_past new → Awaits (ends.sends begun.held.peer.tag) → link_in o.after.core ≡ Some new → AreAddressed begun.held.peer.tag (packets_in o.events)
@@ -171,17 +203,25 @@ module _ (options : Options) (ends : Ends) (e : Endpoint) (queued : List Message
       record {
         ends = ends';
         between = record {
-          runs = set_three (λ tag f s g. Run options f options.max_receiver_window_buffer_size (joined s g)) to first end (new_end options first) ends.firsts ends.sends ends.gets run.3 (λ tag ne. h.runs tag);
+          runs = set_three (λ tag f s g. Run options f options.max_receiver_window_buffer_size (joined s g)) to first end (new_end options first) ends.firsts ends.sends ends.gets run.4 (λ tag ne. h.runs tag);
           small = set_all (λ tag f. f < 2 ^ 32) to first ends.firsts is.small (λ tag ne. h.small tag);
           sender = sender_of ends' linked
               (renewed ends (peer_tag e.core) e.below queued past packets h.sender o.effects to o.after.below run.0 ps run.1 gets firsts (inr waits)
               (λ some. subst (λ (n : ℕ). HadPeer (after_effects o.effects past) to n) (sym (set_same to first ends.firsts)) had_new) (λ tag ne. set_other to tag first ends.firsts ne) addressed);
           asks = subst (λ (k : ℕ). AsksFit (firsts k) (own_of o.after) (set_at to end ends.sends k).asking) (sym (link_tag o.after.core new linked))
               (subst (λ (s : SendingEnd). AsksFit (firsts to) (own_of o.after) s.asking) (sym (set_same to end ends.sends))
-              (subst (λ (n : ℕ). AsksFit n (own_of o.after) run.1) (sym (set_same to first ends.firsts)) run.2));
+              (subst (λ (n : ℕ). AsksFit n (own_of o.after) run.1) (sym (set_same to first ends.firsts)) run.3));
           receiver = receiver_renewed options ends ends'.sends d their_past reads to first h.receiver fresh apart;
         };
+        answered = answered_by ends' linked (set_at to begun.my w.pairs)
+            (begins_answers ends e past d their_past w new is waits.asking end gets firsts (set_same to first ends.firsts) (λ tag ne. set_other to tag first ends.firsts ne)
+            (begins_little addressed options options.max_receiver_window_buffer_size run.0 run.1 (new_direction options first options.max_receiver_window_buffer_size [] (record { queue = empty_queue options; transfer = None }) 0 []) run.2 run.3 linked run.4)
+            (λ other there tag. absurd (nowhere d.below.transfer refl other there tag)) (after_effects o.effects past) (after_within o.effects past) new_held);
       }
+    where
+      nowhere : (found : Option Transfer) → d.below.transfer ≡ found → (other : Link) → link_in d.core ≡ Some other → other.my.tag ≡ begun.held.peer.tag → ⊥
+      nowhere None none other there tag = (let clash : ◌≡◌ {A = Option Link} None (Some other) = sym (w.unlinked none) ∙ there in absurd (cc))
+      nowhere (Some transfer) some other there tag = apart transfer other some there tag
 
   pub begins : NewPeer past their_past new → link_in o.after.core ≡ Some new → AreAddressed begun.held.peer.tag (packets_in o.events)
       → QueueWaits (ends.sends (peer_tag e.core)).queued e.below.queue → AllByRecursion Fits (ends.sends (peer_tag e.core)).queued → Later

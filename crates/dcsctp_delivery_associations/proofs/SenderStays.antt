@@ -24,6 +24,7 @@ use Rattle.dcsctp_delivery_turns.specs.Addressed.{AreAddressed}
 use Rattle.dcsctp_delivery_turns.specs.Runs.{sender_at}
 use Rattle.dcsctp_delivery_turns.proofs.Runs.{begins_anew}
 use Rattle.dcsctp_delivery_associations.specs.Ends.{SendingEnd, ReceivingEnd, joined, new_end, Ends, Sender, Receiver, Between}
+use Rattle.dcsctp_delivery_associations.specs.Answered.{AreAnswered}
 use Rattle.dcsctp_delivery_associations.specs.Laws.{AreEnds}
 use Rattle.dcsctp_delivery_associations.specs.Reads.{Read}
 use Rattle.dcsctp_delivery_associations.proofs.Growing.{set_all, input_adds}
@@ -56,7 +57,7 @@ receiver_same options ends sends d past reads r =
 
 module _ (options : Options) (ends : Ends) (e : Endpoint) (queued : List Message) (past : List Effect) (packets : List Emission) (d : Endpoint) (their_past : List Effect) (reads : List Read)
     (h : Between options ends e queued past packets d their_past reads) (input : Input) (o : Outcome) where
-  more : List Message
+  abbrev pub more : List Message
   more = queued_after e input []
 
   -- what is to be shown of the turn
@@ -64,11 +65,11 @@ module _ (options : Options) (ends : Ends) (e : Endpoint) (queued : List Message
   Turned = AreEnds options o.after (queued_after e input queued) (after_effects o.effects past) (packets ++ packets_in o.events) d their_past reads
 
   pub goes_on : link_in o.after.core ≡ link_in e.core → AreAddressed (peer_tag e.core) (packets_in o.events) → (acknowledged : ℕ) (asking : Asking) → AsksFit (ends.firsts (peer_tag e.core)) (own_of o.after) asking
+      → AreAnswered (grown_ends ends (peer_tag e.core) e.below queued past packets h.sender o.effects more o.after.below acknowledged (packets_in o.events) asking) o.after (after_effects o.effects past) d their_past
       → Run options (ends.firsts (peer_tag e.core)) options.max_receiver_window_buffer_size
       (sender_at (joined (ends.sends (peer_tag e.core)) (ends.gets (peer_tag e.core))) (queued_after e input (ends.sends (peer_tag e.core)).queued) o.after.below acknowledged ((ends.sends (peer_tag e.core)).sent ++ packets_in o.events) asking)
       → Turned
-  unfolding more
-  goes_on linked addressed acknowledged asking fits run =
+  goes_on linked addressed acknowledged asking fits answered run =
       let key : ℕ = peer_tag e.core in
       let end : SendingEnd = grown_end ends key e.below queued past packets h.sender o.effects more o.after.below acknowledged (packets_in o.events) asking in
       let later : Ends = grown_ends ends key e.below queued past packets h.sender o.effects more o.after.below acknowledged (packets_in o.events) asking in
@@ -87,15 +88,22 @@ module _ (options : Options) (ends : Ends) (e : Endpoint) (queued : List Message
               (subst (λ (s : SendingEnd). AsksFit (ends.firsts key) (own_of o.after) s.asking) (sym (set_same key end ends.sends)) fits);
           receiver = receiver_same options ends later.sends d their_past reads h.receiver;
         };
+        answered = answered;
       }
 
-  pub ended : link_in o.after.core ≡ None → AreAddressed (peer_tag e.core) (packets_in o.events) → (last : Below) → o.after.below ≡ record last { transfer = None }
+  -- the ends once it has ended
+  abbrev pub ended_ends : Below → ℕ → Asking → AreAddressed (peer_tag e.core) (packets_in o.events) → Ends
+  ended_ends last acknowledged asking addressed =
+      renewed_ends (grown_ends ends (peer_tag e.core) e.below queued past packets h.sender o.effects more last acknowledged (packets_in o.events) asking) (peer_tag e.core) last (more ++ queued) (after_effects o.effects past)
+      (packets ++ packets_in o.events) (grown ends (peer_tag e.core) e.below queued past packets h.sender o.effects more last acknowledged (packets_in o.events) asking addressed) [] 0 o.after.below 0 [] nothing_asked ends.gets ends.firsts
+
+  pub ended : link_in o.after.core ≡ None → (addressed : AreAddressed (peer_tag e.core) (packets_in o.events)) → (last : Below) → o.after.below ≡ record last { transfer = None }
       → QueueWaits (queued_after e input (ends.sends (peer_tag e.core)).queued) last.queue → AllByRecursion Fits (queued_after e input (ends.sends (peer_tag e.core)).queued) → (acknowledged : ℕ) (asking : Asking)
+      → AreAnswered (ended_ends last acknowledged asking addressed) o.after (after_effects o.effects past) d their_past
       → Run options (ends.firsts (peer_tag e.core)) options.max_receiver_window_buffer_size
       (sender_at (joined (ends.sends (peer_tag e.core)) (ends.gets (peer_tag e.core))) (queued_after e input (ends.sends (peer_tag e.core)).queued) last acknowledged ((ends.sends (peer_tag e.core)).sent ++ packets_in o.events) asking)
       → Turned
-  unfolding more
-  ended none addressed last is shown fit acknowledged asking run =
+  ended none addressed last is shown fit acknowledged asking answered run =
       let key : ℕ = peer_tag e.core in
       let ps : List Emission = packets_in o.events in
       let end : SendingEnd = grown_end ends key e.below queued past packets h.sender o.effects more last acknowledged ps asking in
@@ -131,4 +139,5 @@ module _ (options : Options) (ends : Ends) (e : Endpoint) (queued : List Message
           asks = unlinked_fit o.after (ends.firsts (peer_tag o.after.core)) (later.sends (peer_tag o.after.core)).asking none;
           receiver = receiver_same options ends later.sends d their_past reads h.receiver;
         };
+        answered = answered;
       }

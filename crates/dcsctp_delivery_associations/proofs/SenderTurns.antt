@@ -1,24 +1,37 @@
 -- Each turn of the sender.
-use Rattle.std.proofs.Common.{true, false, Some, ◌≡◌, ◌<◌, ◌^◌, List, [], ◌∷◌, ◌++◌, length, refl, sym, ◌∙◌, ap, arith, subst}
+use Rattle.std.proofs.Common.{None, Some, ◌≡◌, ◌≢◌, ◌<◌, ◌-◌, ◌^◌, ℕ, Option, List, [], ◌∷◌, ◌++◌, length, refl, sym, ◌∙◌, ap, arith, subst}
 use Rattle.std.proofs.lemmas.List.{length-append}
 use Rattle.dcsctp_machine.specs.declared.options.Options.{Options}
-use Rattle.dcsctp_machine.specs.Endpoint.{Endpoint}
+use Rattle.dcsctp_machine.specs.Endpoint.{Endpoint, Core, OutstandingRequest}
 use Rattle.dcsctp_machine.specs.Event.{packets_in}
 use Rattle.dcsctp_machine.specs.Outcome.{Outcome}
 use Rattle.dcsctp_machine.specs.Packet.{Emission}
 use Rattle.dcsctp_machine.specs.Turn.{Input, Turn}
 use Rattle.dcsctp_machine.specs.World.{after_effects}
-use Rattle.dcsctp_machine.specs.control.Effect.{link_in, Effect, link_of}
+use Rattle.dcsctp_machine.specs.control.Effect.{Link, link_in, Effect, link_of}
+use Rattle.dcsctp_machine.specs.transfer.Transfer.{Below}
+use Rattle.dcsctp_machine_agreement.proofs.Growth.{after_within}
+use Rattle.dcsctp_delivery_sending.specs.Places.{set_at}
 use Rattle.dcsctp_delivery_sending.specs.Log.{Message}
-use Rattle.dcsctp_delivery_directions.specs.Directions.{Asking}
+use Rattle.dcsctp_delivery_directions.specs.Directions.{Direction, Asking, Run}
+use Rattle.dcsctp_delivery_directions.proofs.RequestCounts.{requests_more, requests_more_to, requests_are_sent}
 use Rattle.dcsctp_delivery_turns.specs.Actions.{IsOpening, came_by, peer_tag, queued_after, Begun, IsCall}
-use Rattle.dcsctp_delivery_turns.specs.Runs.{EndsPerformed, SenderTurns, run_goes_on, run_ends, run_begins}
+use Rattle.dcsctp_delivery_turns.specs.Addressed.{AreAddressed}
+use Rattle.dcsctp_delivery_turns.specs.Asking.{own_in, own_of, AsksFit, AskingGrows}
+use Rattle.dcsctp_delivery_turns.specs.Runs.{sender_at, IsBetween, EndsPerformed, SenderTurns, run_goes_on, run_ends, run_begins}
+use Rattle.dcsctp_delivery_turns.proofs.Completing.{completes_own}
 use Rattle.dcsctp_delivery_turns.proofs.Runs.{senders_go_on}
-use Rattle.dcsctp_delivery_associations.specs.Ends.{joined, Ends, NewPeer, Between}
-use Rattle.dcsctp_delivery_associations.specs.Laws.{ResetsNone, AreEnds}
+use Rattle.dcsctp_delivery_associations.specs.Ends.{SendingEnd, joined, Ends, NewPeer, Between}
+use Rattle.dcsctp_delivery_associations.specs.Answered.{Answers, requests_of, waits_in, AreAnswered}
+use Rattle.dcsctp_delivery_associations.specs.Laws.{RefusesNone, CompletesPerformed, AsksLittle, AreEnds}
 use Rattle.dcsctp_delivery_associations.specs.Reads.{Read}
+use Rattle.dcsctp_delivery_associations.proofs.AskedOn as asked
+use Rattle.dcsctp_delivery_associations.proofs.AskedOn.{MayEnd, MayBegin}
+use Rattle.dcsctp_delivery_associations.proofs.Counting.{addressed_requests}
 use Rattle.dcsctp_delivery_associations.proofs.Growing.{input_adds}
-use Rattle.dcsctp_delivery_associations.proofs.SenderStays.{goes_on, ended}
+use Rattle.dcsctp_delivery_associations.proofs.SenderAnswers.{some_completed, ends_performed, may_end, may_begin, goes_answers, closes_answers, idle_answers}
+use Rattle.dcsctp_delivery_associations.proofs.Senders.{link_tag, grown_end, grown_ends}
+use Rattle.dcsctp_delivery_associations.proofs.SenderStays.{goes_on, ended_ends, ended}
 use Rattle.dcsctp_delivery_associations.proofs.SenderBegins.{begins}
 
 no_message : (l : List Message) → length l ≡ 0 → l ≡ []
@@ -29,33 +42,175 @@ no_message (m ∷ l) none = absurd (omega arith)
 queues_none : (more queued : List Message) → more ++ queued ≡ queued → more ≡ []
 queues_none more queued same = no_message more (let long = length-append more queued in let one : length (more ++ queued) ≡ length queued = ap (λ (l : List Message). length l) same in omega (arith, long, one))
 
--- No reset ends as performed, with interleaving.
-ends_none : (e : Endpoint) (o : Outcome) (asking : Asking) → ResetsNone e o → EndsPerformed e o asking
-ends_none e o asking none completed interleaved = (let clash : true ≡ false = sym completed ∙ none interleaved in absurd (cc))
-
 -- ---- each turn
 
 module _ (options : Options) (ends : Ends) (e : Endpoint) (queued : List Message) (past : List Effect) (packets : List Emission) (d : Endpoint) (their_past : List Effect) (reads : List Read)
-    (h : Between options ends e queued past packets d their_past reads) (input : Input) (o : Outcome) (new : (begun : Begun e o) → IsOpening (came_by input) → link_in o.after.core ≡ Some (link_of begun.my begun.held) → NewPeer past their_past (link_of begun.my begun.held)) where
-  by_turn : SenderTurns options (ends.firsts (peer_tag e.core)) options.max_receiver_window_buffer_size (joined (ends.sends (peer_tag e.core)) (ends.gets (peer_tag e.core))) e input o
+    (h : Between options ends e queued past packets d their_past reads) (input : Input) (o : Outcome) (new : (begun : Begun e o) → IsOpening (came_by input) → link_in o.after.core ≡ Some (link_of begun.my begun.held) → NewPeer past their_past (link_of begun.my begun.held))
+    (w : AreAnswered ends e past d their_past) (little : AsksLittle (packets ++ packets_in o.events)) where
+  abbrev key : ℕ
+  key = peer_tag e.core
+
+  -- the direction of the current association
+  abbrev now : Direction
+  now = joined (ends.sends (peer_tag e.core)) (ends.gets (peer_tag e.core))
+
+  -- What was begun is little,
+  few_now : length (ends.sends (peer_tag e.core)).asking.requests < 2 ^ 32 - 1
+  few_now =
+      let sent = requests_are_sent options (ends.firsts key) options.max_receiver_window_buffer_size now (h.runs key) in
+      let went = h.sender.few_requests key in
+      let all = requests_more_to key packets (packets_in o.events) in
+      let few = little key in
+      omega (arith, sent, went, all, few)
+
+  -- and so is what is begun in this turn.
+  few_then : AreAddressed (peer_tag e.core) (packets_in o.events) → (below : Below) (acknowledged : ℕ) (asking : Asking)
+      → Run options (ends.firsts (peer_tag e.core)) options.max_receiver_window_buffer_size
+      (sender_at (joined (ends.sends (peer_tag e.core)) (ends.gets (peer_tag e.core))) (queued_after e input (ends.sends (peer_tag e.core)).queued) below acknowledged ((ends.sends (peer_tag e.core)).sent ++ packets_in o.events) asking)
+      → length asking.requests < 2 ^ 32 - 1
+  few_then addressed below acknowledged asking run =
+      let sent =
+      requests_are_sent options (ends.firsts key) options.max_receiver_window_buffer_size
+      (sender_at now (queued_after e input (ends.sends key).queued) below acknowledged ((ends.sends key).sent ++ packets_in o.events) asking) run in
+      let more = requests_more (ends.sends key).sent (packets_in o.events) in
+      let went = h.sender.few_requests key in
+      let goes = addressed_requests key (packets_in o.events) addressed in
+      let all = requests_more_to key packets (packets_in o.events) in
+      let few = little key in
+      omega (arith, sent, more, went, goes, all, few)
+
+  -- ---- in an association
+
+  module _ (link : Link) (linked : link_in e.core ≡ Some link) (may : IsCall input) (turn : Turn e input o) (completes_so : CompletesPerformed their_past o) where
+    key_is : peer_tag e.core ≡ link.peer.tag
+    key_is = link_tag e.core link linked
+
+    answers : Answers (requests_of ends w.pairs) (Some link) past (link_in d.core) their_past (waits_in d.below.transfer)
+    answers = subst (λ (l : Option Link). Answers (requests_of ends w.pairs) l past (link_in d.core) their_past (waits_in d.below.transfer)) linked w.answers
+
+    some : link.peer.tag ≢ 0
+    some = (answers.mine_held link refl).0.some
+
+    kind : (ends.sends link.peer.tag).below.queue.is_interleaved ≡ e.below.queue.is_interleaved
+    kind = sym (ap (λ (t : ℕ). (ends.sends t).below.queue.is_interleaved) key_is) ∙ ap (λ (b : Below). b.queue.is_interleaved) h.sender.below_is
+
+    fits : AsksFit (ends.firsts link.peer.tag) (own_of e) (ends.sends link.peer.tag).asking
+    fits = subst (λ (t : ℕ). AsksFit (ends.firsts t) (own_of e) (ends.sends t).asking) key_is h.asks
+
+    few : length (ends.sends link.peer.tag).asking.requests < 2 ^ 32 - 1
+    few = subst (λ (t : ℕ). length (ends.sends t).asking.requests < 2 ^ 32 - 1) key_is few_now
+
+    performed : EndsPerformed e o (ends.sends (peer_tag e.core)).asking
+    performed =
+        subst (λ (t : ℕ). EndsPerformed e o (ends.sends t).asking) (sym key_is)
+        (ends_performed (requests_of ends w.pairs) link past (link_in d.core) their_past (waits_in d.below.transfer) answers e input o linked kind fits few completes_so may turn)
+
+    may_be : RefusesNone e o → (between : Asking) → IsBetween o.effects (ends.sends (peer_tag e.core)).asking between → MayEnd (requests_of ends w.pairs link.peer.tag) their_past between
+    may_be refuses between is =
+        may_end (requests_of ends w.pairs) link past (link_in d.core) their_past (waits_in d.below.transfer) answers e input o linked kind fits few completes_so may turn refuses between
+        (subst (λ (t : ℕ). IsBetween o.effects (ends.sends t).asking between) key_is is)
+
+    begins_so : (core : Core) (request : Option OutstandingRequest) (between asking : Asking) → link_in core ≡ Some link → AskingGrows between asking → AsksFit (ends.firsts (peer_tag e.core)) (own_in core request) asking
+        → length asking.requests < 2 ^ 32 - 1 → MayBegin (ends.firsts link.peer.tag) between asking
+    begins_so core request between asking there grows fit little' =
+        may_begin (ends.firsts link.peer.tag) core request between asking link there grows (subst (λ (t : ℕ). AsksFit (ends.firsts t) (own_in core request) asking) key_is fit) little'
+
+    -- what becomes of the requests by this end of the turn
+    goes : (after : Endpoint) (end : SendingEnd) → end.below.queue.is_interleaved ≡ e.below.queue.is_interleaved → (between : Asking) → MayEnd (requests_of ends w.pairs link.peer.tag) their_past between
+        → MayBegin (ends.firsts link.peer.tag) between end.asking
+        → Answers (requests_of (record ends { sends = set_at (peer_tag e.core) end ends.sends }) w.pairs) (Some link) (after_effects o.effects past) (link_in d.core) their_past (waits_in d.below.transfer)
+    goes after end same between ended_so begun_so = goes_answers ends e past d their_past w h.sender.below_is after o.effects end same link linked some between end.asking refl few ended_so begun_so
+
+  -- ---- in any turn
+
+  -- Without an association no request ends.
+  idle_performed : link_in e.core ≡ None → IsCall input → Turn e input o → EndsPerformed e o (ends.sends (peer_tag e.core)).asking
+  idle_performed none may turn done interleaved =
+      let found = some_completed o.effects done in
+      let own = completes_own e input o found.0 found.1 may turn found.2 in
+      let clash : ◌≡◌ {A = Option Link} None (Some own.link) = sym none ∙ own.linked in
+      absurd (cc)
+
+  performed_by : (found : Option Link) → link_in e.core ≡ found → IsCall input → Turn e input o → CompletesPerformed their_past o → EndsPerformed e o (ends.sends (peer_tag e.core)).asking
+  performed_by None none may turn completes_so = idle_performed none may turn
+  performed_by (Some link) linked may turn completes_so = performed link linked may turn completes_so
+
+  -- the end of the sender after the turn, with this below
+  abbrev grown_to : Below → ℕ → Asking → SendingEnd
+  grown_to below acknowledged asking = grown_end ends (peer_tag e.core) e.below queued past packets h.sender o.effects (queued_after e input []) below acknowledged (packets_in o.events) asking
+
+  goes_answered : (found : Option Link) → link_in e.core ≡ found → IsCall input → Turn e input o → RefusesNone e o → CompletesPerformed their_past o → link_in o.after.core ≡ link_in e.core
+      → AreAddressed (peer_tag e.core) (packets_in o.events) → o.after.below.queue.is_interleaved ≡ e.below.queue.is_interleaved → (acknowledged : ℕ) (between asking : Asking)
+      → IsBetween o.effects (ends.sends (peer_tag e.core)).asking between → AskingGrows between asking → AsksFit (ends.firsts (peer_tag e.core)) (own_of o.after) asking → length asking.requests < 2 ^ 32 - 1
+      → AreAnswered (grown_ends ends (peer_tag e.core) e.below queued past packets h.sender o.effects (queued_after e input []) o.after.below acknowledged (packets_in o.events) asking) o.after (after_effects o.effects past) d their_past
+  goes_answered None none may turn refuses completes_so linked addressed kind' acknowledged between asking is grows fit little' =
+      record {
+        pairs = w.pairs;
+        answers = subst (λ (l : Option Link). Answers (requests_of (record ends { sends = set_at (peer_tag e.core) (grown_to o.after.below acknowledged asking) ends.sends }) w.pairs) l (after_effects o.effects past) (link_in d.core) their_past (waits_in d.below.transfer))
+            (sym (linked ∙ none)) (idle_answers ends e past d their_past w h.sender.below_is o.after o.effects (grown_to o.after.below acknowledged asking) kind' none (after_effects o.effects past) (after_within o.effects past));
+        unlinked = w.unlinked;
+      }
+  goes_answered (Some link) there may turn refuses completes_so linked addressed kind' acknowledged between asking is grows fit little' =
+      record {
+        pairs = w.pairs;
+        answers = subst (λ (l : Option Link). Answers (requests_of (record ends { sends = set_at (peer_tag e.core) (grown_to o.after.below acknowledged asking) ends.sends }) w.pairs) l (after_effects o.effects past) (link_in d.core) their_past (waits_in d.below.transfer))
+            (sym (linked ∙ there))
+            (goes link there may turn completes_so o.after (grown_to o.after.below acknowledged asking) kind' between (may_be link there may turn completes_so refuses between is)
+            (begins_so link there may turn completes_so o.after.core o.after.outstanding between asking (linked ∙ there) grows fit little'));
+        unlinked = w.unlinked;
+      }
+
+  -- the ends once the association has ended
+  abbrev over : Below → ℕ → Asking → AreAddressed (peer_tag e.core) (packets_in o.events) → Ends
+  over last acknowledged asking addressed = ended_ends options ends e queued past packets d their_past reads h input o last acknowledged asking addressed
+
+  ends_answered : (found : Option Link) → link_in e.core ≡ found → IsCall input → Turn e input o → CompletesPerformed their_past o → link_in o.after.core ≡ None
+      → (addressed : AreAddressed (peer_tag e.core) (packets_in o.events)) (last : Below) → last.queue.is_interleaved ≡ e.below.queue.is_interleaved → (acknowledged : ℕ) (asking : Asking)
+      → AskingGrows (ends.sends (peer_tag e.core)).asking asking → AsksFit (ends.firsts (peer_tag e.core)) (own_of e) asking → length asking.requests < 2 ^ 32 - 1
+      → AreAnswered (over last acknowledged asking addressed) o.after (after_effects o.effects past) d their_past
+  ends_answered None there may turn completes_so none addressed last kind' acknowledged asking grows fit little' =
+      record {
+        pairs = w.pairs;
+        answers = subst (λ (l : Option Link). Answers (requests_of (over last acknowledged asking addressed) w.pairs) l (after_effects o.effects past) (link_in d.core) their_past (waits_in d.below.transfer)) (sym none)
+            (closes_answers ends e past d their_past w h.sender.below_is o.after o.effects (grown_to last acknowledged asking) kind' None (after_effects o.effects past) _
+            (idle_answers ends e past d their_past w h.sender.below_is o.after o.effects (grown_to last acknowledged asking) kind' there (after_effects o.effects past) (after_within o.effects past)));
+        unlinked = w.unlinked;
+      }
+  ends_answered (Some link) there may turn completes_so none addressed last kind' acknowledged asking grows fit little' =
+      record {
+        pairs = w.pairs;
+        answers = subst (λ (l : Option Link). Answers (requests_of (over last acknowledged asking addressed) w.pairs) l (after_effects o.effects past) (link_in d.core) their_past (waits_in d.below.transfer)) (sym none)
+            (closes_answers ends e past d their_past w h.sender.below_is o.after o.effects (grown_to last acknowledged asking) kind' (Some link) (after_effects o.effects past) _
+            (goes link there may turn completes_so o.after (grown_to last acknowledged asking) kind' (ends.sends link.peer.tag).asking as_it_was_asked
+            (begins_so link there may turn completes_so e.core e.outstanding (ends.sends link.peer.tag).asking asking there (subst (λ (t : ℕ). AskingGrows (ends.sends t).asking asking) (link_tag e.core link there) grows) fit little')));
+        unlinked = w.unlinked;
+      }
+    where
+      as_it_was_asked : MayEnd (requests_of ends w.pairs link.peer.tag) their_past (ends.sends link.peer.tag).asking
+      as_it_was_asked = asked.as_it_was
+
+  by_turn : IsCall input → Turn e input o → RefusesNone e o → CompletesPerformed their_past o
+      → SenderTurns options (ends.firsts (peer_tag e.core)) options.max_receiver_window_buffer_size (joined (ends.sends (peer_tag e.core)) (ends.gets (peer_tag e.core))) e input o
       → AreEnds options o.after (queued_after e input queued) (after_effects o.effects past) (packets ++ packets_in o.events) d their_past reads
-  by_turn (run_goes_on linked addressed acknowledged asking grows fits run) = goes_on options ends e queued past packets d their_past reads h input o linked addressed acknowledged asking fits run
-  by_turn (run_ends none addressed last acknowledged asking grows run is shown fit) = ended options ends e queued past packets d their_past reads h input o none addressed last is shown fit acknowledged asking run
-  by_turn (run_begins begun opening linked addressed same shown fit later) =
+  by_turn may turn refuses completes_so (run_goes_on linked addressed kind' acknowledged between asking is grows fit run) =
+      goes_on options ends e queued past packets d their_past reads h input o linked addressed acknowledged asking fit
+      (goes_answered (link_in e.core) refl may turn refuses completes_so linked addressed kind' acknowledged between asking is grows fit (few_then addressed o.after.below acknowledged asking run)) run
+  by_turn may turn refuses completes_so (run_ends none addressed last kind' acknowledged asking grows fit run is shown fit') =
+      ended options ends e queued past packets d their_past reads h input o none addressed last is shown fit' acknowledged asking
+      (ends_answered (link_in e.core) refl may turn completes_so none addressed last kind' acknowledged asking grows fit (few_then addressed last acknowledged asking run)) run
+  by_turn may turn refuses completes_so (run_begins begun opening linked addressed same shown fit later) =
       let none : queued_after e input [] ≡ [] = queues_none (queued_after e input []) (ends.sends (peer_tag e.core)).queued (sym (input_adds e input (ends.sends (peer_tag e.core)).queued) ∙ same) in
       let stays : queued_after e input queued ≡ queued = input_adds e input queued ∙ ap (λ (l : List Message). l ++ queued) none in
       subst (λ (l : List Message). AreEnds options o.after l (after_effects o.effects past) (packets ++ packets_in o.events) d their_past reads) (sym stays)
-      (begins options ends e queued past packets d their_past reads h input o begun (new begun opening linked) linked addressed shown fit later)
+      (begins options ends e queued past packets d their_past reads h input o w little begun (new begun opening linked) linked addressed shown fit later)
 
-  pub sender_turns : length (queued_after e input queued) < 2 ^ 64 → IsCall input → ResetsNone e o → Turn e input o → AreEnds options o.after (queued_after e input queued) (after_effects o.effects past) (packets ++ packets_in o.events) d their_past reads
-  sender_turns few may none turn =
-      by_turn
-      (senders_go_on options (ends.firsts (peer_tag e.core)) options.max_receiver_window_buffer_size (joined (ends.sends (peer_tag e.core)) (ends.gets (peer_tag e.core))) e input o (h.runs (peer_tag e.core)) (h.small (peer_tag e.core))
-      h.sender.below_is h.asks (ends_none e o (ends.sends (peer_tag e.core)).asking none) (λ begun opening linked. (new begun opening linked).small) long may turn)
-    where
-      long : length (queued_after e input (ends.sends (peer_tag e.core)).queued) < 2 ^ 64
-      long =
-          let a = ap (λ (l : List Message). length l) (input_adds e input (ends.sends (peer_tag e.core)).queued) ∙ length-append (queued_after e input []) (ends.sends (peer_tag e.core)).queued in
-          let b = ap (λ (l : List Message). length l) (input_adds e input queued) ∙ length-append (queued_after e input []) queued in
-          let c = h.sender.long in
-          omega (arith, few, a, b, c)
+  pub sender_turns : length (queued_after e input queued) < 2 ^ 64 → RefusesNone e o → CompletesPerformed their_past o → IsCall input → Turn e input o
+      → AreEnds options o.after (queued_after e input queued) (after_effects o.effects past) (packets ++ packets_in o.events) d their_past reads
+  sender_turns few refuses completes_so may turn =
+      by_turn may turn refuses completes_so
+      (senders_go_on options (ends.firsts key) options.max_receiver_window_buffer_size now e input o (h.runs key) (h.small key) h.sender.below_is h.asks
+      (performed_by (link_in e.core) refl may turn completes_so) (λ begun opening linked. (new begun opening linked).small)
+      (let long = ap (λ (l : List Message). length l) (input_adds e input (ends.sends key).queued) ∙ length-append (queued_after e input []) (ends.sends key).queued in
+      let same = ap (λ (l : List Message). length l) (input_adds e input queued) ∙ length-append (queued_after e input []) queued in
+      let size = h.sender.long in
+      omega (arith, few, long, same, size)) may turn)

@@ -19,6 +19,9 @@ use Rattle.dcsctp_delivery_directions.proofs.ChunkCounts.{chunks_more}
 use Rattle.dcsctp_delivery_directions.specs.Directions.{Asking}
 use Rattle.dcsctp_delivery_turns.specs.Actions.{peer_tag}
 use Rattle.dcsctp_delivery_turns.specs.Addressed.{IsAddressed, AreAddressed}
+use Rattle.dcsctp_delivery_directions.specs.Requests.{requests_in, requests_to}
+use Rattle.dcsctp_delivery_directions.proofs.RequestCounts.{requests_more, requests_more_to}
+use Rattle.dcsctp_delivery_associations.proofs.Counting.{addressed_requests}
 use Rattle.dcsctp_delivery_associations.specs.Ends.{SendingEnd, ReceivingEnd, Ends, Leaves, HadPeer, Awaits, IsOfEnds, AreOfEnds, Sender}
 use Rattle.dcsctp_delivery_associations.proofs.Counting.{more_to, addressed_counts}
 use Rattle.dcsctp_delivery_associations.proofs.Growing.{set_all, AllFound, found_later, found_then, found_grown, marked_grown, marked_still}
@@ -146,6 +149,9 @@ module _ (ends : Ends) (key : ℕ) (below : Below) (queued : List Message) (past
         few = set_all (λ tag s. chunks_in s.sent ≤ chunks_to tag (packets ++ ps)) key grown_end ends.sends
             (let a = chunks_more (ends.sends key).sent ps in let b = more_to key packets ps in let c = addressed_counts key ps addressed in let d = h.few key in omega (arith, a, b, c, d))
             (λ tag ne. (let b = more_to tag packets ps in let c = h.few tag in omega (arith, b, c)));
+        few_requests = set_all (λ tag s. requests_in s.sent ≤ requests_to tag (packets ++ ps)) key grown_end ends.sends
+            (let a = requests_more (ends.sends key).sent ps in let b = requests_more_to key packets ps in let c = addressed_requests key ps addressed in let d = h.few_requests key in omega (arith, a, b, c, d))
+            (λ tag ne. (let b = requests_more_to tag packets ps in let c = h.few_requests tag in omega (arith, b, c)));
         last = λ tag ne. subst (λ (s : SendingEnd). Leaves s (grown_ends.sends key).queued) (sym (set_other key tag grown_end ends.sends ne))
             (subst (λ (s : SendingEnd). Leaves (ends.sends tag) s.queued) (sym (set_same key grown_end ends.sends)) (grown_last tag ne));
         pairs = grown_pairs;
@@ -232,6 +238,8 @@ module _ (ends : Ends) (key : ℕ) (below : Below) (queued : List Message) (past
         short = set_all (λ tag s. length s.queued ≤ length queued) to renewed_end ends.sends (let a = are.size in let b = h.long in omega (arith, a, b)) (λ tag ne. h.short tag);
         few = set_all (λ tag s. chunks_in s.sent ≤ chunks_to tag (packets ++ ps)) to renewed_end ends.sends
             (let b = more_to to packets ps in let c = addressed_counts to ps addressed in omega (arith, b, c)) (λ tag ne. (let b = more_to tag packets ps in let c = h.few tag in omega (arith, b, c)));
+        few_requests = set_all (λ tag s. requests_in s.sent ≤ requests_to tag (packets ++ ps)) to renewed_end ends.sends
+            (let b = requests_more_to to packets ps in let c = addressed_requests to ps addressed in omega (arith, b, c)) (λ tag ne. (let b = requests_more_to tag packets ps in let c = h.few_requests tag in omega (arith, b, c)));
         last = λ tag ne. renewed_behind tag to refl ne;
         pairs = renewed_pairs;
         current = had;

@@ -17,6 +17,7 @@ use Rattle.dcsctp_delivery_sending.specs.Flushes.{NoData}
 use Rattle.dcsctp_delivery_sending.specs.ChunkCounts.{chunks_in, chunks_to}
 use Rattle.dcsctp_delivery_sending.specs.Marking.{WaitsNoLonger, FindsMarked, IsMarked}
 use Rattle.dcsctp_delivery_directions.specs.Directions.{Direction, Asking, nothing_asked, Run}
+use Rattle.dcsctp_delivery_directions.specs.Requests.{requests_in, requests_to}
 use Rattle.dcsctp_delivery_turns.specs.Asking.{own_of, AsksFit, SomeFit}
 use Rattle.dcsctp_delivery_turns.specs.Actions.{NoEnd, peer_tag}
 use Rattle.dcsctp_delivery_associations.specs.Reads.{Read, with_tag}
@@ -98,18 +99,20 @@ pub record Sender (ends : Ends) (key : ℕ) (below : Below) (queued : List Messa
   pub marks : (tag place : ℕ) (mark : Message) → at_place place (ends.sends tag).queued ≡ Some mark → FindsMarked mark queued place
   pub short : (tag : ℕ) → length (ends.sends tag).queued ≤ length queued
   pub few : (tag : ℕ) → chunks_in (ends.sends tag).sent ≤ chunks_to tag packets
+  pub few_requests : (tag : ℕ) → requests_in (ends.sends tag).sent ≤ requests_to tag packets
   pub last : (tag : ℕ) → tag ≢ key → Leaves (ends.sends tag) (ends.sends key).queued
   pub pairs : (one other : ℕ) → one ≢ other → Leaves (ends.sends one) (ends.sends other).queued ⊎ Leaves (ends.sends other) (ends.sends one).queued
   pub current : key ≢ 0 → HadPeer past key (ends.firsts key)
   pub begun : (tag : ℕ) → tag ≢ 0 → Awaits (ends.sends tag) ⊎ HadPeer past tag (ends.firsts tag)
   pub all_sent : AreOfEnds ends packets
 
--- What an association that begins at the sender has to be: its peer's tag is a new one, and at the receiver it is of the matching one.
+-- What an association that begins at the sender has to be: its peer's tag is a new one, and what the receiver had under one of its tags is
+-- the matching one.
 pub record NewPeer (past their_past : List Effect) (link : Link) : Type 0 where
   pub some : link.peer.tag ≢ 0
   pub small : link.my.first_tsn < 2 ^ 32
   pub other : (old : Link) → Has (holds old) past → old.peer.tag ≢ link.peer.tag
-  pub match : (theirs : Link) → Has (holds theirs) their_past → theirs.my.tag ≡ link.peer.tag → theirs.peer ≡ link.my
+  pub match : (theirs : Link) → Has (holds theirs) their_past → (theirs.my.tag ≡ link.peer.tag) ⊎ (theirs.peer.tag ≡ link.my.tag) → (theirs.peer ≡ link.my) × (theirs.my.tag ≡ link.peer.tag)
 
 -- ---- the receiver
 
@@ -135,13 +138,13 @@ pub record Receiver (options : Options) (ends : Ends) (e : Endpoint) (past : Lis
   pub were_read : (tag : ℕ) → with_tag tag reads ≡ (ends.gets tag).read
   pub begun : (tag : ℕ) → (ends.gets tag ≡ new_end options (ends.firsts tag)) ⊎ HadTag past tag (ends.firsts tag)
 
--- What an association that begins at the receiver has to be.
+-- What an association that begins at the receiver has to be: both tags are new ones.
 pub record NewTag (past their_past : List Effect) (link : Link) : Type 0 where
   pub some : link.my.tag ≢ 0
   pub small : link.peer.first_tsn < 2 ^ 32
   pub own_small : link.my.first_tsn < 2 ^ 32
-  pub other : (old : Link) → Has (holds old) past → old.my.tag ≢ link.my.tag
-  pub match : (theirs : Link) → Has (holds theirs) their_past → theirs.peer.tag ≡ link.my.tag → theirs.my ≡ link.peer
+  pub other : (old : Link) → Has (holds old) past → (old.my.tag ≢ link.my.tag) × (old.peer.tag ≢ link.peer.tag)
+  pub match : (theirs : Link) → Has (holds theirs) their_past → (theirs.peer.tag ≡ link.my.tag) ⊎ (theirs.my.tag ≡ link.peer.tag) → (theirs.my ≡ link.peer) × (theirs.peer.tag ≡ link.my.tag)
 
 -- ---- both
 

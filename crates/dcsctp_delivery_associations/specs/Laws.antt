@@ -1,5 +1,5 @@
 -- What is known of all associations of two sockets, in the direction from one to the other, turn by turn, with interleaving or without.
-use Rattle.std.specs.Prelude.{◌<◌, ◌^◌, true, false, Some, List, [], ◌++◌, length, ◌≡◌, ℕ}
+use Rattle.std.specs.Prelude.{◌≡◌, ◌≢◌, ◌⊎◌, ◌<◌, ◌-◌, ◌^◌, true, false, Some, List, [], ◌++◌, length, ℕ}
 use Rattle.dcsctp_machine.specs.declared.options.Options.{Options}
 use Rattle.dcsctp_machine.specs.Settings.{SameOptions}
 use Rattle.dcsctp_machine.specs.Endpoint.{Endpoint, fresh_endpoint}
@@ -14,19 +14,34 @@ use Rattle.dcsctp_delivery_sending.specs.Log.{Message}
 use Rattle.dcsctp_delivery_sending.specs.ChunkCounts.{chunks_to}
 use Rattle.dcsctp_delivery_directions.specs.Directions.{Delivered}
 use Rattle.dcsctp_delivery_turns.specs.Actions.{IsOpening, came_by, queued_after, Begun, IsCall}
-use Rattle.dcsctp_machine.specs.turns.ResetOutcomes.{has_completed}
+use Rattle.dcsctp_delivery_turns.specs.Actions.{has_refused}
+use Rattle.dcsctp_delivery_turns.specs.PeerRequests.{KnowsPeerIn}
+use Rattle.dcsctp_machine.specs.declared.association.Pair.{Pair}
+use Rattle.dcsctp_machine.specs.Past.{Has}
+use Rattle.dcsctp_machine.specs.control.Effect.{holds, completes, performs}
+use Rattle.dcsctp_delivery_directions.specs.Requests.{requests_to}
+use Rattle.dcsctp_delivery_associations.specs.Answered.{number_at, AreAnswered}
 use Rattle.dcsctp_delivery_turns.specs.Sides.{WasSent}
 use Rattle.dcsctp_delivery_associations.specs.Ends.{Ends, NewPeer, NewTag, Between}
 use Rattle.dcsctp_delivery_associations.specs.Reads.{Read, reads_after, messages_of}
 
--- In an association with interleaving no reset of own streams is performed: the numbers of their messages would begin at 0 again.
-abbrev pub ResetsNone : Endpoint → Outcome → Type 0
-ResetsNone e o = e.below.queue.is_interleaved ≡ true → has_completed o.effects ≡ false
+-- In an association with interleaving no own request to reset streams is refused.
+abbrev pub RefusesNone : Endpoint → Outcome → Type 0
+RefusesNone e o = e.below.queue.is_interleaved ≡ true → has_refused o.effects ≡ false
+
+-- An own request that ends as performed was performed by the peer, or it is the 2^32nd of its association.
+abbrev pub CompletesPerformed : List Effect → Outcome → Type 0
+CompletesPerformed their_past o = (my : Pair) (number : ℕ) → Has (completes my number) o.effects → Has (performs my number) their_past ⊎ (number ≡ number_at my.first_tsn (2 ^ 32 - 1))
+
+-- Fewer than 2^32 - 1 requests to reset streams went to each tag.
+abbrev pub AsksLittle : List Emission → Type 0
+AsksLittle packets = (tag : ℕ) → requests_to tag packets < 2 ^ 32 - 1
 
 -- There are ends for what was done so far.
 pub record AreEnds (options : Options) (e : Endpoint) (queued : List Message) (past : List Effect) (packets : List Emission) (other : Endpoint) (their_past : List Effect) (reads : List Read) : Type 0 where
   pub ends : Ends
   pub between : Between options ends e queued past packets other their_past reads
+  pub answered : AreAnswered ends e past other their_past
 
 -- Two sockets that were just made have them; `options` are those of the receiver.
 abbrev pub EndsBegin : Type 0
@@ -36,14 +51,15 @@ EndsBegin = (mine options : Options) → AreEnds options (fresh_endpoint mine) [
 abbrev pub SendersTurn : Type 0
 SendersTurn =
     (options : Options) (ends : Ends) (e : Endpoint) (queued : List Message) (past : List Effect) (packets : List Emission) (other : Endpoint) (their_past : List Effect) (reads : List Read) (input : Input) (o : Outcome)
-    → Between options ends e queued past packets other their_past reads → ((begun : Begun e o) → IsOpening (came_by input) → link_in o.after.core ≡ Some (link_of begun.my begun.held) → NewPeer past their_past (link_of begun.my begun.held)) → length (queued_after e input queued) < 2 ^ 64 → IsCall input → ResetsNone e o
-    → Turn e input o → AreEnds options o.after (queued_after e input queued) (after_effects o.effects past) (packets ++ packets_in o.events) other their_past reads
+    → Between options ends e queued past packets other their_past reads → AreAnswered ends e past other their_past → ((begun : Begun e o) → IsOpening (came_by input) → link_in o.after.core ≡ Some (link_of begun.my begun.held) → NewPeer past their_past (link_of begun.my begun.held)) → length (queued_after e input queued) < 2 ^ 64 → AsksLittle (packets ++ packets_in o.events)
+    → RefusesNone e o → CompletesPerformed their_past o → IsCall input → Turn e input o → AreEnds options o.after (queued_after e input queued) (after_effects o.effects past) (packets ++ packets_in o.events) other their_past reads
 
--- So does one of the receiver, if what is handled in its association was sent in it.
+-- So does one of the receiver, if what is handled in its association was sent in it, and each that is noted is of a new tag.
 abbrev pub ReceiversTurn : Type 0
 ReceiversTurn =
     (options : Options) (ends : Ends) (e : Endpoint) (queued : List Message) (past : List Effect) (packets : List Emission) (other : Endpoint) (their_past : List Effect) (reads : List Read) (input : Input) (o : Outcome)
-    → Between options ends e queued past packets other their_past reads → length queued < 2 ^ 64 → SameOptions options other.options → ((begun : Begun other o) → IsOpening (came_by input) → link_in o.after.core ≡ Some (link_of begun.my begun.held) → NewTag their_past past (link_of begun.my begun.held))
+    → Between options ends e queued past packets other their_past reads → AreAnswered ends e past other their_past → length queued < 2 ^ 64 → AsksLittle packets → SameOptions options other.options → KnowsPeerIn their_past other.core
+    → ((link old : Link) → Has (holds link) o.effects → Has (holds old) their_past → old.my.tag ≢ link.my.tag) → ((begun : Begun other o) → IsOpening (came_by input) → link_in o.after.core ≡ Some (link_of begun.my begun.held) → NewTag their_past past (link_of begun.my begun.held))
     → ((transfer : Transfer) (link : Link) → other.below.transfer ≡ Some transfer → link_in other.core ≡ Some link → WasSent (ends.sends link.my.tag).sent (came_by input)) → IsCall input → Turn other input o
     → AreEnds options e queued past packets o.after (after_effects o.effects their_past) (reads_after other input reads)
 

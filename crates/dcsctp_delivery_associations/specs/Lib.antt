@@ -1,3 +1,4 @@
 pub mod Reads
 pub mod Ends
+pub mod Answered
 pub mod Laws

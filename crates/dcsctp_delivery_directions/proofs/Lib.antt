@@ -9,3 +9,5 @@ pub mod Steps
 pub mod Directions
 pub mod Marking
 pub mod ChunkCounts
+pub mod Requests
+pub mod RequestCounts

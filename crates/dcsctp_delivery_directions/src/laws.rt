@@ -2,6 +2,7 @@
 
 ghost use Rattle.dcsctp_delivery_directions.specs.Directions.{DirectionsDeliver};
 ghost use Rattle.dcsctp_delivery_directions.specs.Marking.{DirectionsDeliverForGood};
+ghost use Rattle.dcsctp_delivery_directions.specs.Requests.{RequestsWereBegun, RequestsAreSent};
 
 /// One direction of an association, over every schedule that loses, repeats, delays and reorders what was sent: each
 /// message that a user reads is one that the other user queued, and none is read twice.
@@ -13,4 +14,11 @@ pub fn directions_deliver()
 /// association begins, and isn't read there.
 pub fn directions_deliver_for_good()
     ensures { DirectionsDeliverForGood }
+{}
+
+/// Each request to reset streams that a sender sends is one that it has begun (RFC 6525, section 5.1.2), and at least
+/// as many were sent as were begun.
+pub fn requests_are_begun()
+    ensures begun { RequestsWereBegun }
+    ensures sent { RequestsAreSent }
 {}

@@ -4,4 +4,4 @@
 
 mod laws;
 
-pub use laws::{directions_deliver, directions_deliver_for_good};
+pub use laws::{directions_deliver, directions_deliver_for_good, requests_are_begun};

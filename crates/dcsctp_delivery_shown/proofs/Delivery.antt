@@ -11,6 +11,6 @@ pub deliver : SocketsDeliver → ShownTagsSuffice → (options : Both Options) (
 deliver law tags options [] are in_memory runs = tt
 deliver law tags options (worked ∷ earlier) are in_memory runs = (
   (λ honest fresh allows. law options (worked ∷ earlier) are in_memory runs honest fresh
-      (record { tags = tags options (worked ∷ earlier) are runs honest fresh allows.tags; little = allows.little; numbers = allows.numbers })),
+      (record { tags = tags options (worked ∷ earlier) are runs honest fresh allows.tags; little = allows.little; refused = allows.refused })),
   deliver law tags options earlier are in_memory.1 runs.1,
 )

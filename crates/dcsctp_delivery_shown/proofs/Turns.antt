@@ -109,7 +109,7 @@ module _ (kinds : Capabilities) where
   own_ends : (happened : List Effect) (old new : Inside) → InsideIs old → OwnEnds happened old new → InsideIs new
   own_ends happened old _ h unended = h
   own_ends happened old new h (committed done own is) = record { left = h.left; asks = ends_fit happened old new (committed done own is) h.asks }
-  own_ends happened old new h (rolled_back own is) = record { left = h.left; asks = ends_fit happened old new (rolled_back own is) h.asks }
+  own_ends happened old new h (rolled_back done own is) = record { left = h.left; asks = ends_fit happened old new (rolled_back done own is) h.asks }
 
   peer_resets : (came : Option Content) (happened : List Effect) (old new : Inside) → InsideIs old → PeerResets came happened old new → InsideIs new
   peer_resets came happened old _ h (unreset none) = h
@@ -155,7 +155,7 @@ module _ (kinds : Capabilities) where
   becomes_is came to adds taken e o h so (works_resets linked between worked ended peer makes) =
       let worked_is : InsideIs worked = peer_resets came o.effects between worked (own_ends o.effects (inside e) between (record { left = h.left; asks = h.asks }) ended) peer in
       stays_is came e o h linked (makes_is came to adds taken worked (inside o.after) (packets_in o.events) worked_is makes)
-  becomes_is came to adds taken e o h so (ends none unread last makes is) =
+  becomes_is came to adds taken e o h so (ends none unread last own makes is) =
       let made : MadeIs last (packets_in o.events) = makes_is came to adds taken (inside e) last (packets_in o.events) (record { left = h.left; asks = h.asks }) makes in
       record {
         moves = link_ends none;

@@ -5,15 +5,15 @@ use Rattle.dcsctp_machine.specs.declared.schedule.Side.{Side}
 use Rattle.dcsctp_machine.specs.Schedule.{AreHonest}
 use Rattle.dcsctp_machine.specs.Sockets.{Worked, Both, of_side, turns_after, SocketRun, acts_of}
 use Rattle.dcsctp_machine_refinement.specs.Agreement.{AreUsable, AreFresh}
-use Rattle.dcsctp_delivery_sockets.specs.Delivery.{AreInMemory, SendsLittle, KeepNumbers, Delivers}
+use Rattle.dcsctp_delivery_sockets.specs.Delivery.{AreInMemory, SendsLittle, NoneRefused, Delivers}
 use Rattle.dcsctp_delivery_shown.specs.Shown.{ShownTagsServeOnce}
 
 -- All that delivery asks of a run, beside what agreement asks: each verification tag serves one association, not too much is sent to it,
--- and with interleaving no own reset is performed.
+-- and with interleaving no own request to reset streams is refused.
 pub record AllowsDelivery (options : Both Options) (run : List Worked) : Type 0 where
   pub tags : ShownTagsServeOnce options run
   pub little : (side : Side) → SendsLittle (of_side side options) (of_side side (turns_after run))
-  pub numbers : KeepNumbers options (turns_after run)
+  pub refused : NoneRefused options (turns_after run)
 
 -- At the end of each first part of the run that is honest and allows it, with no tag drawn twice, what each user read is what the other
 -- sent.

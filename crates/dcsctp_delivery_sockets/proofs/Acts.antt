@@ -20,9 +20,10 @@ use Rattle.dcsctp_machine_agreement.proofs.Growth.{after_effects-append}
 use Rattle.dcsctp_machine_refinement.proofs.Bursts.{packets_in-append}
 use Rattle.dcsctp_delivery_sending.specs.Log.{Message}
 use Rattle.dcsctp_delivery_sending.specs.Places as places
+use Rattle.dcsctp_delivery_directions.proofs.RequestCounts.{requests_more_to}
 use Rattle.dcsctp_delivery_turns.specs.Actions.{came_by, queued_after, IsCall}
 use Rattle.dcsctp_delivery_turns.specs.Sides.{WasSent}
-use Rattle.dcsctp_delivery_associations.specs.Laws.{AreEnds}
+use Rattle.dcsctp_delivery_associations.specs.Laws.{AsksLittle, AreEnds}
 use Rattle.dcsctp_delivery_associations.specs.Reads.{Read, reads_after}
 use Rattle.dcsctp_delivery_sockets.specs.Acts.{queued_through, AreTurns, AreNewPeers}
 use Rattle.dcsctp_delivery_sockets.specs.Echoes.{GoesToMaker}
@@ -42,19 +43,29 @@ queued_grows e (t ∷ turns) queued =
     let first = ap (λ (l : List Message). length l) (input_adds e t.input queued) ∙ length-append (queued_after e t.input []) queued in
     omega (arith, rest, first)
 
+-- the packets of a turn and of those behind it
+packets_apart : (packets : List Emission) (t : Turned) (turns : List Turned) → (packets ++ packets_in t.outcome.events) ++ packets_in (events_of turns) ≡ packets ++ packets_in (events_of (t ∷ turns))
+packets_apart packets t turns = append_assoc packets (packets_in t.outcome.events) (packets_in (events_of turns)) ∙ ap (λ (l : List Emission). packets ++ l) (sym (packets_in-append t.outcome.events (events_of turns)))
+
+-- What all packets ask is no less than what the first ones ask.
+asks_little : (packets more : List Emission) → AsksLittle (packets ++ more) → AsksLittle packets
+asks_little packets more little tag = (let both = requests_more_to tag packets more in let few = little tag in omega (arith, both, few))
+
 module _ (options : Options) (d : Endpoint) (their_past : List Effect) (reads : List Read) where
   pub senders_act : (turns : List Turned) (e : Endpoint) (queued : List Message) (past : List Effect) (packets : List Emission) → AreEnds options e queued past packets d their_past reads → AreTurns e turns
-      → AreNewPeers past their_past e turns → length (queued_through e turns queued) < 2 ^ 64
+      → AreNewPeers past their_past e turns → length (queued_through e turns queued) < 2 ^ 64 → AsksLittle (packets ++ packets_in (events_of turns))
       → AreEnds options (after_all e turns) (queued_through e turns queued) (after_effects (effects_of turns) past) (packets ++ packets_in (events_of turns)) d their_past reads
-  senders_act [] e queued past packets h taken new few = subst (λ (l : List Emission). AreEnds options e queued past l d their_past reads) (sym (append-nil packets)) h
-  senders_act (t ∷ turns) e queued past packets h taken new few =
+  senders_act [] e queued past packets h taken new few little = subst (λ (l : List Emission). AreEnds options e queued past l d their_past reads) (sym (append-nil packets)) h
+  senders_act (t ∷ turns) e queued past packets h taken new few little =
       let grows = queued_grows t.outcome.after turns (queued_after e t.input queued) in
-      let first = sender_turns options h.ends e queued past packets d their_past reads h.between t.input t.outcome new.1 (omega (arith, few, grows)) new.0 new.2 taken.0 in
-      let rest = senders_act turns t.outcome.after (queued_after e t.input queued) (after_effects t.outcome.effects past) (packets ++ packets_in t.outcome.events) first taken.1 new.3 few in
+      let all : AsksLittle ((packets ++ packets_in t.outcome.events) ++ packets_in (events_of turns)) = subst AsksLittle (sym (packets_apart packets t turns)) little in
+      let first = sender_turns options h.ends e queued past packets d their_past reads h.between t.input t.outcome new.1 h.answered
+      (asks_little (packets ++ packets_in t.outcome.events) (packets_in (events_of turns)) all) (omega (arith, few, grows)) new.2 new.3 new.0 taken.0 in
+      let rest = senders_act turns t.outcome.after (queued_after e t.input queued) (after_effects t.outcome.effects past) (packets ++ packets_in t.outcome.events) first taken.1 new.4 few all in
       subst (λ (l : List Effect). AreEnds options (after_all t.outcome.after turns) (queued_through t.outcome.after turns (queued_after e t.input queued)) l (packets ++ packets_in (t.outcome.events ++ events_of turns)) d their_past reads)
       (sym (after_effects-append t.outcome.effects (effects_of turns) past))
       (subst (λ (l : List Emission). AreEnds options (after_all t.outcome.after turns) (queued_through t.outcome.after turns (queued_after e t.input queued)) (after_effects (effects_of turns) (after_effects t.outcome.effects past)) l d their_past reads)
-      (append_assoc packets (packets_in t.outcome.events) (packets_in (events_of turns)) ∙ ap (λ (l : List Emission). packets ++ l) (sym (packets_in-append t.outcome.events (events_of turns)))) rest)
+      (packets_apart packets t turns) rest)
 
 -- ---- the receiver
 
@@ -74,14 +85,14 @@ none_sent sent (inputs.timer_expires timer) none = tt
 none_sent sent (inputs.time_passes moment) none = tt
 none_sent sent (inputs.restores state) none = tt
 
-module _ (options : Options) (e : Endpoint) (queued : List Message) (past : List Effect) (packets : List Emission) (few : length queued < 2 ^ 64) where
+module _ (options : Options) (e : Endpoint) (queued : List Message) (past : List Effect) (packets : List Emission) (few : length queued < 2 ^ 64) (little : AsksLittle packets) where
   pub receivers_act : (turns : List Turned) (d : Endpoint) (their_past : List Effect) (reads : List Read) → AreEnds options e queued past packets d their_past reads → NoChunks turns → AreTurns d turns
       → AllByRecursion (λ turn. IsCall turn.input) turns → AreNewTags options their_past past d turns
       → AreEnds options e queued past packets (after_all d turns) (after_effects (effects_of turns) their_past) (reads_through d turns reads)
   receivers_act [] d their_past reads h none taken may new = h
   receivers_act (t ∷ turns) d their_past reads h none taken may new =
-      let first = receiver_turns options h.ends e queued past packets d their_past reads h.between few new.0 t.input t.outcome new.1 (λ transfer link there linked. none_sent (h.ends.sends link.my.tag).sent t.input none.0) may.0 taken.0 in
-      let rest = receivers_act turns t.outcome.after (after_effects t.outcome.effects their_past) (reads_after d t.input reads) first none.1 taken.1 may.1 new.2 in
+      let first = receiver_turns options h.ends e queued past packets d their_past reads h.between few new.0 t.input t.outcome new.1 h.answered little new.3 may.0 taken.0 new.2 (λ transfer link there linked. none_sent (h.ends.sends link.my.tag).sent t.input none.0) in
+      let rest = receivers_act turns t.outcome.after (after_effects t.outcome.effects their_past) (reads_after d t.input reads) first none.1 taken.1 may.1 new.4 in
       subst (λ (l : List Effect). AreEnds options e queued past packets (after_all t.outcome.after turns) l (reads_through t.outcome.after turns (reads_after d t.input reads)))
       (sym (after_effects-append t.outcome.effects (effects_of turns) their_past)) rest
 
@@ -106,13 +117,13 @@ module _ (options : Options) (e : Endpoint) (queued : List Message) (past : List
       two (t ∷ u ∷ v ∷ turns) new taken = absurd taken.1.1
   receivers_handle d their_past reads emission bytes turns h has go is new (readable packet counted ts is_packet counting admitted) =
       let a = one_turn d their_past reads arrival counted tt tt counting in
-      let first = receivers_act (counted ∷ []) d their_past reads h (a.0, tt) (a.2, tt) (a.1, tt) (new.0, new.1, tt) in
+      let first = receivers_act (counted ∷ []) d their_past reads h (a.0, tt) (a.2, tt) (a.1, tt) (new.0, new.1, new.2, new.3, tt) in
       let core : counted.outcome.after.core ≡ d.core = ap (λ (x : Outcome). x.after.core) counting.comes in
       let same : AdmittedTurns counted.outcome.after emission.packet (admits counted.outcome.after.core emission.packet) ts =
       subst (λ (c : Core). AdmittedTurns counted.outcome.after emission.packet (admits c emission.packet) ts) (sym core)
       (subst (λ (p : Packet). AdmittedTurns counted.outcome.after p (admits d.core p) ts) (is packet is_packet) admitted) in
       subst (λ (l : List Effect). AreEnds options e queued past packets (after_all counted.outcome.after ts) l (reads_through counted.outcome.after ts (reads_after d counted.input reads)))
       (sym (after_effects-append counted.outcome.effects (effects_of ts) their_past))
-      (packet_goes options e queued past packets few emission has counted.outcome.after (after_effects counted.outcome.effects their_past) (reads_after d counted.input reads) ts
-      (subst (λ (l : List Effect). AreEnds options e queued past packets counted.outcome.after (after_effects l their_past) (reads_after d counted.input reads)) (append-nil counted.outcome.effects) first) new.2 go
+      (packet_goes options e queued past packets few little emission has counted.outcome.after (after_effects counted.outcome.effects their_past) (reads_after d counted.input reads) ts
+      (subst (λ (l : List Effect). AreEnds options e queued past packets counted.outcome.after (after_effects l their_past) (reads_after d counted.input reads)) (append-nil counted.outcome.effects) first) new.4 go
       (admits counted.outcome.after.core emission.packet) refl same)

@@ -9,7 +9,7 @@ use Rattle.dcsctp_machine.specs.declared.options.Options.{Options}
 use Rattle.dcsctp_machine.specs.declared.schedule.Side.{Side}
 use Rattle.dcsctp_machine.specs.declared.schedule.Side.TheVariants as sides
 use Rattle.dcsctp_machine.specs.Schedule.{StepContent, call_step, delivery_step, ActContent, step_act, outside_act, IsHonestAct, AreHonest}
-use Rattle.dcsctp_machine.specs.Settings.{SameOptions, FitsOptions, wire_options, ports_of}
+use Rattle.dcsctp_machine.specs.Settings.{FitsOptions, wire_options, ports_of}
 use Rattle.dcsctp_machine.specs.CallTurns.{Turned, HandleInput, events_of}
 use Rattle.dcsctp_machine.specs.Endpoint.{Endpoint, fresh_endpoint}
 use Rattle.dcsctp_machine.specs.Event.{Event, sent, packets_in}
@@ -23,7 +23,7 @@ use Rattle.dcsctp_machine_refinement.proofs.Deliver.{IsSent, sent_at, reads_as_s
 use Rattle.dcsctp_machine_refinement.proofs.Moves.{Below}
 use Rattle.dcsctp_machine_refinement.proofs.Sent.{all_sent_map}
 use Rattle.dcsctp_machine_refinement.proofs.SocketsAgree.{Joined, joined}
-use Rattle.dcsctp_machine_refinement.proofs.SocketsAlone.{Moves, it_rests, it_moves, MoveLaws, of_moves}
+use Rattle.dcsctp_machine_refinement.proofs.SocketsAlone.{MoveLaws, of_moves}
 use Rattle.dcsctp_delivery_sending.specs.Places as places
 use Rattle.dcsctp_delivery_associations.specs.Reads.{messages_of}
 use Rattle.dcsctp_delivery_directions.specs.Directions.{Delivered}
@@ -33,7 +33,9 @@ use Rattle.dcsctp_delivery_sockets.specs.Delivery.{FitsStep, AreInMemory, MatchB
 use Rattle.dcsctp_delivery_associations.proofs.Delivers.{ends_begin, ends_deliver}
 use Rattle.dcsctp_delivery_sockets.proofs.Calls.{AreCalls, call_without, call_is, input_is}
 use Rattle.dcsctp_delivery_sockets.proofs.Echoes.{echoes_go_to_makers}
-use Rattle.dcsctp_delivery_sockets.proofs.NewLinks.{KeepsOptions, AllOpenFitting, none_open, matched_swapped, packet_opens}
+use Rattle.dcsctp_delivery_sockets.proofs.KnownPeers.{IsMove}
+use Rattle.dcsctp_delivery_sockets.proofs.NewLinks.{AllOpenFitting, none_open, matched_swapped, AllPerformed, packet_opens}
+use Rattle.dcsctp_delivery_sockets.proofs.Performed.{BothPerformed, both_performed, fresh_front}
 use Rattle.dcsctp_delivery_sockets.proofs.Known.{own_turn, IsOwn, GoodPacket, SideKnown, BothKnown, both_front}
 use Rattle.dcsctp_delivery_sockets.proofs.Stands.{Stand, queued_of, packets_of, reads_of, queued_same, sender_more, receiver_calls, receiver_handles, few_queued}
 use Rattle.dcsctp_delivery_sockets.proofs.UserMessages.{turns_read, is_delivered}
@@ -59,8 +61,9 @@ record ActedSide (mine theirs : Options) (turns others more : List Turned) : Typ
   sends : Stand mine theirs (turns ++ more) others
   receives : Stand theirs mine others (turns ++ more)
 
-module _ (law : Below) (mine theirs : Options) (turns others more : List Turned) (fits : FitsEndpoint (endpoint_after mine turns)) (own : SameOptions mine (endpoint_after mine turns).options) (their_fits : FitsOptions theirs)
-    (known : SideKnown mine (turns ++ more)) (their_known : SideKnown theirs others) (matched : MatchByTags (noted_past (turns ++ more)) (noted_past others)) (sends : Stand mine theirs turns others)
+module _ (law : Below) (mine theirs : Options) (turns others more : List Turned) (fits : FitsEndpoint (endpoint_after mine turns)) (their_fits : FitsOptions theirs)
+    (known : SideKnown mine (turns ++ more)) (their_known : SideKnown theirs others) (matched : MatchByTags (noted_past (turns ++ more)) (noted_past others))
+    (performed : AllPerformed (noted_past (turns ++ more)) (noted_past others)) (sends : Stand mine theirs turns others)
     (receives : Stand theirs mine others turns) where
   nothing_done : more ≡ [] → ActedSide mine theirs turns others more
   nothing_done none =
@@ -76,8 +79,8 @@ module _ (law : Below) (mine theirs : Options) (turns others more : List Turned)
       λ packet found. reads_as_sent law.built e.options theirs out.emission packet their_fits out.good.good.sendable (subst (λ (bs : List ℕ). IsPacket (wire_options e.options) packet bs) out.is found) in
       let opens : AllOpenFitting more = packet_opens law.offers e bytes out.emission more fits out.good.good.sendable is taken in
       record {
-        sends = sender_more mine theirs turns others more sends known matched (input_is e bytes more taken) opens;
-        receives = receiver_handles theirs mine others turns more receives known (matched_swapped (noted_past (turns ++ more)) (noted_past others) matched) own their_known.little bytes out.emission out.good.has
+        sends = sender_more mine theirs turns others more sends known matched performed (input_is e bytes more taken) opens;
+        receives = receiver_handles theirs mine others turns more receives known (matched_swapped (noted_past (turns ++ more)) (noted_past others) matched) their_known.little bytes out.emission out.good.has
             out.good.good is taken opens;
       }
 
@@ -91,8 +94,8 @@ module _ (law : Below) (mine theirs : Options) (turns others more : List Turned)
   side_acts (call_step which call) in_memory taken =
       let calls : AreCalls more = call_is (endpoint_after mine turns) call more in_memory taken in
       record {
-        sends = sender_more mine theirs turns others more sends known matched calls (none_open more (call_without (endpoint_after mine turns) call more taken));
-        receives = receiver_calls theirs mine others turns more receives known (matched_swapped (noted_past (turns ++ more)) (noted_past others) matched) own their_known.little call taken calls;
+        sends = sender_more mine theirs turns others more sends known matched performed calls (none_open more (call_without (endpoint_after mine turns) call more taken));
+        receives = receiver_calls theirs mine others turns more receives known (matched_swapped (noted_past (turns ++ more)) (noted_past others) matched) their_known.little call taken calls;
       }
   side_acts (delivery_step which zero) in_memory none = nothing_done none
   side_acts (delivery_step which (suc index)) in_memory taken = delivered index (slice_get (packets_shown theirs others) index) refl taken
@@ -104,28 +107,30 @@ record BothStand (options : Both Options) (turns : Both (List Turned)) : Type 0 
   to_a : Stand options.b options.a turns.b turns.a
 
 stepped : Below → (options : Both Options) (turns : Both (List Turned)) (step : StepContent) (more : List Turned) (side : Side) → AreUsable options → Joined options turns → BothKnown options (with_turns side more turns)
-    → FitsStep step → BothStand options turns → StepTurns (endpoint_after (of_side side options) (of_side side turns)) (packets_shown (of_other side options) (of_other side turns)) step more
+    → BothPerformed (with_turns side more turns) → FitsStep step → BothStand options turns → StepTurns (endpoint_after (of_side side options) (of_side side turns)) (packets_shown (of_other side options) (of_other side turns)) step more
     → BothStand options (with_turns side more turns)
-stepped law options turns step more sides.A are j known in_memory h taken =
-    let done = side_acts law options.a options.b turns.a turns.b more j.a.fits j.a.own_options (are sides.B).fits known.a known.b known.matched h.to_b h.to_a step in_memory taken in
+stepped law options turns step more sides.A are j known performed in_memory h taken =
+    let done = side_acts law options.a options.b turns.a turns.b more j.a.fits (are sides.B).fits known.a known.b known.matched performed.a h.to_b h.to_a step in_memory taken in
     record { to_b = done.sends; to_a = done.receives }
-stepped law options turns step more sides.B are j known in_memory h taken =
-    let done = side_acts law options.b options.a turns.b turns.a more j.b.fits j.b.own_options (are sides.A).fits known.b known.a
-    (matched_swapped (noted_past turns.a) (noted_past (turns.b ++ more)) known.matched) h.to_a h.to_b step in_memory taken in
+stepped law options turns step more sides.B are j known performed in_memory h taken =
+    let done = side_acts law options.b options.a turns.b turns.a more j.b.fits (are sides.A).fits known.b known.a
+    (matched_swapped (noted_past turns.a) (noted_past (turns.b ++ more)) known.matched) performed.b h.to_a h.to_b step in_memory taken in
     record { to_b = done.receives; to_a = done.sends }
 
 acted : Below → (options : Both Options) (turns : Both (List Turned)) (act : ActContent) (more : List Turned) → AreUsable options → IsHonestAct act → AreInMemory (act ∷ []) → Joined options turns
-    → BothKnown options (with_turns (side_of_act act) more turns) → BothStand options turns → NextTurns options turns act more → BothStand options (with_turns (side_of_act act) more turns)
-acted law options turns (step_act step) more are honest in_memory j known h taken = stepped law options turns step more (side_of step) are j known in_memory.0 h taken
-acted law options turns (outside_act outside) more are honest in_memory j known h taken = absurd honest
+    → BothKnown options (with_turns (side_of_act act) more turns) → BothPerformed (with_turns (side_of_act act) more turns) → BothStand options turns → NextTurns options turns act more → BothStand options (with_turns (side_of_act act) more turns)
+acted law options turns (step_act step) more are honest in_memory j known performed h taken = stepped law options turns step more (side_of step) are j known performed in_memory.0 h taken
+acted law options turns (outside_act outside) more are honest in_memory j known performed h taken = absurd honest
 
-both_stand : Below → (options : Both Options) (run : List Worked) → AreUsable options → SocketRun options run → AreHonest (acts_of run) → AreInMemory (acts_of run) → BothKnown options (turns_after run)
+both_stand : Below → AnswerKeepsAgreement → (options : Both Options) (run : List Worked) → AreUsable options → SocketRun options run → AreHonest (acts_of run) → AreFresh (turns_after run) → AreInMemory (acts_of run)
+    → BothKnown options (turns_after run)
     → BothStand options (turns_after run)
-both_stand law options [] are runs honest in_memory known = record { to_b = ends_begin options.a options.b; to_a = ends_begin options.b options.a }
-both_stand law options (worked ∷ earlier) are runs honest in_memory known =
+both_stand law answers options [] are runs honest fresh in_memory known = record { to_b = ends_begin options.a options.b; to_a = ends_begin options.b options.a }
+both_stand law answers options (worked ∷ earlier) are runs honest fresh in_memory known =
     let before : BothKnown options (turns_after earlier) = both_front options (turns_after earlier) (side_of_act worked.act) worked.turns known in
     acted law options (turns_after earlier) worked.act worked.turns are honest.0 (in_memory.0, tt) (joined law options earlier are runs.1 honest.1) known
-    (both_stand law options earlier are runs.1 honest.1 in_memory.1 before) runs.0
+    (both_performed law answers options (worked ∷ earlier) are runs honest fresh)
+    (both_stand law answers options earlier are runs.1 honest.1 (fresh_front (turns_after earlier) (side_of_act worked.act) worked.turns fresh) in_memory.1 before) runs.0
 
 -- ---- what is known of a run
 
@@ -134,10 +139,6 @@ pub record DeliveryLaws : Type 0 where
   pub below : Below
   pub answers : AnswerKeepsAgreement
   pub moves : MoveLaws
-
-keeps_options : (e : Endpoint) (t : Turned) → Moves e t.outcome → KeepsOptions e t
-keeps_options e t (it_rests core options effects told) = options
-keeps_options e t (it_moves change turn is) = is.options
 
 good_one : (event : Event Emission) → OfSent IsSendable event → OfSent GoesToMaker event → OfSent GoodPacket event
 good_one (sent emission) sendable goes = record { sendable = sendable; goes = goes }
@@ -154,19 +155,19 @@ both_known law options run are runs honest fresh allows =
     record {
       a = record {
         own = run_along IsOwn own_turn options run runs sides.A;
-        keeps = of_moves law.moves KeepsOptions keeps_options options run are runs sides.A;
+        moves = of_moves law.moves IsMove (λ e t moves. moves) options run are runs sides.A;
         packets = good_all (events_of (turns_after run).a) (all_sent_map (λ emission went. went.sendable) (events_of (turns_after run).a) j.a.went)
             (echoes_go_to_makers law.below law.answers options run are runs honest fresh sides.A);
-        numbers = allows.numbers sides.A;
+        refused = allows.refused sides.A;
         tags = allows.tags.a;
         little = allows.little sides.A;
       };
       b = record {
         own = run_along IsOwn own_turn options run runs sides.B;
-        keeps = of_moves law.moves KeepsOptions keeps_options options run are runs sides.B;
+        moves = of_moves law.moves IsMove (λ e t moves. moves) options run are runs sides.B;
         packets = good_all (events_of (turns_after run).b) (all_sent_map (λ emission went. went.sendable) (events_of (turns_after run).b) j.b.went)
             (echoes_go_to_makers law.below law.answers options run are runs honest fresh sides.B);
-        numbers = allows.numbers sides.B;
+        refused = allows.refused sides.B;
         tags = allows.tags.b;
         little = allows.little sides.B;
       };
@@ -186,7 +187,7 @@ one_way mine theirs turns others little h =
 
 pub sockets_deliver : DeliveryLaws → SocketsDeliver
 sockets_deliver law options run are in_memory runs honest fresh allows side =
-    both_deliver (both_stand law.below options run are runs honest in_memory (both_known law options run are runs honest fresh allows)) side
+    both_deliver (both_stand law.below law.answers options run are runs honest fresh in_memory (both_known law options run are runs honest fresh allows)) side
   where
     both_deliver : BothStand options (turns_after run) → (s : Side) → Delivers options (turns_after run) s
     both_deliver h sides.A = one_way options.b options.a (turns_after run).b (turns_after run).a (allows.little sides.B) h.to_a

@@ -20,12 +20,15 @@ use Rattle.dcsctp_machine_agreement.proofs.Growth.{after_effects-append}
 use Rattle.dcsctp_machine_refinement.specs.Agreement.{noted_past}
 use Rattle.dcsctp_machine_refinement.proofs.Bursts.{packets_in-append}
 use Rattle.dcsctp_delivery_sending.specs.ChunkCounts.{chunks_to}
+use Rattle.dcsctp_delivery_directions.specs.Requests.{requests_to}
+use Rattle.dcsctp_delivery_directions.proofs.RequestCounts.{requests_more_to}
 use Rattle.dcsctp_delivery_sockets.specs.Acts.{AreTurns}
 use Rattle.dcsctp_delivery_sockets.specs.Echoes.{GoesToMaker}
 use Rattle.dcsctp_delivery_sockets.specs.UserMessages.{sent_in, sent_of}
-use Rattle.dcsctp_delivery_sockets.specs.Delivery.{IsOfNewTags, MatchByTags, SendsLittle, KeepsNumbers}
+use Rattle.dcsctp_delivery_sockets.specs.Delivery.{IsOfNewTags, MatchByTags, SendsLittle, IsUnrefused}
 use Rattle.dcsctp_delivery_associations.proofs.Counting.{more_to}
-use Rattle.dcsctp_delivery_sockets.proofs.NewLinks.{KeepsOptions, each_earlier, matched_earlier}
+use Rattle.dcsctp_delivery_sockets.proofs.KnownPeers.{each_earlier, IsMove, RanTo, run_starts, run_through}
+use Rattle.dcsctp_delivery_sockets.proofs.NewLinks.{matched_earlier}
 
 -- ---- lists of turns and of events
 
@@ -69,8 +72,8 @@ pub record GoodPacket (emission : Emission) : Type 0 where
 
 pub record SideKnown (options : Options) (turns : List Turned) : Type 0 where
   pub own : AlongTurns IsOwn (fresh_endpoint options) turns
-  pub keeps : AlongTurns KeepsOptions (fresh_endpoint options) turns
-  pub numbers : AlongTurns KeepsNumbers (fresh_endpoint options) turns
+  pub moves : AlongTurns IsMove (fresh_endpoint options) turns
+  pub refused : AlongTurns IsUnrefused (fresh_endpoint options) turns
   pub packets : AllSent GoodPacket (events_of turns)
   pub tags : Each IsOfNewTags (noted_past turns)
   pub little : SendsLittle options turns
@@ -79,8 +82,8 @@ pub side_front : (options : Options) (turns more : List Turned) → SideKnown op
 side_front options turns more h =
     record {
       own = along_front IsOwn (fresh_endpoint options) turns more h.own;
-      keeps = along_front KeepsOptions (fresh_endpoint options) turns more h.keeps;
-      numbers = along_front KeepsNumbers (fresh_endpoint options) turns more h.numbers;
+      moves = along_front IsMove (fresh_endpoint options) turns more h.moves;
+      refused = along_front IsUnrefused (fresh_endpoint options) turns more h.refused;
       packets = sent_front GoodPacket (events_of turns) (events_of more) (subst (AllSent GoodPacket) (events_of-append turns more) h.packets);
       tags = each_earlier IsOfNewTags (effects_of more) (noted_past turns) (subst (Each IsOfNewTags) (past_more turns more) h.tags);
       little =
@@ -95,6 +98,11 @@ side_front options turns more h =
                 ∙ more_to tag (packets_in (events_of turns)) (packets_in (events_of more)) in
                 let few = h.little.chunks tag in
                 omega (arith, both, few));
+            requests = λ tag.
+                (let both = ap (requests_to tag) (ap packets_in (events_of-append turns more) ∙ packets_in-append (events_of turns) (events_of more))
+                ∙ requests_more_to tag (packets_in (events_of turns)) (packets_in (events_of more)) in
+                let few = h.little.requests tag in
+                omega (arith, both, few));
           };
     }
 
@@ -102,11 +110,15 @@ side_front options turns more h =
 pub rest_turns : (options : Options) (turns more : List Turned) → SideKnown options (turns ++ more) → AreTurns (endpoint_after options turns) more
 rest_turns options turns more h = are_turns (endpoint_after options turns) more (along_rest IsOwn (fresh_endpoint options) turns more h.own)
 
-pub rest_keeps : (options : Options) (turns more : List Turned) → SideKnown options (turns ++ more) → AlongTurns KeepsOptions (endpoint_after options turns) more
-rest_keeps options turns more h = along_rest KeepsOptions (fresh_endpoint options) turns more h.keeps
+pub rest_moves : (options : Options) (turns more : List Turned) → SideKnown options (turns ++ more) → AlongTurns IsMove (endpoint_after options turns) more
+rest_moves options turns more h = along_rest IsMove (fresh_endpoint options) turns more h.moves
 
-pub rest_numbers : (options : Options) (turns more : List Turned) → SideKnown options (turns ++ more) → AlongTurns KeepsNumbers (endpoint_after options turns) more
-rest_numbers options turns more h = along_rest KeepsNumbers (fresh_endpoint options) turns more h.numbers
+pub rest_refused : (options : Options) (turns more : List Turned) → SideKnown options (turns ++ more) → AlongTurns IsUnrefused (endpoint_after options turns) more
+rest_refused options turns more h = along_rest IsUnrefused (fresh_endpoint options) turns more h.refused
+
+-- A side ran to where the act begins.
+pub ran_front : (options : Options) (turns more : List Turned) → SideKnown options (turns ++ more) → RanTo options (endpoint_after options turns) (noted_past turns)
+ran_front options turns more h = run_through options turns (fresh_endpoint options) [] (run_starts options) (along_front IsMove (fresh_endpoint options) turns more h.moves)
 
 -- ---- both sides
 

@@ -4,7 +4,9 @@ pub mod PacketTurns
 pub mod Calls
 pub mod Acts
 pub mod UserMessages
+pub mod KnownPeers
 pub mod NewLinks
+pub mod Performed
 pub mod Known
 pub mod Stands
 pub mod Delivery

@@ -1,11 +1,12 @@
 -- An association that begins in an act is of new tags, and its numbers fit their fields.
-use Rattle.std.proofs.Common.{◌≡◌, ◌≢◌, ℕ, Bool, true, false, ◌≤◌, List, [], ◌∷◌, ◌++◌, refl, sym, ap, arith, subst, inl, inr}
+use Rattle.std.proofs.Common.{◌≡◌, ◌≢◌, ◌⊎◌, ℕ, Bool, true, false, ◌≤◌, ◌-◌, ◌^◌, List, [], ◌∷◌, ◌++◌, refl, sym, ap, arith, subst, inl, inr}
 use Rattle.std.specs.Prelude.{Some}
 use Rattle.std.specs.List.{AllByRecursion}
 use Rattle.dcsctp_wire.specs.Content.{PacketContent}
 use Rattle.dcsctp_wire.specs.Format.{IsPacket}
+use Rattle.dcsctp_machine.specs.declared.association.Pair.{Pair}
 use Rattle.dcsctp_machine.specs.declared.options.Options.{Options}
-use Rattle.dcsctp_machine.specs.Settings.{SameOptions, wire_options}
+use Rattle.dcsctp_machine.specs.Settings.{wire_options}
 use Rattle.dcsctp_machine.specs.Admission.{Admission, all_chunks, shutdown_acks_alone, refused, admits, shutdown_acks_in}
 use Rattle.dcsctp_machine.specs.CallTurns.{Turned, IsTurn, Turns, AlongTurns, AdmittedTurns, HandleInput, unreadable, readable, effects_of}
 use Rattle.dcsctp_machine.specs.Endpoint.{Endpoint, Core, closed, cookie_wait, cookie_echoed, open_in, established, shutdown_pending, shutdown_sent, shutdown_received, shutdown_ack_sent}
@@ -16,15 +17,17 @@ use Rattle.dcsctp_machine.specs.Packet.{Packet, packet_in, Emission}
 use Rattle.dcsctp_machine.specs.Past.{Has, Each}
 use Rattle.dcsctp_machine.specs.Turn.{Input, arrival, refusal, packet_begins, chunk_input, packet_ends, act_input, user_sets, user_sends, user_resets, user_takes, timer_expires, time_passes, restores, has_data, BeginTurn, unreadable_text}
 use Rattle.dcsctp_machine.specs.World.{after_effects}
-use Rattle.dcsctp_machine.specs.control.Effect.{Link, Effect, holds, link_of, link_in}
-use Rattle.dcsctp_machine.proofs.TurnLemmas.{same_after}
+use Rattle.dcsctp_machine.specs.control.Effect.{Link, Effect, holds, completes, performs, link_of, link_in}
 use Rattle.dcsctp_machine_agreement.proofs.Growth.{after_effects-append, after_within}
 use Rattle.dcsctp_machine_refinement.proofs.Deliver.{Fits, chunk_turns_fit, packet_end_fits, nothing_ends, acks_sendable}
+use Rattle.dcsctp_machine_refinement.proofs.Signs.{among_after}
 use Rattle.dcsctp_delivery_turns.specs.Actions.{came_by, IsOpening, Begun}
+use Rattle.dcsctp_delivery_associations.specs.Answered.{number_at}
 use Rattle.dcsctp_delivery_associations.specs.Ends.{NewPeer, NewTag}
 use Rattle.dcsctp_delivery_sockets.specs.Acts.{AreNewPeers}
 use Rattle.dcsctp_delivery_sockets.specs.Packets.{AreNewTags}
-use Rattle.dcsctp_delivery_sockets.specs.Delivery.{KeepsNumbers, IsOfNewTags, MatchByTags}
+use Rattle.dcsctp_delivery_sockets.specs.Delivery.{IsUnrefused, IsOfNewTags, MatchByTags}
+use Rattle.dcsctp_delivery_sockets.proofs.KnownPeers.{each_earlier, IsMove, RanTo, next_run, ran_knows}
 use Rattle.dcsctp_delivery_sockets.proofs.Calls.{NoChunk, NoChunks, AreCalls}
 
 -- ---- where an association begins, its numbers fit
@@ -124,9 +127,13 @@ not_zero n some zero = absurd (omega arith)
 
 -- ---- its tags are new
 
-pub each_earlier : (Rule : Effect → List Effect → Type 0) (effects past : List Effect) → Each Rule (after_effects effects past) → Each Rule past
-each_earlier Rule [] past each = each
-each_earlier Rule (effect ∷ effects) past each = (each_earlier Rule effects (effect ∷ past) each).1
+-- Each association that was noted is of another own tag than those before.
+new_noted : (effects past : List Effect) → Each IsOfNewTags (after_effects effects past) → (link old : Link) → Has (holds link) effects → Has (holds old) past → old.my.tag ≢ link.my.tag
+new_noted [] past each link old has before = absurd has
+new_noted (effect ∷ effects) past each link old (inl is) before =
+    let rule : IsOfNewTags (holds link) past = subst (λ (x : Effect). IsOfNewTags x past) (sym is) (each_earlier IsOfNewTags effects (effect ∷ past) each).0 in
+    (rule old before).0
+new_noted (effect ∷ effects) past each link old (inr has) before = new_noted effects (effect ∷ past) each link old has (inr before)
 
 pub matched_earlier : (mine theirs effects more : List Effect) → MatchByTags (after_effects effects mine) (after_effects more theirs) → MatchByTags mine theirs
 matched_earlier mine theirs effects more matched link other has has' share = matched link other (after_within effects mine (holds link) has) (after_within more theirs (holds other) has') share
@@ -164,7 +171,7 @@ module _ (e : Endpoint) (o : Outcome) (begun : Begun e o) (rest past their_past 
         some = not_zero begun_link.peer.tag its_fits.peer.tag_is_not_zero;
         small = its_fits.my.first_tsn;
         other = λ old has. (is_new old has).1;
-        match = λ theirs has same. sym (matched begun_link theirs was_noted has (inr (sym same))).0;
+        match = λ theirs has same. (let both = matched begun_link theirs was_noted has (elim same [ inl e ↦ inr (sym e) | inr e ↦ inl (sym e) ]) in (sym both.0, ap (λ (p : Pair). p.tag) (sym both.1)));
       }
 
   pub new_tag : NewTag past their_past (link_of begun.my begun.held)
@@ -174,8 +181,8 @@ module _ (e : Endpoint) (o : Outcome) (begun : Begun e o) (rest past their_past 
         some = not_zero begun_link.my.tag its_fits.my.tag_is_not_zero;
         small = its_fits.peer.first_tsn;
         own_small = its_fits.my.first_tsn;
-        other = λ old has. (is_new old has).0;
-        match = λ theirs has same. sym (matched begun_link theirs was_noted has (inl (sym same))).1;
+        other = is_new;
+        match = λ theirs has same. (let both = matched begun_link theirs was_noted has (elim same [ inl e ↦ inl (sym e) | inr e ↦ inr (sym e) ]) in (sym both.1, ap (λ (p : Pair). p.tag) (sym both.0)));
       }
 
 -- ---- over the turns of an act
@@ -183,29 +190,34 @@ module _ (e : Endpoint) (o : Outcome) (begun : Begun e o) (rest past their_past 
 after_first : (first rest past : List Effect) → after_effects (first ++ rest) past ≡ after_effects rest (after_effects first past)
 after_first first rest past = after_effects-append first rest past
 
-pub new_peers : (their_past : List Effect) (turns : List Turned) (past : List Effect) (e : Endpoint) → AreCalls turns → AlongTurns KeepsNumbers e turns → AllOpenFitting turns → Each IsOfNewTags (after_effects (effects_of turns) past)
-    → MatchByTags (after_effects (effects_of turns) past) their_past → AreNewPeers past their_past e turns
-new_peers their_past [] past e calls numbers opens each matched = tt
-new_peers their_past (t ∷ turns) past e calls numbers opens each matched =
-    let split = after_first t.outcome.effects (effects_of turns) past in (
+-- Each own request that was performed, as far as this past knows, the other side has performed; or it is the 2^32nd of its association.
+abbrev pub AllPerformed : List Effect → List Effect → Type 0
+AllPerformed past their_past = (my : Pair) (number : ℕ) → Has (completes my number) past → Has (performs my number) their_past ⊎ (number ≡ number_at my.first_tsn (2 ^ 32 - 1))
+
+pub new_peers : (their_past : List Effect) (turns : List Turned) (past : List Effect) (e : Endpoint) → AreCalls turns → AlongTurns IsUnrefused e turns → AllOpenFitting turns → Each IsOfNewTags (after_effects (effects_of turns) past)
+    → MatchByTags (after_effects (effects_of turns) past) their_past → AllPerformed (after_effects (effects_of turns) past) their_past → AreNewPeers past their_past e turns
+new_peers their_past [] past e calls unrefused opens each matched performed = tt
+new_peers their_past (t ∷ turns) past e calls unrefused opens each matched performed =
+    let split = after_first t.outcome.effects (effects_of turns) past in
+    let later : AllPerformed (after_effects (effects_of turns) (after_effects t.outcome.effects past)) their_past = subst (λ (p : List Effect). AllPerformed p their_past) split performed in (
       calls.0,
       (λ begun opening linked. new_peer e t.outcome begun (effects_of turns) past their_past (opens.0 opening) linked each matched),
-      numbers.0,
-      new_peers their_past turns (after_effects t.outcome.effects past) t.outcome.after calls.1 numbers.1 opens.1 (subst (Each IsOfNewTags) split each)
-          (subst (λ (p : List Effect). MatchByTags p their_past) split matched),
+      unrefused.0,
+      (λ my number has. later my number (after_within (effects_of turns) (after_effects t.outcome.effects past) (completes my number) (among_after (completes my number) t.outcome.effects past has))),
+      new_peers their_past turns (after_effects t.outcome.effects past) t.outcome.after calls.1 unrefused.1 opens.1 (subst (Each IsOfNewTags) split each)
+          (subst (λ (p : List Effect). MatchByTags p their_past) split matched) later,
     )
 
--- Each turn leaves the options.
-abbrev pub KeepsOptions : Endpoint → Turned → Type 0
-KeepsOptions e turn = SameOptions e.options turn.outcome.after.options
-
-pub new_tags : (options : Options) (past : List Effect) (turns : List Turned) (their_past : List Effect) (e : Endpoint) → SameOptions options e.options → AlongTurns KeepsOptions e turns → AllOpenFitting turns
+pub new_tags : (options : Options) (past : List Effect) (turns : List Turned) (their_past : List Effect) (e : Endpoint) → RanTo options e their_past → AlongTurns IsMove e turns → AllOpenFitting turns
     → Each IsOfNewTags (after_effects (effects_of turns) their_past) → MatchByTags (after_effects (effects_of turns) their_past) past → AreNewTags options their_past past e turns
-new_tags options past [] their_past e own along opens each matched = tt
-new_tags options past (t ∷ turns) their_past e own along opens each matched =
-    let split = after_first t.outcome.effects (effects_of turns) their_past in (
-      own,
+new_tags options past [] their_past e ran along opens each matched = tt
+new_tags options past (t ∷ turns) their_past e ran along opens each matched =
+    let split = after_first t.outcome.effects (effects_of turns) their_past in
+    let later : Each IsOfNewTags (after_effects (effects_of turns) (after_effects t.outcome.effects their_past)) = subst (Each IsOfNewTags) split each in (
+      ran.same,
       (λ begun opening linked. new_tag e t.outcome begun (effects_of turns) their_past past (opens.0 opening) linked each matched),
-      new_tags options past turns (after_effects t.outcome.effects their_past) t.outcome.after (same_after options e.options t.outcome.after.options own along.0) along.1 opens.1 (subst (Each IsOfNewTags) split each)
+      ran_knows options e their_past ran,
+      new_noted t.outcome.effects their_past (each_earlier IsOfNewTags (effects_of turns) (after_effects t.outcome.effects their_past) later),
+      new_tags options past turns (after_effects t.outcome.effects their_past) t.outcome.after (next_run options e their_past t ran along.0) along.1 opens.1 later
           (subst (λ (p : List Effect). MatchByTags p past) split matched),
     )

@@ -2,7 +2,6 @@
 use Rattle.std.proofs.Common.{◌≡◌, ℕ, Bool, true, false, ◌<◌, ◌^◌, Some, List, [], ◌∷◌, length, refl, sym, ◌∙◌, ap, subst, inl, inr}
 use Rattle.std.specs.Prelude.{◌⊎◌}
 use Rattle.dcsctp_machine.specs.declared.options.Options.{Options}
-use Rattle.dcsctp_machine.specs.Settings.{SameOptions}
 use Rattle.dcsctp_machine.specs.Admission.{Admission, all_chunks, shutdown_acks_alone, refused, admits, is_echo_in_front, shutdown_acks_in}
 use Rattle.dcsctp_machine.specs.CallTurns.{Turned, IsTurn, Turns, AfterChunk, ChunkTurns, WholeTurns, AdmittedTurns, after_all, effects_of}
 use Rattle.dcsctp_machine.specs.Endpoint.{Endpoint, Core, closed, cookie_wait, cookie_echoed, open_in, established, shutdown_pending, shutdown_sent, shutdown_received, shutdown_ack_sent, own_tag}
@@ -11,16 +10,16 @@ use Rattle.dcsctp_machine.specs.Outcome.{Outcome}
 use Rattle.dcsctp_machine.specs.Packet.{Content, init, init_ack, cookie_echo, cookie_ack, re_config, abort, shutdown, shutdown_ack, shutdown_complete, plain, Emission}
 use Rattle.dcsctp_machine.specs.Turn.{Input, refusal, packet_begins, chunk_input, packet_ends, has_data, BeginTurn}
 use Rattle.dcsctp_machine.specs.World.{after_effects}
-use Rattle.dcsctp_machine.specs.control.Effect.{Link, Effect, link_of, link_in}
+use Rattle.dcsctp_machine.specs.control.Effect.{Link, Effect, link_in}
 use Rattle.dcsctp_machine.specs.transfer.Transfer.{Transfer}
 use Rattle.dcsctp_machine_agreement.proofs.Growth.{after_effects-append}
 use Rattle.dcsctp_delivery_sending.specs.Log.{Message}
 use Rattle.dcsctp_delivery_sending.specs.Places as places
 use Rattle.dcsctp_delivery_sending.specs.Flushes.{NoData}
-use Rattle.dcsctp_delivery_turns.specs.Actions.{IsOpening, came_by, Begun, IsCall}
+use Rattle.dcsctp_delivery_turns.specs.Actions.{IsOpening, came_by, IsCall}
 use Rattle.dcsctp_delivery_turns.specs.Sides.{WasSent}
-use Rattle.dcsctp_delivery_associations.specs.Ends.{Ends, IsOfEnds, NewTag}
-use Rattle.dcsctp_delivery_associations.specs.Laws.{AreEnds}
+use Rattle.dcsctp_delivery_associations.specs.Ends.{Ends, IsOfEnds}
+use Rattle.dcsctp_delivery_associations.specs.Laws.{AsksLittle, AreEnds}
 use Rattle.dcsctp_delivery_associations.specs.Reads.{Read, reads_after}
 use Rattle.dcsctp_delivery_sockets.specs.Echoes.{AllMayFollow, ContentsGo, GoesToMaker}
 use Rattle.dcsctp_delivery_sockets.specs.Packets.{reads_through, AreNewTags}
@@ -54,7 +53,7 @@ acks_none (shutdown t ∷ contents) = acks_none contents
 acks_none (shutdown_complete r ∷ contents) = acks_none contents
 acks_none (plain c ∷ contents) = acks_none contents
 
-module _ (options : Options) (e : Endpoint) (queued : List Message) (past : List Effect) (packets : List Emission) (few : length queued < 2 ^ 64) (emission : Emission) (has : places.Has emission packets) where
+module _ (options : Options) (e : Endpoint) (queued : List Message) (past : List Effect) (packets : List Emission) (few : length queued < 2 ^ 64) (little : AsksLittle packets) (emission : Emission) (has : places.Has emission packets) where
   abbrev Have : Endpoint → List Effect → List Read → Type 0
   Have d their_past reads = AreEnds options e queued past packets d their_past reads
 
@@ -68,19 +67,20 @@ module _ (options : Options) (e : Endpoint) (queued : List Message) (past : List
   then_others d their_past reads t turns rest =
       subst (λ (l : List Effect). Have (after_all t.outcome.after turns) l (reads_through t.outcome.after turns (reads_after d t.input reads))) (sym (after_effects-append t.outcome.effects (effects_of turns) their_past)) rest
 
-  one_turn : (d : Endpoint) (their_past : List Effect) (reads : List Read) (input : Input) (t : Turned) → (h : Have d their_past reads) → IsTurn d input t → SameOptions options d.options
-      → ((begun : Begun d t.outcome) → IsOpening (came_by t.input) → link_in t.outcome.after.core ≡ Some (link_of begun.my begun.held) → NewTag their_past past (link_of begun.my begun.held))
+  one_turn : (d : Endpoint) (their_past : List Effect) (reads : List Read) (input : Input) (t : Turned) → (h : Have d their_past reads) → IsTurn d input t
+      → AreNewTags options their_past past d (t ∷ [])
       → ((transfer : Transfer) (link : Link) → d.below.transfer ≡ Some transfer → link_in d.core ≡ Some link → WasSent (h.ends.sends link.my.tag).sent (came_by input)) → IsCall input
       → Have t.outcome.after (after_effects t.outcome.effects their_past) (reads_after d t.input reads)
-  one_turn d their_past reads input t h turn same new sent may =
+  one_turn d their_past reads input t h turn new sent may =
       subst (λ (i : Input). Have t.outcome.after (after_effects t.outcome.effects their_past) (reads_after d i reads)) (sym turn.is)
-      (receiver_turns options h.ends e queued past packets d their_past reads h.between few same input t.outcome (λ begun opening linked. new begun (subst (λ (i : Input). IsOpening (came_by i)) (sym turn.is) opening) linked) sent may turn.comes)
+      (receiver_turns options h.ends e queued past packets d their_past reads h.between few new.0 input t.outcome (λ begun opening linked. new.1 begun (subst (λ (i : Input). IsOpening (came_by i)) (sym turn.is) opening) linked)
+      h.answered little new.3 may turn.comes new.2 sent)
 
-  chunk_turn : (d : Endpoint) (their_past : List Effect) (reads : List Read) (tag : ℕ) (content : Content) (t : Turned) → Have d their_past reads → IsTurn d (chunk_input tag content) t → SameOptions options d.options
-      → ((begun : Begun d t.outcome) → IsOpening (came_by t.input) → link_in t.outcome.after.core ≡ Some (link_of begun.my begun.held) → NewTag their_past past (link_of begun.my begun.held)) → MayHandle emission d content
+  chunk_turn : (d : Endpoint) (their_past : List Effect) (reads : List Read) (tag : ℕ) (content : Content) (t : Turned) → Have d their_past reads → IsTurn d (chunk_input tag content) t
+      → AreNewTags options their_past past d (t ∷ []) → MayHandle emission d content
       → Have t.outcome.after (after_effects t.outcome.effects their_past) (reads_after d t.input reads)
-  chunk_turn d their_past reads tag content t h turn same new may =
-      one_turn d their_past reads (chunk_input tag content) t h turn same new
+  chunk_turn d their_past reads tag content t h turn new may =
+      one_turn d their_past reads (chunk_input tag content) t h turn new
       (λ transfer link there linked.
       (let c = h.between.receiver.current transfer there in
       was_sent h.ends emission (of_ends h.ends emission packets h.between.sender.all_sent has) d link linked (λ zero. c.had.some (own_link c.link link c.linked linked ∙ zero)) content may)) tt
@@ -95,7 +95,7 @@ module _ (options : Options) (e : Endpoint) (queued : List Message) (past : List
   ends_go : (d : Endpoint) (their_past : List Effect) (reads : List Read) (turns : List Turned) → Have d their_past reads → AreNewTags options their_past past d turns → Turns d (packet_ends ∷ []) turns → Leave d their_past reads turns
   ends_go d their_past reads [] h new taken = absurd taken
   ends_go d their_past reads (t ∷ []) h new taken =
-      then_others d their_past reads t [] (one_turn d their_past reads packet_ends t h taken.0 new.0 new.1 (λ transfer link there linked. tt) tt)
+      then_others d their_past reads t [] (one_turn d their_past reads packet_ends t h taken.0 (new.0, new.1, new.2, new.3, tt) (λ transfer link there linked. tt) tt)
   ends_go d their_past reads (t ∷ other ∷ turns) h new taken = absurd taken.1
 
   tail_goes : (d : Endpoint) (their_past : List Effect) (reads : List Read) (tail : List Input) (turns : List Turned) → Have d their_past reads → AreNewTags options their_past past d turns → IsTail tail → Turns d tail turns
@@ -132,10 +132,10 @@ module _ (options : Options) (e : Endpoint) (queued : List Message) (past : List
   chunks_go [] d their_past reads tag tail turns h new is may taken = tail_goes d their_past reads tail turns h new is taken
   chunks_go (content ∷ contents) d their_past reads tag tail [] h new is may taken = absurd taken
   chunks_go (content ∷ contents) d their_past reads tag tail (t ∷ turns) h new is may taken =
-      let first = chunk_turn d their_past reads tag content t h taken.0 new.0 new.1 (first_may d content contents may) in
+      let first = chunk_turn d their_past reads tag content t h taken.0 (new.0, new.1, new.2, new.3, tt) (first_may d content contents may) in
       then_others d their_past reads t turns
-      (after_chunk t.outcome.following t.outcome.after (after_effects t.outcome.effects their_past) (reads_after d t.input reads) tail turns (ChunkTurns t.outcome.after tag contents tail turns) first new.2 is
-      (λ more. chunks_go contents t.outcome.after (after_effects t.outcome.effects their_past) (reads_after d t.input reads) tag tail turns first new.2 is (rest_may d content contents tag t taken.0 may) more) taken.1)
+      (after_chunk t.outcome.following t.outcome.after (after_effects t.outcome.effects their_past) (reads_after d t.input reads) tail turns (ChunkTurns t.outcome.after tag contents tail turns) first new.4 is
+      (λ more. chunks_go contents t.outcome.after (after_effects t.outcome.effects their_past) (reads_after d t.input reads) tag tail turns first new.4 is (rest_may d content contents tag t taken.0 may) more) taken.1)
 
   -- ---- the first chunk
 
@@ -174,16 +174,16 @@ module _ (options : Options) (e : Endpoint) (queued : List Message) (past : List
   tagged_go [] is d their_past reads turns h new go own taken = ends_go d their_past reads turns h new taken
   tagged_go (content ∷ contents) is d their_past reads [] h new go own taken = absurd taken
   tagged_go (content ∷ contents) is d their_past reads (t ∷ turns) h new go own taken =
-      let first = chunk_turn d their_past reads emission.packet.tag content t h taken.0 new.0 new.1 (front_may d content contents is own) in
+      let first = chunk_turn d their_past reads emission.packet.tag content t h taken.0 (new.0, new.1, new.2, new.3, tt) (front_may d content contents is own) in
       then_others d their_past reads t turns (more t.outcome.following refl first taken.1)
     where
       more : (following : Following) → t.outcome.following ≡ following → Have t.outcome.after (after_effects t.outcome.effects their_past) (reads_after d t.input reads)
           → AfterChunk following (ChunkTurns t.outcome.after emission.packet.tag contents (packet_ends ∷ []) turns) (Turns t.outcome.after (packet_ends ∷ []) turns) (turns ≡ [])
           → Leave t.outcome.after (after_effects t.outcome.effects their_past) (reads_after d t.input reads) turns
       more next_chunk next first rest =
-          chunks_go contents t.outcome.after (after_effects t.outcome.effects their_past) (reads_after d t.input reads) emission.packet.tag (packet_ends ∷ []) turns first new.2 (inr refl)
+          chunks_go contents t.outcome.after (after_effects t.outcome.effects their_past) (reads_after d t.input reads) emission.packet.tag (packet_ends ∷ []) turns first new.4 (inr refl)
           (inr (go.1, (λ c has'. subst (λ (l : List Content). places.Has c l) (sym is) (inr has')), front_tag d content contents t taken.0 go own next)) rest
-      more packet_end next first rest = ends_go t.outcome.after (after_effects t.outcome.effects their_past) (reads_after d t.input reads) turns first new.2 rest
+      more packet_end next first rest = ends_go t.outcome.after (after_effects t.outcome.effects their_past) (reads_after d t.input reads) turns first new.4 rest
       more dropped_rest next first none =
           subst (λ (ts : List Turned). Leave t.outcome.after (after_effects t.outcome.effects their_past) (reads_after d t.input reads) ts) (sym none) first
 
@@ -194,22 +194,22 @@ module _ (options : Options) (e : Endpoint) (queued : List Message) (past : List
   unfolding IsTail
   whole_goes d their_past reads [] h new go admitted taken = absurd taken
   whole_goes d their_past reads (begun ∷ turns) h new go admitted taken =
-      let first = one_turn d their_past reads (packet_begins emission.packet.contents) begun h taken.0 new.0 new.1 (λ transfer link there linked. tt) tt in
+      let first = one_turn d their_past reads (packet_begins emission.packet.contents) begun h taken.0 (new.0, new.1, new.2, new.3, tt) (λ transfer link there linked. tt) tt in
       then_others d their_past reads begun turns (by_data first first.ends (of_ends first.ends emission packets first.between.sender.all_sent has))
     where
       by_data : Have begun.outcome.after (after_effects begun.outcome.effects their_past) (reads_after d begun.input reads) → (table : Ends) → IsOfEnds table emission
           → Leave begun.outcome.after (after_effects begun.outcome.effects their_past) (reads_after d begun.input reads) turns
       by_data first table (inl none) =
-          chunks_go emission.packet.contents begun.outcome.after (after_effects begun.outcome.effects their_past) (reads_after d begun.input reads) emission.packet.tag (packet_ends ∷ []) turns first new.2 (inr refl) (inl none) taken.1
+          chunks_go emission.packet.contents begun.outcome.after (after_effects begun.outcome.effects their_past) (reads_after d begun.input reads) emission.packet.tag (packet_ends ∷ []) turns first new.4 (inr refl) (inl none) taken.1
       by_data first table (inr (free, was)) =
-          tagged_go emission.packet.contents refl begun.outcome.after (after_effects begun.outcome.effects their_past) (reads_after d begun.input reads) turns first new.2 go
+          tagged_go emission.packet.contents refl begun.outcome.after (after_effects begun.outcome.effects their_past) (reads_after d begun.input reads) turns first new.4 go
           (λ front. ap own_tag (begin_core d d.core (has_data emission.packet.contents) begun.outcome taken.0.comes) ∙ sym (addressed_tags_are_own d.core emission.packet free front admitted)) taken.1
 
   refused_go : (d : Endpoint) (their_past : List Effect) (reads : List Read) (text : List ℕ) (turns : List Turned) → Have d their_past reads → AreNewTags options their_past past d turns → Turns d (refusal text ∷ []) turns
       → Leave d their_past reads turns
   refused_go d their_past reads text [] h new taken = absurd taken
   refused_go d their_past reads text (t ∷ []) h new taken =
-      then_others d their_past reads t [] (one_turn d their_past reads (refusal text) t h taken.0 new.0 new.1 (λ transfer link there linked. tt) tt)
+      then_others d their_past reads t [] (one_turn d their_past reads (refusal text) t h taken.0 (new.0, new.1, new.2, new.3, tt) (λ transfer link there linked. tt) tt)
   refused_go d their_past reads text (t ∷ other ∷ turns) h new taken = absurd taken.1
 
   pub packet_goes : (d : Endpoint) (their_past : List Effect) (reads : List Read) (turns : List Turned) → Have d their_past reads → AreNewTags options their_past past d turns

@@ -98,7 +98,7 @@ module _ (table : Ends) (emission : Emission) (is : IsOfEnds table emission) (e 
 by_becomes : {to : ℕ} {adds : _} {taken : _} (tag : ℕ) (e : Endpoint) (came : Option Content) (o : Outcome) → (IsOpening came → ⊥) → TagIs tag e → Becomes came to adds taken e o → TagIs tag o.after
 by_becomes tag e came o not is (goes_on calm linked makes) = λ link there. is link (sym linked ∙ there)
 by_becomes tag e came o not is (works_resets linked between worked ended peer makes) = λ link there. is link (sym linked ∙ there)
-by_becomes tag e came o not is (ends none unread last makes below) = λ link there. (let clash : ◌≡◌ {A = Option Link} None (Some link) = sym none ∙ there in absurd (cc))
+by_becomes tag e came o not is (ends none unread last own makes below) = λ link there. (let clash : ◌≡◌ {A = Option Link} None (Some link) = sym none ∙ there in absurd (cc))
 by_becomes tag e came o not is (begins begun opening linked alike unread again makes) = absurd (not opening)
 
 -- A chunk that begins no association leaves its tag.

@@ -4,7 +4,7 @@ use Rattle.dcsctp_wire.specs.Content.{PacketContent}
 use Rattle.dcsctp_wire.specs.Format.{IsPacket}
 use Rattle.dcsctp_machine.specs.declared.options.Options.{Options}
 use Rattle.dcsctp_machine.specs.Schedule.{CallContent}
-use Rattle.dcsctp_machine.specs.Settings.{SameOptions, wire_options}
+use Rattle.dcsctp_machine.specs.Settings.{wire_options}
 use Rattle.dcsctp_machine.specs.CallTurns.{Turned, HandleInput, after_all, effects_of, events_of}
 use Rattle.dcsctp_machine.specs.Endpoint.{Endpoint, fresh_endpoint}
 use Rattle.dcsctp_machine.specs.Event.{packets_in}
@@ -19,7 +19,7 @@ use Rattle.dcsctp_machine_refinement.proofs.Bursts.{packets_in-append}
 use Rattle.dcsctp_delivery_sending.specs.Log.{Message}
 use Rattle.dcsctp_delivery_sending.specs.Places as places
 use Rattle.dcsctp_delivery_turns.specs.Actions.{queued_after}
-use Rattle.dcsctp_delivery_associations.specs.Laws.{AreEnds}
+use Rattle.dcsctp_delivery_associations.specs.Laws.{AsksLittle, AreEnds}
 use Rattle.dcsctp_delivery_associations.specs.Reads.{Read, reads_after}
 use Rattle.dcsctp_delivery_sockets.specs.Acts.{queued_through, AreNewPeers}
 use Rattle.dcsctp_delivery_sockets.specs.Packets.{reads_through, AreNewTags}
@@ -27,8 +27,8 @@ use Rattle.dcsctp_delivery_sockets.specs.UserMessages.{sent_of}
 use Rattle.dcsctp_delivery_sockets.specs.Delivery.{IsOfNewTags, MatchByTags, SendsLittle}
 use Rattle.dcsctp_delivery_sockets.proofs.Acts.{senders_act, receivers_act, receivers_handle}
 use Rattle.dcsctp_delivery_sockets.proofs.Calls.{NoChunks, AreCalls, call_without}
-use Rattle.dcsctp_delivery_sockets.proofs.NewLinks.{AllOpenFitting, none_open, matched_swapped, new_peers, new_tags}
-use Rattle.dcsctp_delivery_sockets.proofs.Known.{past_more, GoodPacket, SideKnown, rest_turns, rest_keeps, rest_numbers}
+use Rattle.dcsctp_delivery_sockets.proofs.NewLinks.{AllOpenFitting, none_open, matched_swapped, AllPerformed, new_peers, new_tags}
+use Rattle.dcsctp_delivery_sockets.proofs.Known.{past_more, GoodPacket, SideKnown, rest_turns, rest_moves, rest_refused, ran_front}
 use Rattle.dcsctp_delivery_sockets.proofs.UserMessages.{SaysSame, nothing_same, turns_same}
 
 -- ---- what two sockets have done
@@ -78,19 +78,21 @@ module _ (theirs : Options) (d : Endpoint) (their_past : List Effect) (reads : L
       (subst (λ (x : List Emission). AreEnds theirs e queued past x d their_past reads) same_packets h)))
 
 pub sender_more : (mine theirs : Options) (turns others more : List Turned) → Stand mine theirs turns others → SideKnown mine (turns ++ more) → MatchByTags (noted_past (turns ++ more)) (noted_past others)
-    → AreCalls more → AllOpenFitting more → Stand mine theirs (turns ++ more) others
-sender_more mine theirs turns others more h known matched calls opens =
+    → AllPerformed (noted_past (turns ++ more)) (noted_past others) → AreCalls more → AllOpenFitting more → Stand mine theirs (turns ++ more) others
+sender_more mine theirs turns others more h known matched performed calls opens =
     let e : Endpoint = endpoint_after mine turns in
     let past : List Effect = noted_past turns in
     let new : AreNewPeers past (noted_past others) e more =
-    new_peers (noted_past others) more past e calls (rest_numbers mine turns more known) opens (subst (Each IsOfNewTags) (past_more turns more) known.tags)
-    (subst (λ (p : List Effect). MatchByTags p (noted_past others)) (past_more turns more) matched) in
+    new_peers (noted_past others) more past e calls (rest_refused mine turns more known) opens (subst (Each IsOfNewTags) (past_more turns more) known.tags)
+    (subst (λ (p : List Effect). MatchByTags p (noted_past others)) (past_more turns more) matched)
+    (subst (λ (p : List Effect). AllPerformed p (noted_past others)) (past_more turns more) performed) in
     let few : length (queued_through e more (queued_of mine turns)) < 2 ^ 64 =
     subst (λ (q : List Message). length q < 2 ^ 64) (queued_more (fresh_endpoint mine) turns more []) (few_queued mine (turns ++ more) known.little) in
     same_sender theirs (endpoint_after theirs others) (noted_past others) (reads_of theirs others) (after_all e more) (endpoint_after mine (turns ++ more)) (queued_through e more (queued_of mine turns)) (queued_of mine (turns ++ more))
     (after_effects (effects_of more) past) (noted_past (turns ++ more)) (packets_of turns ++ packets_of more) (packets_of (turns ++ more)) (sym (after_all-append (fresh_endpoint mine) turns more))
     (sym (queued_more (fresh_endpoint mine) turns more [])) (sym (past_more turns more)) (sym (packets_more turns more))
-    (senders_act theirs (endpoint_after theirs others) (noted_past others) (reads_of theirs others) more e (queued_of mine turns) past (packets_of turns) h (rest_turns mine turns more known) new few)
+    (senders_act theirs (endpoint_after theirs others) (noted_past others) (reads_of theirs others) more e (queued_of mine turns) past (packets_of turns) h (rest_turns mine turns more known) new few
+    (subst AsksLittle (packets_more turns more) known.little.requests))
 
 -- ---- the receiver acts
 
@@ -103,10 +105,10 @@ module _ (theirs : Options) (e : Endpoint) (queued : List Message) (past : List 
       (subst (λ (x : List Read). AreEnds theirs e queued past packets d their_past x) same_reads h))
 
 module _ (mine theirs : Options) (turns others more : List Turned) (h : Stand mine theirs turns others) (known : SideKnown theirs (others ++ more)) (matched : MatchByTags (noted_past turns) (noted_past (others ++ more)))
-    (own : SameOptions theirs (endpoint_after theirs others).options) (little : SendsLittle mine turns) where
+    (little : SendsLittle mine turns) where
   their_tags : AllOpenFitting more → AreNewTags theirs (noted_past others) (noted_past turns) (endpoint_after theirs others) more
   their_tags opens =
-      new_tags theirs (noted_past turns) more (noted_past others) (endpoint_after theirs others) own (rest_keeps theirs others more known) opens (subst (Each IsOfNewTags) (past_more others more) known.tags)
+      new_tags theirs (noted_past turns) more (noted_past others) (endpoint_after theirs others) (ran_front theirs others more known) (rest_moves theirs others more known) opens (subst (Each IsOfNewTags) (past_more others more) known.tags)
       (subst (λ (p : List Effect). MatchByTags p (noted_past turns)) (past_more others more) (matched_swapped (noted_past turns) (noted_past (others ++ more)) matched))
 
   now_stands : AreEnds theirs (endpoint_after mine turns) (queued_of mine turns) (noted_past turns) (packets_of turns) (after_all (endpoint_after theirs others) more) (after_effects (effects_of more) (noted_past others))
@@ -119,12 +121,12 @@ module _ (mine theirs : Options) (turns others more : List Turned) (h : Stand mi
   pub receiver_calls : (call : CallContent) → UserTurns (endpoint_after theirs others) call more → AreCalls more → Stand mine theirs turns (others ++ more)
   receiver_calls call taken calls =
       let none : NoChunks more = call_without (endpoint_after theirs others) call more taken in
-      now_stands (receivers_act theirs (endpoint_after mine turns) (queued_of mine turns) (noted_past turns) (packets_of turns) (few_queued mine turns little) more (endpoint_after theirs others) (noted_past others)
+      now_stands (receivers_act theirs (endpoint_after mine turns) (queued_of mine turns) (noted_past turns) (packets_of turns) (few_queued mine turns little) little.requests more (endpoint_after theirs others) (noted_past others)
       (reads_of theirs others) h none (rest_turns theirs others more known) calls (their_tags (none_open more none)))
 
   pub receiver_handles : (bytes : List ℕ) (emission : Emission) → places.Has emission (packets_of turns) → GoodPacket emission
       → ((packet : PacketContent) → IsPacket (wire_options (endpoint_after theirs others).options) packet bytes → packet_in packet ≡ emission.packet) → HandleInput (endpoint_after theirs others) bytes more → AllOpenFitting more
       → Stand mine theirs turns (others ++ more)
   receiver_handles bytes emission has good is taken opens =
-      now_stands (receivers_handle theirs (endpoint_after mine turns) (queued_of mine turns) (noted_past turns) (packets_of turns) (few_queued mine turns little) (endpoint_after theirs others) (noted_past others)
+      now_stands (receivers_handle theirs (endpoint_after mine turns) (queued_of mine turns) (noted_past turns) (packets_of turns) (few_queued mine turns little) little.requests (endpoint_after theirs others) (noted_past others)
       (reads_of theirs others) emission bytes more h has good.goes is (their_tags opens) taken)

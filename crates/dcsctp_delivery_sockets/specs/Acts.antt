@@ -17,8 +17,9 @@ use Rattle.dcsctp_machine.specs.control.Effect.{Effect, link_of, link_in}
 use Rattle.dcsctp_delivery_sending.specs.Log.{Message}
 use Rattle.dcsctp_delivery_sending.specs.Places as places
 use Rattle.dcsctp_delivery_turns.specs.Actions.{came_by, queued_after, IsOpening, Begun, IsCall}
+use Rattle.dcsctp_delivery_associations.specs.Answered.{AreAnswered}
 use Rattle.dcsctp_delivery_associations.specs.Ends.{Ends, NewPeer, Between}
-use Rattle.dcsctp_delivery_associations.specs.Laws.{ResetsNone, AreEnds}
+use Rattle.dcsctp_delivery_associations.specs.Laws.{RefusesNone, CompletesPerformed, AsksLittle, AreEnds}
 use Rattle.dcsctp_delivery_associations.specs.Reads.{Read}
 use Rattle.dcsctp_delivery_sockets.specs.Echoes.{GoesToMaker}
 use Rattle.dcsctp_delivery_sockets.specs.Packets.{reads_through, AreNewTags}
@@ -34,34 +35,38 @@ AreTurns e [] = Unit {0}
 AreTurns e (turn ∷ turns) = Turn e turn.input turn.outcome × AreTurns turn.outcome.after turns
 
 -- Each input is a call, a timer or a chunk; and an association that begins has a peer of a new tag, and the matching one at the other side.
--- With interleaving no own reset is performed.
+-- With interleaving no own request to reset streams is refused. Each that ends as performed was performed at the other side, or it is the
+-- 2^32nd of its association.
 abbrev pub AreNewPeers : List Effect → List Effect → Endpoint → List Turned → Type 0
 AreNewPeers past their_past e [] = Unit {0}
 AreNewPeers past their_past e (turn ∷ turns) =
     IsCall turn.input
     × ((begun : Begun e turn.outcome) → IsOpening (came_by turn.input) → link_in turn.outcome.after.core ≡ Some (link_of begun.my begun.held) → NewPeer past their_past (link_of begun.my begun.held))
-    × ResetsNone e turn.outcome
+    × RefusesNone e turn.outcome
+    × CompletesPerformed their_past turn.outcome
     × AreNewPeers (after_effects turn.outcome.effects past) their_past turn.outcome.after turns
 
 -- Turns of the sender leave what is known of all associations.
 abbrev pub SendersAct : Type 0
 SendersAct =
     (options : Options) (ends : Ends) (e : Endpoint) (queued : List Message) (past : List Effect) (packets : List Emission) (other : Endpoint) (their_past : List Effect) (reads : List Read) (turns : List Turned)
-    → Between options ends e queued past packets other their_past reads → AreTurns e turns → AreNewPeers past their_past e turns → length (queued_through e turns queued) < 2 ^ 64
+    → Between options ends e queued past packets other their_past reads → AreAnswered ends e past other their_past → AreTurns e turns → AreNewPeers past their_past e turns → length (queued_through e turns queued) < 2 ^ 64
+    → AsksLittle (packets ++ packets_in (events_of turns))
     → AreEnds options (after_all e turns) (queued_through e turns queued) (after_effects (effects_of turns) past) (packets ++ packets_in (events_of turns)) other their_past reads
 
 -- So does a call at the receiver,
 abbrev pub ReceiversCall : Type 0
 ReceiversCall =
     (options : Options) (ends : Ends) (e : Endpoint) (queued : List Message) (past : List Effect) (packets : List Emission) (other : Endpoint) (their_past : List Effect) (reads : List Read) (call : CallContent) (turns : List Turned)
-    → Between options ends e queued past packets other their_past reads → length queued < 2 ^ 64 → UserTurns other call turns → AreTurns other turns → AllByRecursion (λ turn. IsCall turn.input) turns
-    → AreNewTags options their_past past other turns → AreEnds options e queued past packets (after_all other turns) (after_effects (effects_of turns) their_past) (reads_through other turns reads)
+    → Between options ends e queued past packets other their_past reads → AreAnswered ends e past other their_past → length queued < 2 ^ 64 → AsksLittle packets → UserTurns other call turns → AreTurns other turns
+    → AllByRecursion (λ turn. IsCall turn.input) turns → AreNewTags options their_past past other turns
+    → AreEnds options e queued past packets (after_all other turns) (after_effects (effects_of turns) their_past) (reads_through other turns reads)
 
 -- and so do bytes that are handed to it, if they are those of a packet that was sent.
 abbrev pub ReceiversHandle : Type 0
 ReceiversHandle =
     (options : Options) (ends : Ends) (e : Endpoint) (queued : List Message) (past : List Effect) (packets : List Emission) (other : Endpoint) (their_past : List Effect) (reads : List Read) (emission : Emission)
-    (bytes : List ℕ) (turns : List Turned) → Between options ends e queued past packets other their_past reads → length queued < 2 ^ 64 → places.Has emission packets → GoesToMaker emission
-    → ((packet : PacketContent) → IsPacket (wire_options other.options) packet bytes → packet_in packet ≡ emission.packet)
+    (bytes : List ℕ) (turns : List Turned) → Between options ends e queued past packets other their_past reads → AreAnswered ends e past other their_past → length queued < 2 ^ 64 → AsksLittle packets
+    → places.Has emission packets → GoesToMaker emission → ((packet : PacketContent) → IsPacket (wire_options other.options) packet bytes → packet_in packet ≡ emission.packet)
     → AreNewTags options their_past past other turns → HandleInput other bytes turns
     → AreEnds options e queued past packets (after_all other turns) (after_effects (effects_of turns) their_past) (reads_through other turns reads)

@@ -1,5 +1,5 @@
 -- What a user reads is what its peer's user sent, over every list of honest acts of two sockets, with interleaving or without.
-use Rattle.std.specs.Prelude.{◌≡◌, ◌≢◌, ◌⊎◌, ◌<◌, ◌^◌, ℕ, List, length}
+use Rattle.std.specs.Prelude.{◌≡◌, ◌≢◌, ◌⊎◌, ◌<◌, ◌-◌, ◌^◌, ℕ, List, length}
 use Rattle.std.specs.List.{AllByRecursion}
 use Rattle.dcsctp_machine.specs.declared.options.Options.{Options}
 use Rattle.dcsctp_machine.specs.declared.schedule.Side.{Side}
@@ -13,7 +13,8 @@ use Rattle.dcsctp_machine.specs.control.Effect.{Link, Effect, holds}
 use Rattle.dcsctp_machine.specs.transfer.Messages.{MessageContent}
 use Rattle.dcsctp_machine_refinement.specs.Agreement.{AreUsable, AreFresh, noted_past}
 use Rattle.dcsctp_delivery_sending.specs.ChunkCounts.{chunks_to}
-use Rattle.dcsctp_delivery_associations.specs.Laws.{ResetsNone}
+use Rattle.dcsctp_delivery_directions.specs.Requests.{requests_to}
+use Rattle.dcsctp_delivery_associations.specs.Laws.{RefusesNone}
 use Rattle.dcsctp_delivery_sockets.specs.UserMessages.{sent_of, read_of, IsDelivered}
 
 -- ---- messages in memory
@@ -61,21 +62,22 @@ pub record TagsServeOnce (turns : Both (List Turned)) : Type 0 where
 -- ---- how much is sent
 
 -- Fewer than 2^30 chunks of data, new or sent again, went to each verification tag: then an association assigns fewer than 2^31 TSNs, which
--- are told apart (RFC 9260, section 1.6). And fewer than 2^64 messages were sent.
+-- are told apart (RFC 9260, section 1.6). Fewer than 2^32 - 1 requests to reset streams went to each. And fewer than 2^64 messages were
+-- sent.
 pub record SendsLittle (options : Options) (turns : List Turned) : Type 0 where
   pub messages : length (sent_of (fresh_endpoint options) turns) < 2 ^ 64
   pub chunks : (tag : ℕ) → chunks_to tag (packets_in (events_of turns)) < 2 ^ 30
+  pub requests : (tag : ℕ) → requests_to tag (packets_in (events_of turns)) < 2 ^ 32 - 1
 
 -- ---- with interleaving
 
--- In an association with interleaving no reset of own streams is performed in this turn: their messages would be numbered from 0 again, as
--- earlier ones of the association.
-abbrev pub KeepsNumbers : Endpoint → Turned → Type 0
-KeepsNumbers e turn = ResetsNone e turn.outcome
+-- In an association with interleaving no own request to reset streams is refused in this turn.
+abbrev pub IsUnrefused : Endpoint → Turned → Type 0
+IsUnrefused e turn = RefusesNone e turn.outcome
 
 -- So it is of each turn of both sides.
-abbrev pub KeepNumbers : Both Options → Both (List Turned) → Type 0
-KeepNumbers options turns = (side : Side) → AlongTurns KeepsNumbers (fresh_endpoint (of_side side options)) (of_side side turns)
+abbrev pub NoneRefused : Both Options → Both (List Turned) → Type 0
+NoneRefused options turns = (side : Side) → AlongTurns IsUnrefused (fresh_endpoint (of_side side options)) (of_side side turns)
 
 -- ---- the theorem
 
@@ -83,7 +85,7 @@ KeepNumbers options turns = (side : Side) → AlongTurns KeepsNumbers (fresh_end
 pub record TurnsAllowDelivery (options : Both Options) (turns : Both (List Turned)) : Type 0 where
   pub tags : TagsServeOnce turns
   pub little : (side : Side) → SendsLittle (of_side side options) (of_side side turns)
-  pub numbers : KeepNumbers options turns
+  pub refused : NoneRefused options turns
 
 -- What this side's user read is what the other's user sent, and no message was read twice, in any association.
 abbrev pub Delivers : Both Options → Both (List Turned) → Side → Type 0

@@ -1,18 +1,21 @@
 -- A packet that a sender sent, handled by the receiver: what is handled in an association was sent in it.
-use Rattle.std.specs.Prelude.{◌<◌, ◌^◌, List, [], ◌∷◌, length, ◌≡◌, Some}
+use Rattle.std.specs.Prelude.{◌≢◌, ◌<◌, ◌^◌, List, [], ◌∷◌, length, ◌≡◌, Some}
 use Rattle.dcsctp_machine.specs.declared.options.Options.{Options}
 use Rattle.dcsctp_machine.specs.Settings.{SameOptions}
 use Rattle.dcsctp_machine.specs.Admission.{admits}
 use Rattle.dcsctp_machine.specs.CallTurns.{Turned, AdmittedTurns, after_all, effects_of}
 use Rattle.dcsctp_machine.specs.Endpoint.{Endpoint}
 use Rattle.dcsctp_machine.specs.Packet.{Emission}
+use Rattle.dcsctp_machine.specs.Past.{Has}
 use Rattle.dcsctp_machine.specs.World.{after_effects}
-use Rattle.dcsctp_machine.specs.control.Effect.{Effect, link_of, link_in}
+use Rattle.dcsctp_machine.specs.control.Effect.{Link, Effect, holds, link_of, link_in}
 use Rattle.dcsctp_delivery_sending.specs.Log.{Message}
 use Rattle.dcsctp_delivery_sending.specs.Places as places
 use Rattle.dcsctp_delivery_turns.specs.Actions.{came_by, IsOpening, Begun}
+use Rattle.dcsctp_delivery_turns.specs.PeerRequests.{KnowsPeerIn}
+use Rattle.dcsctp_delivery_associations.specs.Answered.{AreAnswered}
 use Rattle.dcsctp_delivery_associations.specs.Ends.{Ends, NewTag, Between}
-use Rattle.dcsctp_delivery_associations.specs.Laws.{AreEnds}
+use Rattle.dcsctp_delivery_associations.specs.Laws.{AsksLittle, AreEnds}
 use Rattle.dcsctp_delivery_associations.specs.Reads.{Read, reads_after}
 use Rattle.dcsctp_delivery_sockets.specs.Echoes.{GoesToMaker}
 
@@ -21,17 +24,19 @@ abbrev pub reads_through : Endpoint → List Turned → List Read → List Read
 reads_through e [] reads = reads
 reads_through e (turn ∷ turns) reads = reads_through turn.outcome.after turns (reads_after e turn.input reads)
 
--- Each turn starts with these options, and an association that begins in it is of a new tag, and of the matching one at the other side.
+-- Each turn starts with these options, and an association that begins in it is of new tags, and of the matching ones at the other side. The
+-- past knows the peer's requests, and each association that is noted is of a new own tag.
 abbrev pub AreNewTags : Options → List Effect → List Effect → Endpoint → List Turned → Type 0
 AreNewTags options their_past past e [] = Unit {0}
 AreNewTags options their_past past e (turn ∷ turns) =
     SameOptions options e.options × ((begun : Begun e turn.outcome) → IsOpening (came_by turn.input) → link_in turn.outcome.after.core ≡ Some (link_of begun.my begun.held) → NewTag their_past past (link_of begun.my begun.held))
+    × KnowsPeerIn their_past e.core × ((link old : Link) → Has (holds link) turn.outcome.effects → Has (holds old) their_past → old.my.tag ≢ link.my.tag)
     × AreNewTags options (after_effects turn.outcome.effects their_past) past turn.outcome.after turns
 
 -- The chunks of a packet that the sender sent leave what is known of all associations.
 abbrev pub PacketsKeepEnds : Type 0
 PacketsKeepEnds =
     (options : Options) (ends : Ends) (e : Endpoint) (queued : List Message) (past : List Effect) (packets : List Emission) (other : Endpoint) (their_past : List Effect) (reads : List Read) (emission : Emission)
-    (turns : List Turned) → Between options ends e queued past packets other their_past reads → length queued < 2 ^ 64 → places.Has emission packets → GoesToMaker emission
-    → AreNewTags options their_past past other turns → AdmittedTurns other emission.packet (admits other.core emission.packet) turns
+    (turns : List Turned) → Between options ends e queued past packets other their_past reads → AreAnswered ends e past other their_past → length queued < 2 ^ 64 → AsksLittle packets → places.Has emission packets
+    → GoesToMaker emission → AreNewTags options their_past past other turns → AdmittedTurns other emission.packet (admits other.core emission.packet) turns
     → AreEnds options e queued past packets (after_all other turns) (after_effects (effects_of turns) their_past) (reads_through other turns reads)

@@ -43,8 +43,9 @@ pub fn acts_keep_ends()
 
 /// What a user reads is what its peer's user sent, and no message is read twice, in any association. So it is over
 /// every schedule that loses, repeats, delays and reorders packets, as long as no act comes from outside, no tag is
-/// drawn twice, each verification tag serves one association, fewer than 2^30 chunks of data go to each, and no reset
-/// of streams is performed in an association with interleaving (RFC 8260).
+/// drawn twice, each verification tag serves one association, fewer than 2^30 chunks of data and fewer than 2^32 - 1
+/// requests to reset streams go to each, and none of these requests is refused in an association with interleaving
+/// (RFC 8260).
 pub fn sockets_deliver()
     ensures { SocketsDeliver }
 {

@@ -16,7 +16,7 @@ use Rattle.dcsctp_machine_refinement.proofs.Bursts.{packets_in-append, emits_cor
 use Rattle.dcsctp_delivery_sending.specs.Log.{Message}
 use Rattle.dcsctp_delivery_sending.specs.Flushes.{NoData, begun_by}
 use Rattle.dcsctp_delivery_directions.specs.Directions.{Asking, asking_with}
-use Rattle.dcsctp_delivery_turns.specs.Asking.{AsksFit}
+use Rattle.dcsctp_delivery_turns.specs.Asking.{own_of, AsksFit}
 use Rattle.dcsctp_delivery_turns.specs.Actions.{Ledger, ledger_of, Action, flushes, speaks, Actions, nothing, further, NoEnd, Inside, inside, Made, Makes, Becomes, ends}
 use Rattle.dcsctp_machine.specs.control.Effect.{link_in}
 use Rattle.dcsctp_delivery_turns.specs.Tags.{IsPeerTag}
@@ -37,6 +37,14 @@ with_inside below old = record old { below = below }
 -- a packet leaves the association
 pub emits_link : (e : Endpoint) (words : List Word) (emission : Emission) → link_in (emits e words emission).after.core ≡ link_in e.core
 emits_link e words emission = ap link_in (emits_core e words emission)
+
+-- and leaves what the socket keeps of its own requests
+emits_own_by : (b : Bool) (e : Endpoint) (words : List Word) (emission : Emission) → own_of (cond b (sends e words [] emission) (quiet e words [])).after ≡ own_of e
+emits_own_by true e words emission = refl
+emits_own_by false e words emission = refl
+
+pub emits_own : (e : Endpoint) (words : List Word) (emission : Emission) → own_of (emits e words emission).after ≡ own_of e
+emits_own e words emission = emits_own_by (fits e emission) e words emission
 
 module _ (came : Option Content) (to : ℕ) where
   pub joined : (old between new : Ledger) → Actions came to old between → Actions came to between new → Actions came to old new
@@ -118,10 +126,10 @@ module _ (came : Option Content) (to : ℕ) where
   makes_behind old words events o none makes =
       subst (λ (l : List Emission). Makes came to old l (inside o.after)) (sym (packets_in-append events o.events ∙ ap (λ (l : List Emission). l ++ packets_in o.events) none)) makes
 
-  -- an end after this
-  pub ended : (e : Endpoint) (before : Outcome) (event : Event Emission) → packets_in (event ∷ []) ≡ [] → MakesTo came to (inside e) before → Goes came to e (ended_outcome before event)
-  ended e before event none makes =
-      ends refl (λ read. refl) (inside before.after)
+  -- an end after this, which leaves the own requests
+  pub ended : (e : Endpoint) (before : Outcome) (event : Event Emission) → packets_in (event ∷ []) ≡ [] → own_of before.after ≡ own_of e → MakesTo came to (inside e) before → Goes came to e (ended_outcome before event)
+  ended e before event none kept makes =
+      ends refl (λ read. refl) (inside before.after) kept
       (subst (λ (l : List Emission). Makes came to (inside e) l (inside before.after))
       (sym (packets_in-append before.events (event ∷ []) ∙ ap (λ (l : List Emission). packets_in before.events ++ l) none ∙ append-nil (packets_in before.events))) makes)
       refl

@@ -1,6 +1,6 @@
 -- How directions begin: with what waits in the queue, and with no request to reset streams.
 use Rattle.dcsctp_delivery_directions.specs.Directions as directions
-use Rattle.std.proofs.Common.{◌≡◌, ◌<◌, ◌≤◌, ◌^◌, ℕ, zero, suc, Option, None, Some, List, [], ◌∷◌, ◌++◌, length, refl, sym, ◌∙◌, ap, subst, inl, inr, arith}
+use Rattle.std.proofs.Common.{◌≡◌, ◌<◌, ◌≤◌, ◌^◌, ℕ, zero, suc, Option, None, Some, List, [], ◌∷◌, length, refl, sym, ◌∙◌, ap, subst, inl, inr, arith}
 use Rattle.std.specs.List.{AllByRecursion}
 use Rattle.dcsctp_machine.specs.declared.options.Options.{Options}
 use Rattle.dcsctp_machine.specs.Endpoint.{Endpoint, Core, closed, cookie_wait, cookie_echoed, open_in, OutstandingRequest}
@@ -21,8 +21,7 @@ use Rattle.dcsctp_delivery_sending.proofs.Renumbered.{numbered_hold, numbered_ki
 use Rattle.dcsctp_delivery_turns.specs.Runs.{new_direction}
 use Rattle.dcsctp_delivery_directions.specs.Directions.{Asking, nothing_asked, Run}
 use Rattle.dcsctp_machine.specs.Reconfiguration.{RequestedReset}
-use Rattle.dcsctp_machine.specs.turns.BegunResets.{BegunReset}
-use Rattle.dcsctp_delivery_turns.specs.Asking.{Own, own_in, AsksFit, SomeFit, AskingGrows}
+use Rattle.dcsctp_delivery_turns.specs.Asking.{Own, own_in, AsksFit, SomeFit}
 use Rattle.dcsctp_delivery_turns.proofs.Fronts.{own_ends_fit, own_resets}
 
 -- ---- more is queued
@@ -65,11 +64,6 @@ unlinked_fits closed request none = record { first = 0; asking = nothing_asked; 
 unlinked_fits (cookie_wait my) request none = record { first = 0; asking = nothing_asked; fits = tt }
 unlinked_fits (cookie_echoed my held cookie) request none = absurd (cc)
 unlinked_fits (open_in phase my held) request none = absurd (cc)
-
--- What was begun by a RE-CONFIG's turn was begun after its request has ended.
-pub grows_after : (old between new : Asking) → between.requests ≡ old.requests → between.is_performed ≡ old.is_performed → AskingGrows between new → AskingGrows old new
-grows_after old between new requests same grows =
-    record { more = grows.more; is = grows.is ∙ ap (λ (l : List BegunReset). grows.more ++ l) requests; same = λ none. grows.same none ∙ same }
 
 -- What is kept after the peer's request fits too.
 pub worked_fits : (came : Option Content) (o : Outcome) (old between worked : Inside) → OwnEnds o.effects old between → PeerResets came o.effects between worked

@@ -1,5 +1,5 @@
 -- What a flush leaves of the own requests to reset streams (RFC 6525, section 5.1.2).
-use Rattle.std.proofs.Common.{◌≡◌, ℕ, ◌+◌, ◌%◌, ◌^◌, suc, Bool, true, false, Option, None, Some, List, [], ◌∷◌, ◌++◌, length, map, refl, sym, ◌∙◌, ap, subst, append_assoc, arith}
+use Rattle.std.proofs.Common.{◌≡◌, ℕ, ◌+◌, ◌%◌, ◌^◌, suc, Bool, true, false, Option, None, Some, List, [], ◌∷◌, ◌++◌, length, length-append, map, refl, sym, ◌∙◌, ap, subst, append_assoc, arith}
 use Rattle.std.specs.Prelude.{take}
 use Rattle.dcsctp_machine.specs.declared.association.Held.{Held}
 use Rattle.dcsctp_machine.specs.Reconfiguration.{RequestedReset}
@@ -24,20 +24,28 @@ none_more : (later more : List BegunReset) → later ++ more ≡ [] → (later �
 none_more [] more is = (refl, is)
 none_more (begun ∷ later) more is = absurd (cc)
 
+-- The newest of all was begun in the second part, or in the first part with none after it.
+anew_then : (old between new : Asking) → (first : AskingGrows old between) → (second : AskingGrows between new) → (later : List BegunReset) → second.more ≡ later → (newest : BegunReset) (rest : List BegunReset)
+    → later ++ first.more ≡ newest ∷ rest → new.is_performed ≡ false
+anew_then old between new first second [] none newest rest is = second.same none ∙ first.anew newest rest is
+anew_then old between new first second (begun ∷ later) some newest rest is = second.anew begun later some
+
 pub grows_then : (old between new : Asking) → AskingGrows old between → AskingGrows between new → AskingGrows old new
 grows_then old between new first second =
     record {
       more = second.more ++ first.more;
       is = second.is ∙ ap (λ (l : List BegunReset). second.more ++ l) first.is ∙ sym (append_assoc second.more first.more old.requests);
+      count = (let one = first.count in let two = second.count in omega (arith, one, two, length-append second.more first.more));
       same = λ is. second.same (none_more second.more first.more is).0 ∙ first.same (none_more second.more first.more is).1;
+      anew = λ newest rest is. anew_then old between new first second second.more refl newest rest is;
     }
 
 pub grows_not : (asking : Asking) → AskingGrows asking asking
-grows_not asking = record { more = []; is = refl; same = λ is. refl }
+grows_not asking = record { more = []; is = refl; count = omega arith; same = λ is. refl; anew = λ newest rest is. absurd (cc) }
 
 pub grows_by : (begun : Option BegunReset) (asking : Asking) → AskingGrows asking (asking_with begun asking)
 grows_by None asking = grows_not asking
-grows_by (Some begun) asking = record { more = begun ∷ []; is = refl; same = λ is. absurd (cc) }
+grows_by (Some begun) asking = record { more = begun ∷ []; is = refl; count = omega arith; same = λ is. absurd (cc); anew = λ newest rest is. refl }
 
 -- ---- what is asked again
 

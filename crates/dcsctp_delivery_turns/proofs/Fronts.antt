@@ -11,7 +11,7 @@ use Rattle.dcsctp_delivery_receiving.specs.Clear.{IsOwn}
 use Rattle.dcsctp_delivery_directions.specs.Directions.{Asking, all_ended, is_reached, Direction}
 use Rattle.dcsctp_delivery_turns.specs.Asking.{Own, OutIs, IsAsking, AsksFit}
 use Rattle.dcsctp_delivery_turns.specs.Actions.{Inside, ended_own, OwnEnds, unended, committed, rolled_back, PeerResets, unreset, absent, deferred, reset_now}
-use Rattle.dcsctp_delivery_turns.specs.Runs.{IsNewest, PerformsNewest, performed_where}
+use Rattle.dcsctp_delivery_turns.specs.Runs.{IsBetween, as_it_was, once_performed, once_refused, IsNewest, PerformsNewest, performed_where}
 use Rattle.dcsctp_delivery_turns.specs.Sides.{Steps, stays, receiving}
 use Rattle.dcsctp_delivery_turns.proofs.Sides.{one_step, all_steps}
 
@@ -31,7 +31,7 @@ ended_fits first own asking fits = record { numbers = fits.numbers; next = fits.
 pub own_ends_fit : (happened : List Effect) (old new : Inside) (first : ℕ) (asking : Asking) → OwnEnds happened old new → AsksFit first old.own asking → (after : Asking) × AsksFit first new.own after
 own_ends_fit happened old _ first asking unended fits = (asking, fits)
 own_ends_fit happened old _ first asking (committed completed own is) fits = (all_ended asking, ended_fits first own asking (is_asking first old.own own asking is fits))
-own_ends_fit happened old _ first asking (rolled_back own is) fits = (all_ended asking, ended_fits first own asking (is_asking first old.own own asking is fits))
+own_ends_fit happened old _ first asking (rolled_back refused own is) fits = (all_ended asking, ended_fits first own asking (is_asking first old.own own asking is fits))
 
 pub own_resets : (came : Option Content) (happened : List Effect) (old new : Inside) → PeerResets came happened old new → new.own ≡ old.own
 own_resets came happened old _ (unreset none) = refl
@@ -39,38 +39,45 @@ own_resets came happened old _ (absent gone) = refl
 own_resets came happened old _ (deferred none transfer last_tsn streams known) = refl
 own_resets came happened old _ (reset_now some parameters reset is wants transfer reassembly known reached leaves) = refl
 
+-- The peer's request leaves how messages are numbered.
+peer_resets_kind : (came : Option Content) (happened : List Effect) (old new : Inside) → PeerResets came happened old new → new.below.queue.is_interleaved ≡ old.below.queue.is_interleaved
+peer_resets_kind came happened old _ (unreset none) = refl
+peer_resets_kind came happened old _ (absent gone) = refl
+peer_resets_kind came happened old _ (deferred none transfer last_tsn streams known) = refl
+peer_resets_kind came happened old _ (reset_now some parameters reset is wants transfer reassembly known reached leaves) = refl
+
 -- ---- the direction on which it sends
 
 -- the direction, with this at its sender
 abbrev pub sending_by : Direction → Inside → Asking → Direction
 sending_by direction inside asking = record direction { below = inside.below; asking = asking }
 
--- The socket comes there by steps; nothing was begun.
-pub record SendingFront (first : ℕ) (direction : Direction) (old new : Inside) : Type 0 where
+-- The socket comes there by steps; nothing was begun, and messages are numbered as before.
+pub record SendingFront (first : ℕ) (direction : Direction) (happened : List Effect) (old new : Inside) : Type 0 where
   pub asking : Asking
-  pub requests : asking.requests ≡ direction.asking.requests
-  pub same : asking.is_performed ≡ direction.asking.is_performed
+  pub between : IsBetween happened direction.asking asking
+  pub kind : new.below.queue.is_interleaved ≡ old.below.queue.is_interleaved
   pub fits : AsksFit first new.own asking
   pub steps : Steps (sending_by direction old direction.asking) (sending_by direction new asking)
 
 own_ends_send : (first : ℕ) (direction : Direction) (happened : List Effect) (old new : Inside) → OwnEnds happened old new → AsksFit first old.own direction.asking
-    → (has_completed happened ≡ true → old.below.queue.is_interleaved ≡ true → direction.asking.is_performed ≡ true) → SendingFront first direction old new
-own_ends_send first direction happened old _ unended fits performed = record { asking = direction.asking; requests = refl; same = refl; fits = fits; steps = stays }
+    → (has_completed happened ≡ true → old.below.queue.is_interleaved ≡ true → direction.asking.is_performed ≡ true) → SendingFront first direction happened old new
+own_ends_send first direction happened old _ unended fits performed = record { asking = direction.asking; between = as_it_was; kind = refl; fits = fits; steps = stays }
 own_ends_send first direction happened old _ (committed completed own is) fits performed =
     let asks = is_asking first old.own own direction.asking is fits in
     record {
       asking = all_ended direction.asking;
-      requests = refl;
-      same = refl;
+      between = once_performed completed;
+      kind = refl;
       fits = ended_fits first own direction.asking asks;
       steps = one_step (sending_by direction old direction.asking) _
           (directions.commits (λ interleaved. (out_small own.number own.again direction.asking asks.out, performed completed interleaved)));
     }
-own_ends_send first direction happened old _ (rolled_back own is) fits performed =
+own_ends_send first direction happened old _ (rolled_back refused own is) fits performed =
     record {
       asking = all_ended direction.asking;
-      requests = refl;
-      same = refl;
+      between = once_refused refused;
+      kind = refl;
       fits = ended_fits first own direction.asking (is_asking first old.own own direction.asking is fits);
       steps = one_step (sending_by direction old direction.asking) _ directions.rolls_back;
     }
@@ -84,13 +91,13 @@ peer_resets_send came direction happened old _ asking (reset_now some parameters
     one_step (sending_by direction old asking) _ (directions.turns_aside transfer _ known refl)
 
 pub front_sends : (came : Option Content) (first : ℕ) (direction : Direction) (happened : List Effect) (old between new : Inside) → OwnEnds happened old between → PeerResets came happened between new
-    → AsksFit first old.own direction.asking → (has_completed happened ≡ true → old.below.queue.is_interleaved ≡ true → direction.asking.is_performed ≡ true) → SendingFront first direction old new
+    → AsksFit first old.own direction.asking → (has_completed happened ≡ true → old.below.queue.is_interleaved ≡ true → direction.asking.is_performed ≡ true) → SendingFront first direction happened old new
 front_sends came first direction happened old between new own peer fits performed =
     let ended = own_ends_send first direction happened old between own fits performed in
     record {
       asking = ended.asking;
-      requests = ended.requests;
-      same = ended.same;
+      between = ended.between;
+      kind = peer_resets_kind came happened between new peer ∙ ended.kind;
       fits = subst (λ (f : Option Own). AsksFit first f ended.asking) (sym (own_resets came happened between new peer)) ended.fits;
       steps = all_steps (sending_by direction old direction.asking) (sending_by direction between ended.asking) (sending_by direction new ended.asking) ended.steps
           (peer_resets_send came direction happened between new ended.asking peer);
@@ -101,7 +108,7 @@ front_sends came first direction happened old between new own peer fits performe
 own_ends_received : (happened : List Effect) (old new : Inside) → OwnEnds happened old new → new.below.transfer ≡ old.below.transfer
 own_ends_received happened old _ unended = refl
 own_ends_received happened old _ (committed completed own is) = refl
-own_ends_received happened old _ (rolled_back own is) = refl
+own_ends_received happened old _ (rolled_back refused own is) = refl
 
 -- Nothing is received without an association.
 pub front_none : (came : Option Content) (happened : List Effect) (old between new : Inside) → OwnEnds happened old between → PeerResets came happened between new → old.below.transfer ≡ None → new.below.transfer ≡ None
@@ -120,6 +127,7 @@ pub record ReceivingFront (is_known : Bool) (direction : Direction) (transfer : 
   pub is : new.below.transfer ≡ Some left
   pub is_reset : Bool
   pub none : is_reset ≡ false → has_reset happened ≡ false
+  pub some : is_reset ≡ true → has_reset happened ≡ true
   pub steps : Steps (receiving direction transfer direction.read) (resetting is_known direction left is_reset)
 
 pub unperformed : (is_known : Bool) (asking : Asking) → performed_where is_known false asking ≡ asking
@@ -135,6 +143,7 @@ front_by is_known direction transfer left happened new is none steps =
       is = is;
       is_reset = false;
       none = λ no. none;
+      some = λ is. absurd (cc);
       steps = subst (λ (a : Asking). Steps (receiving direction transfer direction.read) (record (receiving direction left direction.read) { asking = a }))
           (sym (unperformed is_known direction.asking)) steps;
     }
@@ -167,6 +176,7 @@ peer_resets_receive is_known came happened direction transfer old new newest is 
       is = refl;
       is_reset = true;
       none = λ no. absurd (cc);
+      some = λ is. some;
       steps = subst (λ (t : Transfer). Steps (receiving direction t direction.read) (resetting is_known direction (record found { reassembly = reassembly }) true)) (sym same)
           (performs_by direction found reset reassembly is_known
           (λ known_so. subst (λ (t : Transfer). IsNewest direction t reset) same (newest known_so some parameters reset came_is wants)) reached leaves);

@@ -29,7 +29,7 @@ use Rattle.dcsctp_delivery_turns.specs.Asking.{Own, own_in, own_of}
 use Rattle.dcsctp_machine.specs.transfer.Transfer.{Below}
 use Rattle.dcsctp_machine.specs.turns.ReconfigurationOutcomes.{reset_again}
 use Rattle.dcsctp_delivery_turns.proofs.Tags.{flush_link}
-use Rattle.dcsctp_delivery_turns.proofs.Actions.{Goes, MakesTo, emits_link, rests, spoken, emitted, flushed, makes_behind, ended, end_silent}
+use Rattle.dcsctp_delivery_turns.proofs.Actions.{Goes, MakesTo, emits_link, emits_own, rests, spoken, emitted, flushed, makes_behind, ended, end_silent}
 
 -- A cookie of the existing association has the peer's tag.
 is_the_peer : (own peer tie zero : Bool) → case_by own peer tie zero ≡ maintain_existing → peer ≡ true
@@ -81,7 +81,7 @@ module _ (came : Option Content) (calm : IsCalm came) (to : ℕ) where
 
   accepted_goes : IsOpening came → (e : Endpoint) (my : Pair) (theirs : Introduction) (cookie : Option (List ℕ)) (word : ℕ) (answers : List Answer) → InitAckAnswers e theirs cookie (cookie_wait my) word answers
       → Goes came to e (accepted_init_ack_by (flush_answered answers) e my theirs cookie word)
-  accepted_goes opening e my theirs None word answers allowed = ended came to e (emits e [] (abort_emission theirs.pair.tag)) (aborted _ no_cookie_text) refl (emitted came to e [] (abort_emission theirs.pair.tag) (tt, tt))
+  accepted_goes opening e my theirs None word answers allowed = ended came to e (emits e [] (abort_emission theirs.pair.tag)) (aborted _ no_cookie_text) refl (emits_own e [] (abort_emission theirs.pair.tag)) (emitted came to e [] (abort_emission theirs.pair.tag) (tt, tt))
   accepted_goes opening e my theirs (Some cookie) word answers allowed =
       let awaiting : Endpoint = awaits_cookie_ack e my theirs cookie word in
       begins (record {
@@ -177,14 +177,14 @@ module _ (came : Option Content) (calm : IsCalm came) (to : ℕ) where
   pub abort_goes : (e : Endpoint) (causes : List Cause) (core : Core) → Goes came to e (abort_outcome e causes core)
   abort_goes e causes closed = goes_on calm refl (rests came to (inside e))
   abort_goes e causes (cookie_wait my) = goes_on calm refl (rests came to (inside e))
-  abort_goes e causes (cookie_echoed my held cookie) = ends refl (λ read. refl) (inside e) (rests came to (inside e)) refl
-  abort_goes e causes (open_in phase my held) = ends refl (λ read. refl) (inside e) (rests came to (inside e)) refl
+  abort_goes e causes (cookie_echoed my held cookie) = ends refl (λ read. refl) (inside e) refl (rests came to (inside e)) refl
+  abort_goes e causes (open_in phase my held) = ends refl (λ read. refl) (inside e) refl (rests came to (inside e)) refl
 
   pub aborting_goes : (e : Endpoint) (core : Core) (reason : AbortReason) → Goes came to e (aborting_outcome e core reason)
   aborting_goes e closed reason = goes_on calm refl (rests came to (inside e))
-  aborting_goes e (cookie_wait my) reason = ended came to e (quiet e [] []) (end_of reason) (end_silent came to reason) (rests came to (inside e))
-  aborting_goes e (cookie_echoed my held cookie) reason = ended came to e (emits e [] (abort_to held reason)) (end_of reason) (end_silent came to reason) (emitted came to e [] (abort_to held reason) (tt, tt))
-  aborting_goes e (open_in phase my held) reason = ended came to e (emits e [] (abort_to held reason)) (end_of reason) (end_silent came to reason) (emitted came to e [] (abort_to held reason) (tt, tt))
+  aborting_goes e (cookie_wait my) reason = ended came to e (quiet e [] []) (end_of reason) (end_silent came to reason) refl (rests came to (inside e))
+  aborting_goes e (cookie_echoed my held cookie) reason = ended came to e (emits e [] (abort_to held reason)) (end_of reason) (end_silent came to reason) (emits_own e [] (abort_to held reason)) (emitted came to e [] (abort_to held reason) (tt, tt))
+  aborting_goes e (open_in phase my held) reason = ended came to e (emits e [] (abort_to held reason)) (end_of reason) (end_silent came to reason) (emits_own e [] (abort_to held reason)) (emitted came to e [] (abort_to held reason) (tt, tt))
 
   pub again_goes : (e : Endpoint) (core : Core) (answers : List Answer) → IsPeerTag e.core to → IsPeerTag core to → AgainAnswers e core answers → MakesTo came to (inside e) (again_by (flush_answered answers) e core)
   again_goes e closed answers at is allowed = rests came to (inside e)
@@ -202,15 +202,15 @@ module _ (came : Option Content) (calm : IsCalm came) (to : ℕ) where
 
   pub gives_up_goes : (e : Endpoint) (core : Core) → Goes came to e (t1_gives_up_outcome e core)
   gives_up_goes e closed = goes_on calm refl (rests came to (inside e))
-  gives_up_goes e (cookie_wait my) = ends refl (λ read. refl) (inside e) (rests came to (inside e)) refl
-  gives_up_goes e (cookie_echoed my held cookie) = ends refl (λ read. refl) (inside e) (rests came to (inside e)) refl
+  gives_up_goes e (cookie_wait my) = ends refl (λ read. refl) (inside e) refl (rests came to (inside e)) refl
+  gives_up_goes e (cookie_echoed my held cookie) = ends refl (λ read. refl) (inside e) refl (rests came to (inside e)) refl
   gives_up_goes e (open_in phase my held) = goes_on calm refl (rests came to (inside e))
 
   pub hand_over_goes : (e : Endpoint) (core : Core) → Goes came to e (hand_over_outcome e core)
   hand_over_goes e closed = goes_on calm refl (rests came to (inside e))
   hand_over_goes e (cookie_wait my) = goes_on calm refl (rests came to (inside e))
   hand_over_goes e (cookie_echoed my held cookie) = goes_on calm refl (rests came to (inside e))
-  hand_over_goes e (open_in established my held) = ends refl (λ read. refl) (inside e) (rests came to (inside e)) refl
+  hand_over_goes e (open_in established my held) = ends refl (λ read. refl) (inside e) refl (rests came to (inside e)) refl
   hand_over_goes e (open_in shutdown_pending my held) = goes_on calm refl (rests came to (inside e))
   hand_over_goes e (open_in shutdown_sent my held) = goes_on calm refl (rests came to (inside e))
   hand_over_goes e (open_in shutdown_received my held) = goes_on calm refl (rests came to (inside e))

@@ -11,6 +11,7 @@ use Rattle.dcsctp_machine.specs.control.ResetChanges.{Place, again, next, astray
 use Rattle.dcsctp_machine.specs.turns.BegunResets.{BegunReset, begun_effects}
 use Rattle.dcsctp_machine.specs.turns.ResetOutcomes.{requested_in, OwnAnswer, unanswered, retried, was_performed, has_failed, own_answer, has_completed, has_reset}
 use Rattle.dcsctp_delivery_sending.specs.Flushes.{NoRequests}
+use Rattle.dcsctp_delivery_turns.specs.Actions.{has_refused}
 
 -- ---- effects one after another
 
@@ -19,6 +20,21 @@ pub completed_among : (happened later : List Effect) → has_completed happened 
 completed_among [] later is = absurd (cc)
 completed_among (effects.completes my number ∷ happened) later is = refl
 completed_among (effect ∷ happened) later is = completed_among happened later is
+
+pub refused_among : (happened later : List Effect) → has_refused happened ≡ true → has_refused (happened ++ later) ≡ true
+refused_among [] later is = absurd (cc)
+refused_among (effects.fails number ∷ happened) later is = refl
+refused_among (effect ∷ happened) later is = refused_among happened later is
+
+completed_behind : (happened later : List Effect) → has_completed later ≡ true → has_completed (happened ++ later) ≡ true
+completed_behind [] later is = is
+completed_behind (effects.completes my number ∷ happened) later is = refl
+completed_behind (effect ∷ happened) later is = completed_behind happened later is
+
+refused_behind : (happened later : List Effect) → has_refused later ≡ true → has_refused (happened ++ later) ≡ true
+refused_behind [] later is = is
+refused_behind (effects.fails number ∷ happened) later is = refl
+refused_behind (effect ∷ happened) later is = refused_behind happened later is
 
 -- Where no streams are reset in the second part, they are in the whole if they are in the first.
 pub reset_in_front : (happened later : List Effect) → has_reset later ≡ false → has_reset (happened ++ later) ≡ has_reset happened
@@ -134,19 +150,94 @@ chunk_answers my reached held (parameter ∷ parameters) = parameters_answer my 
 
 -- ---- what becomes of the own request
 
--- by its number before and after, and whether it was performed
-abbrev pub Stays : OwnAnswer → Option ℕ → Option ℕ → Bool → Type 0
-Stays unanswered before after performed = after ≡ before
-Stays retried before after performed = after ≡ before
-Stays was_performed before after performed = (after ≡ None) × (performed ≡ true)
-Stays has_failed before after performed = after ≡ None
+-- its number before and after effects: it stays, or one of them is its end
+abbrev pub Said : Option ℕ → Option ℕ → List Effect → Type 0
+Said before after happened = (after ≡ before) ⊎ ((has_completed happened ≡ true) ⊎ (has_refused happened ≡ true))
 
-pub own_stays : (before after : Option ℕ) (in_progress performed : Bool) → (after ≡ before) ⊎ (after ≡ None) → Stays (own_answer before after in_progress performed) before after performed
-own_stays None after in_progress performed (inl same) = same
-own_stays None after in_progress performed (inr none) = none
-own_stays (Some number) None in_progress true same = (refl, refl)
-own_stays (Some number) None in_progress false same = refl
-own_stays (Some number) (Some other) true performed (inl same) = same
-own_stays (Some number) (Some other) true performed (inr none) = absurd (cc)
-own_stays (Some number) (Some other) false performed (inl same) = same
-own_stays (Some number) (Some other) false performed (inr none) = absurd (cc)
+said_then : (before between after : Option ℕ) (first rest : List Effect) → Said before between first → Said between after rest → Said before after (first ++ rest)
+said_then before between after first rest (inr (inl completed)) later = inr (inl (completed_among first rest completed))
+said_then before between after first rest (inr (inr refused)) later = inr (inr (refused_among first rest refused))
+said_then before between after first rest (inl same) (inl alike) = inl (alike ∙ same)
+said_then before between after first rest (inl same) (inr (inl completed)) = inr (inl (completed_behind first rest completed))
+said_then before between after first rest (inl same) (inr (inr refused)) = inr (inr (refused_behind first rest refused))
+
+worked_out : (held : Held) (number : ℕ) (reached : Bool) → (worked held number reached).held.own_outstanding ≡ held.own_outstanding
+worked_out held number true = refl
+worked_out held number false = refl
+
+repeated_out : (held : Held) (result : ReconfigurationResponseResult) (reached : Bool) → (repeated held result reached).held.own_outstanding ≡ held.own_outstanding
+repeated_out held SuccessNothingToDo reached = refl
+repeated_out held SuccessPerformed reached = refl
+repeated_out held Denied reached = refl
+repeated_out held ErrorWrongSSN reached = refl
+repeated_out held ErrorRequestAlreadyInProgress reached = refl
+repeated_out held ErrorBadSequenceNumber reached = refl
+repeated_out held InProgress reached = worked_out held held.peer_last reached
+
+pub outgoing_out : (held : Held) (number : ℕ) (reached : Bool) (place : Place) → (outgoing_by held number reached place).held.own_outstanding ≡ held.own_outstanding
+outgoing_out held number reached again = repeated_out held held.peer_result reached
+outgoing_out held number reached next = worked_out held number reached
+outgoing_out held number reached astray = refl
+
+pub incoming_out : (held : Held) (number : ℕ) (place : Place) → (incoming_by held number place).held.own_outstanding ≡ held.own_outstanding
+incoming_out held number again = refl
+incoming_out held number next = refl
+incoming_out held number astray = refl
+
+informed_said : (my : Pair) (held : Held) (number : ℕ) (result : ReconfigurationResponseResult) (b : Bool)
+    → Said held.own_outstanding (informed_where my held number result b).held.own_outstanding (informed_where my held number result b).effects
+informed_said my held number result false = inl refl
+informed_said my held number SuccessNothingToDo true = inr (inl refl)
+informed_said my held number SuccessPerformed true = inr (inl refl)
+informed_said my held number Denied true = inr (inr refl)
+informed_said my held number ErrorWrongSSN true = inr (inr refl)
+informed_said my held number ErrorRequestAlreadyInProgress true = inr (inr refl)
+informed_said my held number ErrorBadSequenceNumber true = inr (inr refl)
+informed_said my held number InProgress true = inl refl
+
+parameters_say : (my : Pair) (reached has_worked : Bool) (held : Held) (parameters : List ResetParameter)
+    → Said held.own_outstanding (work_parameters my reached has_worked held parameters).held.own_outstanding (work_parameters my reached has_worked held parameters).effects
+parameters_say my reached has_worked held [] = inl refl
+parameters_say my reached true held (outgoing_reset_request number answered reset ∷ parameters) = inl refl
+parameters_say my reached false held (outgoing_reset_request number answered reset ∷ parameters) =
+    let first = outgoing_by held number reached (place_of held.peer_last number) in
+    said_then held.own_outstanding first.held.own_outstanding _ first.effects _ (inl (outgoing_out held number reached (place_of held.peer_last number)))
+    (parameters_say my reached true first.held parameters)
+parameters_say my reached has_worked held (incoming_reset_request number streams ∷ parameters) =
+    let first = incoming_by held number (place_of held.peer_last number) in
+    said_then held.own_outstanding first.held.own_outstanding _ first.effects _ (inl (incoming_out held number (place_of held.peer_last number)))
+    (parameters_say my reached has_worked first.held parameters)
+parameters_say my reached has_worked held (reconfiguration_response number result ∷ parameters) =
+    let first = informed_where my held number result (is_outstanding number held.own_outstanding) in
+    said_then held.own_outstanding first.held.own_outstanding _ first.effects _ (informed_said my held number result (is_outstanding number held.own_outstanding))
+    (parameters_say my reached has_worked first.held parameters)
+parameters_say my reached has_worked held (other_reset_parameter parameter ∷ parameters) = parameters_say my reached has_worked held parameters
+
+pub chunk_says : (my : Pair) (reached : Bool) (held : Held) (parameters : List ResetParameter)
+    → Said held.own_outstanding (work_chunk my reached held parameters).held.own_outstanding (work_chunk my reached held parameters).effects
+chunk_says my reached held [] = inl refl
+chunk_says my reached held (parameter ∷ parameters) = parameters_say my reached false held (parameter ∷ parameters)
+
+-- by its number before and after, and whether it was performed or refused
+abbrev pub Stays : OwnAnswer → Option ℕ → Option ℕ → Bool → Bool → Type 0
+Stays unanswered before after performed refused = after ≡ before
+Stays retried before after performed refused = after ≡ before
+Stays was_performed before after performed refused = (after ≡ None) × (performed ≡ true)
+Stays has_failed before after performed refused = (after ≡ None) × (refused ≡ true)
+
+pub own_stays : (before after : Option ℕ) (in_progress : Bool) (happened : List Effect) → (after ≡ before) ⊎ (after ≡ None) → Said before after happened
+    → Stays (own_answer before after in_progress (has_completed happened)) before after (has_completed happened) (has_refused happened)
+own_stays before after in_progress happened same said = go before after in_progress (has_completed happened) (has_refused happened) same said
+  where
+    go : (before after : Option ℕ) (in_progress performed refused : Bool) → (after ≡ before) ⊎ (after ≡ None) → (after ≡ before) ⊎ ((performed ≡ true) ⊎ (refused ≡ true))
+        → Stays (own_answer before after in_progress performed) before after performed refused
+    go None after in_progress performed refused (inl same) said = same
+    go None after in_progress performed refused (inr none) said = none
+    go (Some number) None in_progress true refused same said = (refl, refl)
+    go (Some number) None in_progress false refused same (inl alike) = absurd (cc)
+    go (Some number) None in_progress false refused same (inr (inl completed)) = absurd (cc)
+    go (Some number) None in_progress false refused same (inr (inr is)) = (refl, is)
+    go (Some number) (Some other) true performed refused (inl same) said = same
+    go (Some number) (Some other) true performed refused (inr none) said = absurd (cc)
+    go (Some number) (Some other) false performed refused (inl same) said = same
+    go (Some number) (Some other) false performed refused (inr none) said = absurd (cc)

@@ -42,6 +42,7 @@ module _ (e : Endpoint) (input : Input) (o : Outcome) (small : OpensSmall e inpu
         runs = λ options first size direction run. subst (λ (t : Transfer). Run options first size (receiving direction t direction.read)) (same_left (received direction).left got.left (received direction).is got.is)
             (steps_go_on options first size (receiving direction (begun_transfer e o begun) direction.read) (receiving direction (received direction).left direction.read) run (received direction).steps);
         fits = record { first = begun.my.first_tsn; asking = (made []).asking; fits = (made []).fits };
+        empty = got.waits;
       }
     where
       made : (read : List MessageContent) → Made (came_by input) begun.held.peer.tag (ledger_of [] (begun_below e o begun) [] read nothing_asked) begun.my.first_tsn (inside o.after) [] ([] ++ packets_in o.events) read
@@ -60,18 +61,18 @@ module _ (e : Endpoint) (input : Input) (o : Outcome) (small : OpensSmall e inpu
       same_left : (one other : Transfer) → o.after.below.transfer ≡ Some one → o.after.below.transfer ≡ Some other → one ≡ other
       same_left one other first second = cc
 
-  idle_goes : (worked : Inside) → SomeFit worked.own → worked.below.transfer ≡ None
+  idle_goes : link_in o.after.core ≡ link_in e.core → (worked : Inside) → SomeFit worked.own → worked.below.transfer ≡ None
       → MakesAlso (came_by input) (peer_tag e.core) (queued_after e input) (read_after e input) worked (packets_in o.events) (inside o.after) → ((read : List MessageContent) → read_after e input read ≡ read) → IdleTurns e input o
-  idle_goes worked fits none makes unread =
+  idle_goes linked worked fits none makes unread =
       let made = makes [] [] [] fits.first fits.asking fits.fits in
-      idle_stays (actions_none (came_by input) (peer_tag e.core) _ _ made.actions none) (record { first = fits.first; asking = made.asking; fits = made.fits }) unread
+      idle_stays (inr linked) (actions_none (came_by input) (peer_tag e.core) _ _ made.actions none) (record { first = fits.first; asking = made.asking; fits = made.fits }) unread
 
   pub idle_becomes : e.below.transfer ≡ None → SomeFit (own_of e) → Becomes (came_by input) (peer_tag e.core) (queued_after e input) (read_after e input) e o → IdleTurns e input o
-  idle_becomes none fits (goes_on calm linked makes) = idle_goes (inside e) fits none makes (λ read. read_none e input read none)
+  idle_becomes none fits (goes_on calm linked makes) = idle_goes linked (inside e) fits none makes (λ read. read_none e input read none)
   idle_becomes none fits (works_resets linked between worked own peer makes) =
-      idle_goes worked (worked_fits (came_by input) o (inside e) between worked own peer fits) (front_none (came_by input) o.effects (inside e) between worked own peer none) makes
+      idle_goes linked worked (worked_fits (came_by input) o (inside e) between worked own peer fits) (front_none (came_by input) o.effects (inside e) between worked own peer none) makes
       (λ read. read_none e input read none)
-  idle_becomes none fits (ends gone unread last makes is) = idle_stays (ap (λ (b : Below). b.transfer) is) (unlinked_fits o.after.core o.after.outstanding gone) (λ read. read_none e input read none)
+  idle_becomes none fits (ends gone unread last kept makes is) = idle_stays (inl gone) (ap (λ (b : Below). b.transfer) is) (unlinked_fits o.after.core o.after.outstanding gone) (λ read. read_none e input read none)
   idle_becomes none fits (begins begun opening linked alike unread again makes) = idle_begins (opens begun opening linked unread again makes)
 
 module _ (is_known : Bool) (options : Options) (first size : ℕ) (direction : Direction) (transfer : Transfer) (e : Endpoint) (input : Input) (o : Outcome) (run : Run options first size (receiving direction transfer direction.read))
@@ -80,23 +81,23 @@ module _ (is_known : Bool) (options : Options) (first size : ℕ) (direction : D
   abbrev worked_direction : Bool → Direction
   worked_direction is_reset = record direction { asking = performed_where is_known is_reset direction.asking }
 
-  goes_further : link_in o.after.core ≡ link_in e.core → (is_reset : Bool) → (is_reset ≡ false → (has_reset o.effects ≡ false) ⊎ IsCalm (came_by input)) → (worked : Inside) (between : Transfer)
+  goes_further : link_in o.after.core ≡ link_in e.core → (is_reset : Bool) → (is_reset ≡ false → (has_reset o.effects ≡ false) ⊎ IsCalm (came_by input)) → (is_reset ≡ true → has_reset o.effects ≡ true) → (worked : Inside) (between : Transfer)
       → worked.below.transfer ≡ Some between → (asked : SomeFit worked.own) → Run options first size (resetting is_known direction between is_reset)
       → MakesAlso (came_by input) (peer_tag e.core) (queued_after e input) (read_after e input) worked (packets_in o.events) (inside o.after) → ReceiverTurns is_known options first size direction transfer e input o
-  goes_further linked is_reset none worked between there asked start makes =
+  goes_further linked is_reset none some worked between there asked start makes =
       let made = makes [] [] direction.read asked.first asked.asking asked.fits in
       let got = actions_receive (came_by input) (peer_tag e.core) (ledger_of [] worked.below [] direction.read asked.asking)
       (ledger_of (queued_after e input []) o.after.below ([] ++ packets_in o.events) (read_after e input direction.read) made.asking) (worked_direction is_reset) between was there made.actions in
-      receiver_goes_on linked got.left got.is (record { first = asked.first; asking = made.asking; fits = made.fits }) (performed_where is_known is_reset direction.asking) (is_reset, none, refl)
+      receiver_goes_on linked got.left got.is (record { first = asked.first; asking = made.asking; fits = made.fits }) (performed_where is_known is_reset direction.asking) (is_reset, none, some, refl)
       (steps_go_on options first size (receiving (worked_direction is_reset) between direction.read) (receiving (worked_direction is_reset) got.left (read_after e input direction.read)) start got.steps)
 
   pub receiver_becomes : Becomes (came_by input) (peer_tag e.core) (queued_after e input) (read_after e input) e o → ReceiverTurns is_known options first size direction transfer e input o
   receiver_becomes (goes_on calm linked makes) =
-      goes_further linked false (λ no. inr calm) (inside e) transfer known fits
+      goes_further linked false (λ no. inr calm) (λ is. absurd (cc)) (inside e) transfer known fits
       (subst (λ (a : Asking). Run options first size (record (receiving direction transfer direction.read) { asking = a })) (sym (unperformed is_known direction.asking)) run) makes
   receiver_becomes (works_resets linked between worked own peer makes) =
       let front = front_receives is_known (came_by input) o.effects direction transfer (inside e) between worked newest known own peer in
-      goes_further linked front.is_reset (λ no. inl (front.none no)) worked front.left front.is (worked_fits (came_by input) o (inside e) between worked own peer fits)
+      goes_further linked front.is_reset (λ no. inl (front.none no)) front.some worked front.left front.is (worked_fits (came_by input) o (inside e) between worked own peer fits)
       (steps_go_on options first size (receiving direction transfer direction.read) (resetting is_known direction front.left front.is_reset) run front.steps) makes
-  receiver_becomes (ends none unread last makes is) = receiver_ends none (ap (λ (b : Below). b.transfer) is) unread
+  receiver_becomes (ends none unread last kept makes is) = receiver_ends none (ap (λ (b : Below). b.transfer) is) unread
   receiver_becomes (begins begun opening linked alike unread again makes) = receiver_begins (opens e input o small begun opening linked unread again makes)

@@ -16,7 +16,7 @@ use Rattle.dcsctp_machine.specs.turns.FlushOutcomes.{Answer, draft_to, flush_of,
 use Rattle.dcsctp_machine.specs.turns.ReconfigurationOutcomes.{reset_again}
 use Rattle.dcsctp_machine.specs.turns.ResetOutcomes.{own_moved, waiting, has_completed, requested_in, worked_in, has_reset, answers_in_progress, ResetsBelow, OwnAnswer, unanswered, retried, was_performed, has_failed, answered_in, own_streams, their_streams, reset_events, told_of, resets_worked, reset_refusal_text, responses_outcome, responses_by, ResponseAnswers, WorksResets, ResetTurn, is_reached, core_with}
 use Rattle.dcsctp_machine_refinement.proofs.Bursts.{packets_in-append, emits_core}
-use Rattle.dcsctp_delivery_turns.specs.Actions.{Inside, inside, Makes, OwnEnds, unended, committed, rolled_back, PeerResets, unreset, absent, deferred, reset_now, works_resets}
+use Rattle.dcsctp_delivery_turns.specs.Actions.{Inside, inside, Makes, has_refused, OwnEnds, unended, committed, rolled_back, PeerResets, unreset, absent, deferred, reset_now, works_resets}
 use Rattle.dcsctp_delivery_turns.specs.Asking.{Own, own_with, own_in, own_of}
 use Rattle.std.specs.Option.{option_map}
 use Rattle.dcsctp_machine.proofs.FlushKeeps.{begun_by, flush_keeps}
@@ -27,7 +27,7 @@ use Rattle.dcsctp_machine.specs.control.Effect.{Link, link_of, link_in}
 use Rattle.dcsctp_delivery_turns.proofs.Tags.{flush_link}
 use Rattle.dcsctp_delivery_turns.specs.Tags.{IsPeerTag}
 use Rattle.dcsctp_delivery_turns.proofs.Actions.{emits_link, Goes, MakesTo, both, rests, silent, emitted, flushed}
-use Rattle.dcsctp_delivery_turns.proofs.Performed.{completed_among, reset_in_front, begun_none, chunk_performs, chunk_answers, Stays, own_stays}
+use Rattle.dcsctp_delivery_turns.proofs.Performed.{completed_among, refused_among, chunk_says, reset_in_front, begun_none, chunk_performs, chunk_answers, Stays, own_stays}
 
 events_none : (theirs own : List ℕ) (happened : List Effect) → packets_in (reset_events theirs own happened) ≡ []
 events_none theirs own [] = refl
@@ -80,16 +80,16 @@ own_ended old new none next =
 ends_to : (happened : List Effect) (old : Inside) (below : Below) (own other : Option Own) → own ≡ other → OwnEnds happened old (record { below = below; own = own }) → OwnEnds happened old (record { below = below; own = other })
 ends_to happened old below own other is ends = subst (λ (o : Option Own). OwnEnds happened old (record { below = below; own = o })) is ends
 
-own_ends : (answer : OwnAnswer) (e : Endpoint) (old new : Held) (performed : Bool) (happened : List Effect) → Stays answer old.own_outstanding new.own_outstanding performed → new.own_next ≡ old.own_next
-    → own_of e ≡ Some (own_with old e.outstanding) → (performed ≡ true → has_completed happened ≡ true) → OwnEnds happened (inside e) (moved_inside answer e new)
-own_ends unanswered e old new performed happened stays next is completes =
+own_ends : (answer : OwnAnswer) (e : Endpoint) (old new : Held) (performed refused : Bool) (happened : List Effect) → Stays answer old.own_outstanding new.own_outstanding performed refused → new.own_next ≡ old.own_next
+    → own_of e ≡ Some (own_with old e.outstanding) → (performed ≡ true → has_completed happened ≡ true) → (refused ≡ true → has_refused happened ≡ true) → OwnEnds happened (inside e) (moved_inside answer e new)
+own_ends unanswered e old new performed refused happened stays next is completes refuses =
     ends_to happened (inside e) e.below _ _ (is ∙ own_same old new (reset_again e.outstanding) (reset_again e.outstanding) stays next refl) unended
-own_ends retried e old new performed happened stays next is completes =
+own_ends retried e old new performed refused happened stays next is completes refuses =
     ends_to happened (inside e) e.below _ _ (is ∙ own_same old new (reset_again (option_map waiting e.outstanding)) (reset_again e.outstanding) stays next (waits_same e.outstanding)) unended
-own_ends was_performed e old new performed happened stays next is completes =
+own_ends was_performed e old new performed refused happened stays next is completes refuses =
     ends_to happened (inside e) _ _ _ (own_ended old new stays.0 next) (committed (completes stays.1) (own_with old e.outstanding) is)
-own_ends has_failed e old new performed happened stays next is completes =
-    ends_to happened (inside e) _ _ _ (own_ended old new stays next) (rolled_back (own_with old e.outstanding) is)
+own_ends has_failed e old new performed refused happened stays next is completes refuses =
+    ends_to happened (inside e) _ _ _ (own_ended old new stays.0 next) (rolled_back (refuses stays.1) (own_with old e.outstanding) is)
 
 moved_transfer : (answer : OwnAnswer) (e : Endpoint) → (own_moved answer e).below.transfer ≡ e.below.transfer
 moved_transfer unanswered e = refl
@@ -200,8 +200,9 @@ module _ (to : ℕ) where
       let between : Inside = moved_inside answer e w.held in
       let silent_end : has_reset (w.effects ++ last.effects) ≡ has_reset w.effects = reset_in_front w.effects last.effects (sent_none (Some (re_config parameters)) to w.is_refused base told w.held parameters w.answers turn.answers turn.allowed) in
       let ends : OwnEnds (w.effects ++ last.effects) (inside e) between =
-      own_ends answer e held w.held (has_completed w.effects) (w.effects ++ last.effects)
-      (own_stays held.own_outstanding w.held.own_outstanding _ (has_completed w.effects) brought.keeps.own_outstanding) brought.keeps.own_next own (completed_among w.effects last.effects) in
+      own_ends answer e held w.held (has_completed w.effects) (has_refused w.effects) (w.effects ++ last.effects)
+      (own_stays held.own_outstanding w.held.own_outstanding _ w.effects brought.keeps.own_outstanding (chunk_says my reached held parameters)) brought.keeps.own_next own
+      (completed_among w.effects last.effects) (refused_among w.effects last.effects) in
       let asks : PeerResets (Some (re_config parameters)) (w.effects ++ last.effects) between (with_left turn.left between) =
       peer_resets parameters (w.effects ++ last.effects) (has_reset w.effects) (answers_in_progress w.answers) (requested_in parameters) e.below.transfer turn.left between silent_end refl
       (moved_transfer answer e)

@@ -1,6 +1,6 @@
 -- A turn, as what it does to runs of the direction on which the socket sends.
 use Rattle.dcsctp_delivery_directions.specs.Directions as directions
-use Rattle.std.proofs.Common.{◌≡◌, ◌<◌, ◌^◌, ℕ, None, Some, List, [], ◌++◌, length, refl, sym, subst, arith}
+use Rattle.std.proofs.Common.{◌≡◌, ◌<◌, ◌^◌, ℕ, Option, None, Some, List, [], ◌++◌, length, refl, sym, ◌∙◌, subst, arith}
 use Rattle.std.specs.List.{AllByRecursion}
 use Rattle.dcsctp_machine.specs.declared.options.Options.{Options}
 use Rattle.dcsctp_machine.specs.Endpoint.{Endpoint}
@@ -15,15 +15,16 @@ use Rattle.dcsctp_delivery_sending.specs.Queueing.{QueueWaits}
 use Rattle.dcsctp_delivery_turns.specs.Addressed.{AreAddressed}
 use Rattle.dcsctp_machine.specs.control.Effect.{link_in}
 use Rattle.dcsctp_machine.specs.transfer.Messages.{MessageContent}
-use Rattle.dcsctp_delivery_turns.specs.Runs.{sender_at, OpensSmall, EndsPerformed, SenderTurns, run_goes_on, run_ends, run_begins}
+use Rattle.dcsctp_delivery_turns.specs.Runs.{sender_at, IsBetween, as_it_was, OpensSmall, EndsPerformed, SenderTurns, run_goes_on, run_ends, run_begins}
 use Rattle.dcsctp_delivery_directions.specs.Directions.{Asking, nothing_asked, Direction, Run, IsAwaited}
 use Rattle.dcsctp_delivery_turns.proofs.Sides.{steps_go_on, actions_send}
 use Rattle.dcsctp_machine.specs.Reconfiguration.{RequestedReset}
-use Rattle.dcsctp_delivery_turns.specs.Asking.{own_of, AsksFit}
+use Rattle.dcsctp_delivery_turns.specs.Asking.{Own, own_of, AsksFit, AskingGrows}
+use Rattle.dcsctp_delivery_turns.proofs.Numbering.{actions_kind}
 use Rattle.dcsctp_delivery_turns.proofs.Fronts.{sending_by, front_sends}
 use Rattle.dcsctp_delivery_directions.proofs.Directions.{direction_queues}
 use Rattle.dcsctp_delivery_turns.proofs.Addressed.{data_goes_to_peer}
-use Rattle.dcsctp_delivery_turns.proofs.Beginnings.{input_more, nothing_fits, grows_after, begun_queues, begun_kind}
+use Rattle.dcsctp_delivery_turns.proofs.Beginnings.{input_more, nothing_fits, begun_queues, begun_kind}
 
 module _ (options : Options) (first size : ℕ) (direction : Direction) (e : Endpoint) (input : Input) (o : Outcome) (run : Run options first size direction) (small : first < 2 ^ 32) (same : direction.below ≡ e.below)
     (fits : AsksFit first (own_of e) direction.asking) (performed : EndsPerformed e o direction.asking) (opens : OpensSmall e input o) (few : length (queued_after e input direction.queued) < 2 ^ 64) where
@@ -51,26 +52,27 @@ module _ (options : Options) (first size : ℕ) (direction : Direction) (e : End
   addressed to old asking start last queued read made = data_goes_to_peer (came_by input) to _ _ tt made.actions
 
   -- The turn goes on after these steps.
-  goes_further : link_in o.after.core ≡ link_in e.core → (worked : Inside) (asking : Asking) → asking.requests ≡ direction.asking.requests → asking.is_performed ≡ direction.asking.is_performed
+  goes_further : link_in o.after.core ≡ link_in e.core → (worked : Inside) (asking : Asking) → IsBetween o.effects direction.asking asking → worked.below.queue.is_interleaved ≡ e.below.queue.is_interleaved
       → AsksFit first worked.own asking → Run options first size (sending_by direction worked asking)
       → MakesAlso (came_by input) (peer_tag e.core) (queued_after e input) (read_after e input) worked (packets_in o.events) (inside o.after) → SenderTurns options first size direction e input o
-  goes_further linked worked asking requests alike fit start makes =
+  goes_further linked worked asking between kind fit start makes =
       let made = makes direction.queued direction.sent [] first asking fit in
       let after = moved worked asking start (inside o.after) made in
-      run_goes_on linked (addressed (peer_tag e.core) worked asking first (inside o.after) _ _ (makes direction.queued [] [] first asking fit)) after.0 made.asking
-      (grows_after direction.asking asking made.asking requests alike made.grows) made.fits after.1
+      run_goes_on linked (addressed (peer_tag e.core) worked asking first (inside o.after) _ _ (makes direction.queued [] [] first asking fit))
+      (actions_kind (came_by input) (peer_tag e.core) _ _ made.actions ∙ kind) after.0 asking made.asking between made.grows made.fits after.1
 
   pub sender_becomes : Becomes (came_by input) (peer_tag e.core) (queued_after e input) (read_after e input) e o → SenderTurns options first size direction e input o
-  sender_becomes (goes_on calm linked makes) = goes_further linked (inside e) direction.asking refl refl fits starts makes
+  sender_becomes (goes_on calm linked makes) = goes_further linked (inside e) direction.asking as_it_was refl fits starts makes
   sender_becomes (works_resets linked between worked own peer makes) =
       let front = front_sends (came_by input) first direction o.effects (inside e) between worked own peer fits performed in
-      goes_further linked worked front.asking front.requests front.same front.fits
+      goes_further linked worked front.asking front.between front.kind front.fits
       (steps_go_on options first size (sending_by direction (inside e) direction.asking) (sending_by direction worked front.asking) starts front.steps) makes
-  sender_becomes (ends none unread last makes is) =
+  sender_becomes (ends none unread last kept makes is) =
       let made = makes direction.queued direction.sent [] first direction.asking fits in
       let after = moved (inside e) direction.asking starts last made in
       let left = direction_queues options first size (after_turn last.below after.0 made.asking) after.1 small few in
-      run_ends none (addressed (peer_tag e.core) (inside e) direction.asking first last _ _ (makes direction.queued [] [] first direction.asking fits)) last.below after.0 made.asking made.grows after.1 is left.0 left.1
+      run_ends none (addressed (peer_tag e.core) (inside e) direction.asking first last _ _ (makes direction.queued [] [] first direction.asking fits)) last.below
+      (actions_kind (came_by input) (peer_tag e.core) _ _ made.actions) after.0 made.asking made.grows (subst (λ (o : Option Own). AsksFit first o made.asking) kept made.fits) after.1 is left.0 left.1
   sender_becomes (begins begun opening linked alike unread again makes) =
       let waits = subst (λ (b : Below). QueueWaits direction.queued b.queue) same both.0 in
       run_begins begun opening linked
@@ -82,7 +84,7 @@ module _ (options : Options) (first size : ℕ) (direction : Direction) (e : End
       started reset = record { below = begun_below e o begun; own = Some (record { number = None; next = begun.my.first_tsn; again = reset }) }
 
       later : (other : Options) (room : ℕ) (awaiting : Direction) (queued : List Message) → QueueWaits queued e.below.queue → AllByRecursion Fits queued → Run other begun.my.first_tsn room awaiting → IsAwaited awaiting
-          → (acknowledged : ℕ) × (asking : Asking) × AsksFit begun.my.first_tsn (own_of o.after) asking
+          → (acknowledged : ℕ) × (asking : Asking) × AskingGrows nothing_asked asking × AsksFit begun.my.first_tsn (own_of o.after) asking
           × Run other begun.my.first_tsn room (sender_at awaiting queued o.after.below acknowledged (packets_in o.events) asking)
       later other room awaiting queued shown fit waits awaited =
           let start : Run other begun.my.first_tsn room (sender_at awaiting queued (begun_below e o begun) awaiting.acknowledged awaiting.sent awaiting.asking) =
@@ -98,6 +100,7 @@ module _ (options : Options) (first size : ℕ) (direction : Direction) (e : End
           awaiting.tracker awaiting.reassembly awaiting.read made.actions in (
             sends.later,
             made.asking,
+            made.grows,
             made.fits,
             steps_go_on other begun.my.first_tsn room (sender_at awaiting queued (begun_below e o begun) 0 [] nothing_asked)
                 (sender_at awaiting queued o.after.below sends.later (packets_in o.events) made.asking) here sends.steps,

@@ -107,7 +107,7 @@ module _ (came : Option Content) (calm : IsCalm came) (to : ℕ) where
 
   pub shut_down_goes : (e : Endpoint) (core : Core) → e.core ≡ core → Goes came to e (shut_down_outcome e core)
   shut_down_goes e closed at = goes_on calm refl (rests came to (inside e))
-  shut_down_goes e (cookie_wait my) at = ends refl (λ read. refl) (inside e) (rests came to (inside e)) refl
+  shut_down_goes e (cookie_wait my) at = ends refl (λ read. refl) (inside e) refl (rests came to (inside e)) refl
   shut_down_goes e (cookie_echoed my held cookie) at = goes_on calm (from_link (t1_stopped e) shutdown_pending my held ∙ sym (ap link_in at)) (step_from_makes e (t1_stopped e) shutdown_pending my held refl (ap (λ (c : Core). own_in c e.outstanding) at))
   shut_down_goes e (open_in established my held) at = goes_on calm (from_link e shutdown_pending my held ∙ sym (ap link_in at)) (step_from_makes e e shutdown_pending my held refl (ap (λ (c : Core). own_in c e.outstanding) at))
   shut_down_goes e (open_in shutdown_pending my held) at = goes_on calm refl (rests came to (inside e))
@@ -128,7 +128,7 @@ module _ (came : Option Content) (calm : IsCalm came) (to : ℕ) where
   shutdown_goes e (open_in shutdown_ack_sent my held) at = goes_on calm (sym (ap link_in at)) (phase_makes e _ _ (ap (λ (c : Core). own_in c e.outstanding) at) (says_ack (inside e) held))
 
   completed_goes : (e : Endpoint) (held : Held) → Goes came to e (completed_outcome e held)
-  completed_goes e held = ended came to e (sends e [] [] (to_peer held (shutdown_complete false))) events.closed refl (spoken came to (inside e) (to_peer held (shutdown_complete false)) (tt, tt))
+  completed_goes e held = ended came to e (sends e [] [] (to_peer held (shutdown_complete false))) events.closed refl refl (spoken came to (inside e) (to_peer held (shutdown_complete false)) (tt, tt))
 
   reflected_goes : (e : Endpoint) (tag : ℕ) → Goes came to e (reflected_outcome e tag)
   reflected_goes e tag = goes_on calm refl (spoken came to (inside e) (record { with_checksum = true; packet = record { tag = tag; contents = shutdown_complete true ∷ [] } }) (tt, tt))
@@ -151,7 +151,7 @@ module _ (came : Option Content) (calm : IsCalm came) (to : ℕ) where
   shutdown_complete_goes e (open_in shutdown_pending my held) = goes_on calm refl (rests came to (inside e))
   shutdown_complete_goes e (open_in shutdown_sent my held) = goes_on calm refl (rests came to (inside e))
   shutdown_complete_goes e (open_in shutdown_received my held) = goes_on calm refl (rests came to (inside e))
-  shutdown_complete_goes e (open_in shutdown_ack_sent my held) = ends refl (λ read. refl) (inside e) (rests came to (inside e)) refl
+  shutdown_complete_goes e (open_in shutdown_ack_sent my held) = ends refl (λ read. refl) (inside e) refl (rests came to (inside e)) refl
 
   -- ---- T2, and data while a SHUTDOWN waits for its answer
 

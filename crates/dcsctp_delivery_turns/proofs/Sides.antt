@@ -14,6 +14,9 @@ use Rattle.dcsctp_machine.specs.turns.TransferMoves.{timed_by, lost_all}
 use Rattle.dcsctp_delivery_turns.specs.Actions.{Ledger, Action, queues, sets, prepares, flushes, resends, resends_nothing, speaks, asks_again, acknowledges, loses, receives, receives_interleaved, forwards, forwards_interleaved, tracks, takes, Actions, nothing, further}
 use Rattle.dcsctp_delivery_turns.specs.Sides.{Steps, stays, moves, sending, SendingSteps, WasIn, WasSent, receiving, ReceivingSteps}
 use Rattle.dcsctp_delivery_directions.specs.Directions.{Direction, Step, Run, goes_on}
+use Rattle.dcsctp_machine.specs.transfer.Arrivals.{data_arrival, i_data_arrival, skipped_in, messages_skipped_in}
+use Rattle.dcsctp_delivery_turns.specs.PeerRequests.{SameWaits}
+use Rattle.dcsctp_delivery_turns.proofs.Waiting.{same_waits, waits_by, waits_then, receives_wait, moves_wait}
 use Rattle.dcsctp_delivery_turns.proofs.Received.{data_where, forward_where, Alike, alike, alike_then, timed_alike, flush_left}
 
 pub steps_go_on : (options : Options) (first size : ℕ) (old new : Direction) → Run options first size old → Steps old new → Run options first size new
@@ -76,13 +79,15 @@ module _ (came : Option Content) (to : ℕ) (direction : Direction) (was : WasSe
       record {
         left = left;
         is = is;
+        waits = waits_by transfer.reassembly.deferral left.reassembly.deferral (ap (λ (r : ReassemblyState). r.deferral) like.reassembly);
         steps = subst (λ (l : List MessageContent). Steps (receiving direction transfer old.read) (receiving direction left l)) (sym same)
             (subst (λ (r : ReassemblyState). Steps (receiving direction transfer old.read) (record direction { tracker = left.tracker; reassembly = r; read = old.read })) (sym like.reassembly)
             (one_step (receiving direction transfer old.read) (record direction { tracker = left.tracker; reassembly = transfer.reassembly; read = old.read }) (directions.tracks left.tracker like.cumulative like.ranges)));
       }
 
-  by_step : (old new : Ledger) (transfer left : Transfer) → new.below.transfer ≡ Some left → Step (receiving direction transfer old.read) (receiving direction left new.read) → ReceivingSteps direction transfer old new
-  by_step old new transfer left is step = record { left = left; is = is; steps = one_step (receiving direction transfer old.read) (receiving direction left new.read) step }
+  by_step : (old new : Ledger) (transfer left : Transfer) → new.below.transfer ≡ Some left → Step (receiving direction transfer old.read) (receiving direction left new.read)
+      → SameWaits transfer.reassembly.deferral left.reassembly.deferral → ReceivingSteps direction transfer old new
+  by_step old new transfer left is step waits = record { left = left; is = is; waits = waits; steps = one_step (receiving direction transfer old.read) (receiving direction left new.read) step }
 
   same_transfer : (found : Option Transfer) (one other : Transfer) → found ≡ Some one → found ≡ Some other → one ≡ other
   same_transfer found one other first second = cc
@@ -125,21 +130,25 @@ module _ (came : Option Content) (to : ℕ) (direction : Direction) (was : WasSe
       let sent : WasIn direction.sent (data_chunk chunk) = subst (λ (c : Option Content). WasSent direction.sent c) came_is was in
       by_step old _ transfer new refl
       (directions.receives sent.emission chunk found new sent.was sent.holds some (ap (λ (t : Transfer). t.tracker) same) (ap (λ (t : Transfer). t.reassembly) same) does)
+      (subst (λ (t : Transfer). SameWaits t.reassembly.deferral new.reassembly.deferral) same (receives_wait (data_arrival chunk) found new does))
   action_receives old _ transfer is (receives_interleaved chunk found new came_is some known does) =
       let same : found ≡ transfer = same_transfer old.below.transfer found transfer known is in
       let sent : WasIn direction.sent (i_data_chunk chunk) = subst (λ (c : Option Content). WasSent direction.sent c) came_is was in
       by_step old _ transfer new refl
       (directions.receives_interleaved sent.emission chunk found new sent.was sent.holds some (ap (λ (t : Transfer). t.tracker) same) (ap (λ (t : Transfer). t.reassembly) same) does)
+      (subst (λ (t : Transfer). SameWaits t.reassembly.deferral new.reassembly.deferral) same (receives_wait (i_data_arrival chunk) found new does))
   action_receives old _ transfer is (forwards tsn streams found new came_is known does) =
       let same : found ≡ transfer = same_transfer old.below.transfer found transfer known is in
       let sent : WasIn direction.sent (forward_tsn_chunk tsn streams) = subst (λ (c : Option Content). WasSent direction.sent c) came_is was in
       by_step old _ transfer new refl
       (directions.forwards sent.emission tsn streams found new sent.was sent.holds (ap (λ (t : Transfer). t.tracker) same) (ap (λ (t : Transfer). t.reassembly) same) does)
+      (subst (λ (t : Transfer). SameWaits t.reassembly.deferral new.reassembly.deferral) same (moves_wait tsn (skipped_in streams) found new does))
   action_receives old _ transfer is (forwards_interleaved tsn streams found new came_is known does) =
       let same : found ≡ transfer = same_transfer old.below.transfer found transfer known is in
       let sent : WasIn direction.sent (i_forward_tsn_chunk tsn streams) = subst (λ (c : Option Content). WasSent direction.sent c) came_is was in
       by_step old _ transfer new refl
       (directions.forwards_interleaved sent.emission tsn streams found new sent.was sent.holds (ap (λ (t : Transfer). t.tracker) same) (ap (λ (t : Transfer). t.reassembly) same) does)
+      (subst (λ (t : Transfer). SameWaits t.reassembly.deferral new.reassembly.deferral) same (moves_wait tsn (messages_skipped_in streams) found new does))
   action_receives old _ transfer is (tracks found tracked known cumulative ranges) =
       alike_receives old _ transfer _ refl refl (like (same_transfer old.below.transfer found transfer known is))
     where
@@ -147,10 +156,10 @@ module _ (came : Option Content) (to : ℕ) (direction : Direction) (was : WasSe
       like same = subst (λ (t : Transfer). Alike t (record found { tracker = tracked })) same (record { cumulative = cumulative; ranges = ranges; reassembly = refl })
   action_receives old new transfer is (takes found message messages known ready) =
       subst (λ (t : Transfer). ReceivingSteps direction t old new) (same_transfer old.below.transfer found transfer known is)
-      (by_step old new found _ refl (directions.takes message messages ready))
+      (by_step old new found _ refl (directions.takes message messages ready) (same_waits found.reassembly.deferral))
 
   all_receive : (old new : Ledger) (transfer : Transfer) → old.below.transfer ≡ Some transfer → Actions came to old new → ReceivingSteps direction transfer old new
-  all_receive old _ transfer is nothing = record { left = transfer; is = is; steps = stays }
+  all_receive old _ transfer is nothing = record { left = transfer; is = is; steps = stays; waits = same_waits transfer.reassembly.deferral }
   all_receive old _ transfer is (further between new first last) =
       let before = all_receive old between transfer is first in
       let after = action_receives between new before.left before.is last in
@@ -158,6 +167,7 @@ module _ (came : Option Content) (to : ℕ) (direction : Direction) (was : WasSe
         left = after.left;
         is = after.is;
         steps = all_steps (receiving direction transfer old.read) (receiving direction before.left between.read) (receiving direction after.left new.read) before.steps after.steps;
+        waits = waits_then transfer.reassembly.deferral before.left.reassembly.deferral after.left.reassembly.deferral before.waits after.waits;
       }
 
 pub actions_receive : (came : Option Content) (to : ℕ) (old new : Ledger) (direction : Direction) (transfer : Transfer) → WasSent direction.sent came → old.below.transfer ≡ Some transfer → Actions came to old new

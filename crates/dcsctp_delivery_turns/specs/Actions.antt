@@ -1,6 +1,6 @@
--- What a turn of a socket does to its queues, action by action. Each action is a step of the direction on which the socket sends, and of the
--- one on which it receives (specs/Sides).
-use Rattle.std.specs.Prelude.{◌≡◌, ◌≢◌, ◌<◌, ◌⊎◌, ℕ, true, false, Option, None, Some, List, [], ◌∷◌, ◌++◌, length}
+-- What a turn of a socket does to its queues, action by action. Each action is a step of the direction on which the socket sends, and of
+-- the one on which it receives (specs/Sides).
+use Rattle.std.specs.Prelude.{◌≡◌, ◌≢◌, ◌<◌, ◌⊎◌, ℕ, Bool, true, false, Option, None, Some, List, [], ◌∷◌, ◌++◌, length}
 use Rattle.std.specs.List.{AllByRecursion}
 use Rattle.dcsctp_wire.specs.Content.{DataContent, IDataContent, SackContent, data_chunk, i_data_chunk, forward_tsn_chunk, i_forward_tsn_chunk}
 use Rattle.dcsctp_machine.specs.declared.association.Held.{Held}
@@ -12,7 +12,7 @@ use Rattle.dcsctp_machine.specs.Packet.{Content, re_config, init, init_ack, cook
 use Rattle.dcsctp_machine.specs.Turn.{Input, chunk_input, act_input, user_sends, user_takes, restores, Turn}
 use Rattle.dcsctp_machine.specs.control.Acts.{request_again}
 use Rattle.dcsctp_machine.specs.control.Choices.{plain_contents}
-use Rattle.dcsctp_machine.specs.control.Effect.{Effect, holds, link_of, link_in}
+use Rattle.dcsctp_machine.specs.control.Effect.{Effect, holds, fails, link_of, link_in}
 use Rattle.dcsctp_machine.specs.transfer.Acknowledging.{is_sack_valid}
 use Rattle.dcsctp_machine.specs.transfer.Arrivals.{data_arrival, i_data_arrival, skipped_in, messages_skipped_in}
 use Rattle.dcsctp_machine.specs.transfer.AtOnce.{SendsAtOnce}
@@ -176,11 +176,17 @@ MakesAlso came to adds taken old packets new =
 abbrev pub ended_own : Own → Own
 ended_own own = record own { number = None; again = reset_again None }
 
+-- was it refused?
+abbrev pub has_refused : List Effect → Bool
+has_refused [] = false
+has_refused (fails number ∷ effects) = true
+has_refused (effect ∷ effects) = has_refused effects
+
 -- What the peer answers to the own request, if these are the effects of the turn.
 pub data OwnEnds (happened : List Effect) (old : Inside) : Inside → Type 0 where
   unended : OwnEnds happened old old
   committed : has_completed happened ≡ true → (own : Own) → old.own ≡ Some own → OwnEnds happened old (record { below = record old.below { queue = queue_committed old.below.queue }; own = Some (ended_own own) })
-  rolled_back : (own : Own) → old.own ≡ Some own → OwnEnds happened old (record { below = record old.below { queue = queue_rolled_back old.below.queue }; own = Some (ended_own own) })
+  rolled_back : has_refused happened ≡ true → (own : Own) → old.own ≡ Some own → OwnEnds happened old (record { below = record old.below { queue = queue_rolled_back old.below.queue }; own = Some (ended_own own) })
 
 -- What the peer asks: its streams are reset, or will be once all up to a TSN was received.
 pub data PeerResets (came : Option Content) (happened : List Effect) (old : Inside) : Inside → Type 0 where
@@ -222,13 +228,13 @@ IsOpening (Some (init_ack theirs cookie)) = Unit {0}
 IsOpening (Some (cookie_echo cookie)) = Unit {0}
 IsOpening came = ⊥
 
--- What becomes of the association of a socket in a turn: it goes on, or there is none and none begins; it ends after its last packets; or
--- another one begins, and takes its place.
+-- What becomes of the association of a socket in a turn: it goes on, or there is none and none begins; it ends after its last packets,
+-- and no own request begins or ends before; or another one begins, and takes its place.
 pub data Becomes (came : Option Content) (to : ℕ) (adds : List Message → List Message) (taken : List MessageContent → List MessageContent) (e : Endpoint) (o : Outcome) : Type 0 where
   goes_on : IsCalm came → link_in o.after.core ≡ link_in e.core → MakesAlso came to adds taken (inside e) (packets_in o.events) (inside o.after) → Becomes came to adds taken e o
   works_resets : link_in o.after.core ≡ link_in e.core → (between worked : Inside) → OwnEnds o.effects (inside e) between → PeerResets came o.effects between worked
       → MakesAlso came to adds taken worked (packets_in o.events) (inside o.after) → Becomes came to adds taken e o
-  ends : link_in o.after.core ≡ None → ((read : List MessageContent) → taken read ≡ read) → (last : Inside) → MakesAlso came to adds taken (inside e) (packets_in o.events) last
+  ends : link_in o.after.core ≡ None → ((read : List MessageContent) → taken read ≡ read) → (last : Inside) → last.own ≡ own_of e → MakesAlso came to adds taken (inside e) (packets_in o.events) last
       → o.after.below ≡ record last.below { transfer = None } → Becomes came to adds taken e o
   begins : (begun : Begun e o) → IsOpening came → link_in o.after.core ≡ Some (link_of begun.my begun.held) → ((queued : List Message) → adds queued ≡ queued) → ((read : List MessageContent) → taken read ≡ read)
       → (again : RequestedReset) → Makes came begun.held.peer.tag (record { below = begun_below e o begun; own = Some (record { number = None; next = begun.my.first_tsn; again = again }) }) (packets_in o.events) (inside o.after)

@@ -1,5 +1,5 @@
 -- What a socket keeps of its own requests to reset streams, and what it has begun of them in its association (RFC 6525, section 5.1.2).
-use Rattle.std.specs.Prelude.{◌≡◌, ◌+◌, ◌%◌, ◌^◌, ℕ, Option, None, Some, List, [], ◌∷◌, ◌++◌, length}
+use Rattle.std.specs.Prelude.{◌≡◌, ◌+◌, ◌%◌, ◌^◌, ℕ, Option, None, Some, List, [], ◌∷◌, ◌++◌, length, false}
 use Rattle.dcsctp_machine.specs.declared.association.Held.{Held}
 use Rattle.dcsctp_machine.specs.Endpoint.{Endpoint, Core, closed, cookie_wait, cookie_echoed, open_in, OutstandingRequest}
 use Rattle.dcsctp_machine.specs.Reconfiguration.{RequestedReset}
@@ -65,4 +65,7 @@ pub record SomeFit (own : Option Own) : Type 0 where
 pub record AskingGrows (old new : Asking) : Type 0 where
   pub more : List BegunReset
   pub is : new.requests ≡ more ++ old.requests
+  pub count : new.out ≡ length more + old.out
   pub same : more ≡ [] → new.is_performed ≡ old.is_performed
+  -- The newest isn't performed in the turn that begins it.
+  pub anew : (newest : BegunReset) (rest : List BegunReset) → more ≡ newest ∷ rest → new.is_performed ≡ false

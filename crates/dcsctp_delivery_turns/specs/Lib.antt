@@ -4,3 +4,6 @@ pub mod Actions
 pub mod Sides
 pub mod Addressed
 pub mod Runs
+pub mod Completing
+pub mod PeerRequests
+pub mod Holding

@@ -14,7 +14,7 @@ use Rattle.dcsctp_machine.specs.transfer.Tracker.{new_tracker}
 use Rattle.dcsctp_machine.specs.transfer.Transfer.{Transfer, Below}
 use Rattle.std.specs.List.{AllByRecursion}
 use Rattle.dcsctp_delivery_sending.specs.Log.{Fits, Message}
-use Rattle.dcsctp_delivery_turns.specs.Actions.{peer_tag, came_by, queued_after, read_after, Begun, begun_transfer, IsOpening, IsCall, IsCalm}
+use Rattle.dcsctp_delivery_turns.specs.Actions.{peer_tag, came_by, queued_after, read_after, Begun, begun_transfer, IsOpening, IsCall, IsCalm, has_refused}
 use Rattle.dcsctp_machine.specs.Packet.{Content, re_config}
 use Rattle.dcsctp_machine.specs.Reconfiguration.{RequestedReset, ResetParameter}
 use Rattle.dcsctp_machine.specs.control.Effect.{Effect}
@@ -25,7 +25,7 @@ use Rattle.dcsctp_delivery_turns.specs.Asking.{own_of, AsksFit, SomeFit, AskingG
 use Rattle.dcsctp_delivery_turns.specs.Addressed.{AreAddressed}
 use Rattle.dcsctp_delivery_sending.specs.Queueing.{QueueWaits}
 use Rattle.dcsctp_delivery_turns.specs.Sides.{WasSent, receiving}
-use Rattle.dcsctp_delivery_directions.specs.Directions.{Direction, Asking, nothing_asked, Run, IsAwaited}
+use Rattle.dcsctp_delivery_directions.specs.Directions.{Direction, Asking, nothing_asked, all_ended, Run, IsAwaited}
 
 -- the direction, with this at its sender
 abbrev pub sender_at : Direction → List Message → Below → ℕ → List Emission → Asking → Direction
@@ -45,20 +45,28 @@ new_direction options first size queued below acknowledged sent =
       asking = nothing_asked;
     }
 
+-- What was begun, once the own request has ended, or as it was.
+pub data IsBetween (happened : List Effect) (old : Asking) : Asking → Type 0 where
+  as_it_was : IsBetween happened old old
+  once_performed : has_completed happened ≡ true → IsBetween happened old (all_ended old)
+  once_refused : has_refused happened ≡ true → IsBetween happened old (all_ended old)
+
 -- A run goes on by a turn of the sender; or the association ends after its last packets, and there is none; or another one begins, whoever
 -- receives, and whatever that side has done before. All data goes to the peer's tag. Where an association ends or begins, what no longer
 -- waits may be marked as spent.
 pub data SenderTurns (options : Options) (first size : ℕ) (direction : Direction) (e : Endpoint) (input : Input) (o : Outcome) : Type 0 where
-  run_goes_on : link_in o.after.core ≡ link_in e.core → AreAddressed (peer_tag e.core) (packets_in o.events) → (acknowledged : ℕ) (asking : Asking) → AskingGrows direction.asking asking → AsksFit first (own_of o.after) asking
+  run_goes_on : link_in o.after.core ≡ link_in e.core → AreAddressed (peer_tag e.core) (packets_in o.events) → o.after.below.queue.is_interleaved ≡ e.below.queue.is_interleaved
+      → (acknowledged : ℕ) (between asking : Asking) → IsBetween o.effects direction.asking between → AskingGrows between asking → AsksFit first (own_of o.after) asking
       → Run options first size (sender_at direction (queued_after e input direction.queued) o.after.below acknowledged (direction.sent ++ packets_in o.events) asking) → SenderTurns options first size direction e input o
-  run_ends : link_in o.after.core ≡ None → AreAddressed (peer_tag e.core) (packets_in o.events) → (last : Below) (acknowledged : ℕ) (asking : Asking) → AskingGrows direction.asking asking
+  run_ends : link_in o.after.core ≡ None → AreAddressed (peer_tag e.core) (packets_in o.events) → (last : Below) → last.queue.is_interleaved ≡ e.below.queue.is_interleaved
+      → (acknowledged : ℕ) (asking : Asking) → AskingGrows direction.asking asking → AsksFit first (own_of e) asking
       → Run options first size (sender_at direction (queued_after e input direction.queued) last acknowledged (direction.sent ++ packets_in o.events) asking)
       → o.after.below ≡ record last { transfer = None } → QueueWaits (queued_after e input direction.queued) last.queue → AllByRecursion Fits (queued_after e input direction.queued)
       → SenderTurns options first size direction e input o
   run_begins : (begun : Begun e o) → IsOpening (came_by input) → link_in o.after.core ≡ Some (link_of begun.my begun.held) → AreAddressed begun.held.peer.tag (packets_in o.events) → queued_after e input direction.queued ≡ direction.queued
       → QueueWaits direction.queued e.below.queue → AllByRecursion Fits direction.queued
       → ((other : Options) (room : ℕ) (awaiting : Direction) (queued : List Message) → QueueWaits queued e.below.queue → AllByRecursion Fits queued → Run other begun.my.first_tsn room awaiting → IsAwaited awaiting
-      → (acknowledged : ℕ) × (asking : Asking) × AsksFit begun.my.first_tsn (own_of o.after) asking
+      → (acknowledged : ℕ) × (asking : Asking) × AskingGrows nothing_asked asking × AsksFit begun.my.first_tsn (own_of o.after) asking
       × Run other begun.my.first_tsn room (sender_at awaiting queued o.after.below acknowledged (packets_in o.events) asking))
       → SenderTurns options first size direction e input o
 
@@ -88,7 +96,7 @@ SendersBeginAnew =
     (options : Options) (first size : ℕ) (queued : List Message) (below : Below) → AllByRecursion Fits queued → QueueWaits queued below.queue → below.transfer ≡ None
     → Run options first size (new_direction options first size queued below 0 [])
 
--- An association begins, and what its receiver does in the same turn are steps of a run.
+-- An association begins, and what its receiver does in the same turn are steps of a run. It waits for no reset.
 pub record Opens (e : Endpoint) (input : Input) (o : Outcome) : Type 0 where
   pub begun : Begun e o
   pub opening : IsOpening (came_by input)
@@ -99,6 +107,7 @@ pub record Opens (e : Endpoint) (input : Input) (o : Outcome) : Type 0 where
   pub runs : (options : Options) (first size : ℕ) (direction : Direction) → Run options first size (receiving direction (begun_transfer e o begun) direction.read)
       → Run options first size (receiving direction left direction.read)
   pub fits : SomeFit (own_of o.after)
+  pub empty : left.reassembly.deferral ≡ None
 
 -- The request that is handled is the newest that the sender has begun, and what waits, waits for it.
 pub record IsNewest (direction : Direction) (transfer : Transfer) (reset : RequestedReset) : Type 0 where
@@ -120,10 +129,11 @@ performed_where true true asking = record asking { is_performed = true }
 performed_where true false asking = asking
 performed_where false is_reset asking = asking
 
--- So it is after the turn, if it performs a request.
+-- So it is after the turn, if it performs a request, and it does so only if the effects say so.
 abbrev pub PerformedBy : Bool → Input → Outcome → Direction → Asking → Type 0
 PerformedBy is_known input o direction asking =
-    (is_reset : Bool) × (is_reset ≡ false → has_reset o.effects ≡ false ⊎ IsCalm (came_by input)) × (asking ≡ performed_where is_known is_reset direction.asking)
+    (is_reset : Bool) × (is_reset ≡ false → has_reset o.effects ≡ false ⊎ IsCalm (came_by input)) × (is_reset ≡ true → has_reset o.effects ≡ true)
+    × (asking ≡ performed_where is_known is_reset direction.asking)
 
 -- A run goes on by a turn of the receiver, where what is handled was sent; or the association ends, maybe after it has received more; or
 -- another one begins.
@@ -141,7 +151,7 @@ ReceiversGoOn =
 
 -- Where there is no association, none is there after the turn, and nothing is read; or one begins.
 pub data IdleTurns (e : Endpoint) (input : Input) (o : Outcome) : Type 0 where
-  idle_stays : o.after.below.transfer ≡ None → SomeFit (own_of o.after) → ((read : List MessageContent) → read_after e input read ≡ read) → IdleTurns e input o
+  idle_stays : (link_in o.after.core ≡ None) ⊎ (link_in o.after.core ≡ link_in e.core) → o.after.below.transfer ≡ None → SomeFit (own_of o.after) → ((read : List MessageContent) → read_after e input read ≡ read) → IdleTurns e input o
   idle_begins : Opens e input o → IdleTurns e input o
 
 abbrev pub ReceiversBegin : Type 0

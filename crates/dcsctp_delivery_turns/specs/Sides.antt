@@ -10,6 +10,7 @@ use Rattle.dcsctp_machine.specs.transfer.Tracker.{TrackerState}
 use Rattle.dcsctp_machine.specs.transfer.Transfer.{Transfer}
 use Rattle.dcsctp_delivery_sending.specs.Flushes.{NoRequests}
 use Rattle.dcsctp_delivery_turns.specs.Actions.{Ledger, Actions}
+use Rattle.dcsctp_delivery_turns.specs.PeerRequests.{SameWaits}
 use Rattle.dcsctp_delivery_sending.specs.Places.{Has}
 use Rattle.dcsctp_delivery_directions.specs.Directions.{Direction, Step, Run}
 
@@ -67,11 +68,12 @@ WasSent sent came = Unit {0}
 abbrev pub receiving : Direction → Transfer → List MessageContent → Direction
 receiving direction transfer read = record direction { tracker = transfer.tracker; reassembly = transfer.reassembly; read = read }
 
--- The socket comes there by steps.
+-- The socket comes there by steps. What waits for a reset waits for it still.
 pub record ReceivingSteps (direction : Direction) (transfer : Transfer) (old new : Ledger) : Type 0 where
   pub left : Transfer
   pub is : new.below.transfer ≡ Some left
   pub steps : Steps (receiving direction transfer old.read) (receiving direction left new.read)
+  pub waits : SameWaits transfer.reassembly.deferral left.reassembly.deferral
 
 -- The actions of a socket in an association are steps of the direction on which it receives, where what is handled was sent.
 abbrev pub ActionsReceive : Type 0

@@ -2,6 +2,8 @@
 
 ghost use Rattle.dcsctp_delivery_turns.specs.Actions.{TurnsAreActions};
 ghost use Rattle.dcsctp_delivery_turns.specs.Addressed.{DataGoesToPeer, AddressedTagsAreOwn};
+ghost use Rattle.dcsctp_delivery_turns.specs.Completing.{CompletesOwn};
+ghost use Rattle.dcsctp_delivery_turns.specs.PeerRequests.{CalmAsksNothing, EndsAskNothing, PeersTurn, UnlinkedAsksNothing};
 ghost use Rattle.dcsctp_delivery_turns.specs.Runs.{ReceiversBegin, ReceiversGoOn, SendersBegin, SendersBeginAnew, SendersGoOn};
 ghost use Rattle.dcsctp_delivery_turns.specs.Sides.{StepsGoOn, ActionsSend, ActionsReceive};
 ghost use Rattle.dcsctp_delivery_turns.specs.Tags.{TagsAreOwn, EchoesBearOwnTag, FlushesGoToPeer};
@@ -40,4 +42,20 @@ pub fn runs_go_on()
     ensures anew { SendersBeginAnew }
     ensures receives { ReceiversGoOn }
     ensures idle { ReceiversBegin }
+{}
+
+/// An own request to reset streams that ends as performed is the one that had no end, of the association that the
+/// socket holds (RFC 6525, section 5.2.7).
+pub fn own_requests_complete()
+    ensures { CompletesOwn }
+{}
+
+/// What a turn does with the peer's requests to reset streams (RFC 6525, section 5.2.2): one is performed, or one is in
+/// progress, or nothing is asked. No request is accepted or performed where no RE-CONFIG is handled, where there is no
+/// association, or where one ends.
+pub fn peers_requests_turn()
+    ensures turns { PeersTurn }
+    ensures calm { CalmAsksNothing }
+    ensures unlinked { UnlinkedAsksNothing }
+    ensures ends { EndsAskNothing }
 {}

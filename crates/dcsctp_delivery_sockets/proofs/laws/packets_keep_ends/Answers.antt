@@ -4,5 +4,5 @@ use Rattle.dcsctp_delivery_sockets.proofs.PacketTurns.{packet_goes}
 use Rattle.dcsctp_delivery_sockets.proofs.laws.packets_keep_ends.Goals as goal
 
 pub returns : goal.returns
-returns c = λ options ends e queued past packets other their_past reads emission turns between few has go new taken.
-    packet_goes options e queued past packets few emission has other their_past reads turns (record { ends = ends; between = between }) new go (admits other.core emission.packet) refl taken
+returns c = λ options ends e queued past packets other their_past reads emission turns between answered few little has go new taken.
+    packet_goes options e queued past packets few little emission has other their_past reads turns (record { ends = ends; between = between; answered = answered }) new go (admits other.core emission.packet) refl taken

@@ -1,0 +1,49 @@
+-- Turns of the receiver in which a request is deferred (RFC 6525, section 5.2.2).
+use Rattle.std.proofs.Common.{◌≡◌, ℕ, ◌<◌, ◌-◌, ◌^◌, false, Option, Some, List, length, refl, sym, ◌∙◌, ap, subst, inl, inr}
+use Rattle.std.specs.Prelude.{◌⊎◌}
+use Rattle.dcsctp_machine.specs.declared.association.Pair.{Pair}
+use Rattle.dcsctp_machine.specs.Past.{Has, number_to_accept, number_to_perform}
+use Rattle.dcsctp_machine.specs.World.{after_effects}
+use Rattle.dcsctp_machine.specs.Reconfiguration.{RequestedReset}
+use Rattle.dcsctp_machine.specs.control.Effect.{Link, Effect, holds, performs}
+use Rattle.dcsctp_machine.specs.control.FlushChanges.{next_number}
+use Rattle.dcsctp_machine.specs.transfer.Reassembly.{DeferralModel}
+use Rattle.dcsctp_machine.specs.turns.BegunResets.{BegunReset}
+use Rattle.dcsctp_delivery_receiving.specs.Clear.{IsOwn}
+use Rattle.dcsctp_delivery_sending.specs.Places as places
+use Rattle.dcsctp_delivery_associations.specs.Answered as answered
+use Rattle.dcsctp_delivery_associations.specs.Answered.{Requests, IsInStep, StandsSo, Answers}
+use Rattle.dcsctp_delivery_associations.proofs.RequestNumbers.{number_behind}
+use Rattle.dcsctp_delivery_associations.proofs.AnsweringNewest.{numbers_of, newest_is_asked}
+use Rattle.dcsctp_delivery_associations.proofs.AnsweringRests.{stays_standing}
+
+own_left : (reset : RequestedReset) (waits : Option DeferralModel) (left : DeferralModel) → IsOwn reset waits
+    → (left.last_tsn ≡ reset.last_tsn) ⊎ ((before : DeferralModel) × (waits ≡ Some before) × (left.last_tsn ≡ before.last_tsn)) → left.last_tsn ≡ reset.last_tsn
+own_left reset waits left own (inl same) = same
+own_left reset waits left own (inr was) = was.2 ∙ subst (IsOwn reset) was.1 own
+
+module _ (requests : ℕ → Requests) (mine : Option Link) (past : List Effect) (link : Link) (happened their_past : List Effect) (waits waits' : Option DeferralModel)
+    (a : Answers requests mine past (Some link) their_past waits) (no_holds : (new : Link) → Has (holds new) happened → ⊥) (no_performs : (my : Pair) (number : ℕ) → Has (performs my number) happened → ⊥) where
+  stands_at_link : StandsSo (requests link.my.tag) (after_effects happened their_past) waits' → Answers requests mine past (Some link) (after_effects happened their_past) waits'
+  stands_at_link stands =
+      stays_standing requests mine past (Some link) happened their_past waits waits' a no_holds no_performs
+      (λ there is. let same : link ≡ there = cc in subst (λ (l : Link). StandsSo (requests l.my.tag) (after_effects happened their_past) waits') same stands)
+
+  -- It is in progress then.
+  pub defers_it : (begun : BegunReset) (left : DeferralModel) → IsInStep (requests link.my.tag) their_past waits → places.Has begun (requests link.my.tag).asking.requests
+      → length (requests link.my.tag).asking.requests < 2 ^ 32 - 1 → (number_to_accept their_past ≡ Some begun.number) ⊎ (number_to_perform their_past ≡ Some begun.number)
+      → number_to_accept (after_effects happened their_past) ≡ Some (next_number begun.number) → number_to_perform (after_effects happened their_past) ≡ Some begun.number → waits' ≡ Some left
+      → (left.last_tsn ≡ begun.reset.last_tsn) ⊎ ((before : DeferralModel) × (waits ≡ Some before) × (left.last_tsn ≡ before.last_tsn))
+      → Answers requests mine past (Some link) (after_effects happened their_past) waits'
+  defers_it begun left step has few expected accept perform is last =
+      let newest = newest_is_asked requests mine past link their_past waits begun a step has few expected in
+      let numbers = numbers_of (requests link.my.tag) their_past (a.asked link.my.tag (a.theirs_held link refl).0.some) in
+      stands_at_link
+      (answered.in_step
+      (answered.in_progress begun newest.0 newest.1 (accept ∙ ap Some (number_behind (requests link.my.tag).first begun newest.0 (requests link.my.tag).asking.requests newest.1 numbers)) perform
+      (subst (IsOwn begun.reset) (sym is) (own_left begun.reset waits left newest.2 last)) newest.3))
+
+  -- Messages don't interleave.
+  pub defers_plain : (begun : BegunReset) → (requests link.my.tag).is_interleaved ≡ false → places.Has begun (requests link.my.tag).asking.requests
+      → Answers requests mine past (Some link) (after_effects happened their_past) waits'
+  defers_plain begun kind has = stands_at_link (answered.plain kind (λ none. subst (places.Has begun) none has))

@@ -1,0 +1,173 @@
+-- Turns of the receiver in which a request is performed (RFC 6525, section 5.2.2).
+use Rattle.std.proofs.Common.{◌≡◌, ◌≢◌, ℕ, ◌<◌, ◌-◌, ◌^◌, suc, true, false, Option, None, Some, List, length, refl, sym, ◌∙◌, ap, subst, arith, inl, inr}
+use Rattle.std.specs.Prelude.{◌⊎◌}
+use Rattle.dcsctp_machine.specs.declared.association.Pair.{Pair}
+use Rattle.dcsctp_machine.specs.Past.{Has, number_to_accept, number_to_perform}
+use Rattle.dcsctp_machine.specs.World.{after_effects}
+use Rattle.dcsctp_machine.specs.control.Effect.{Link, Effect, holds, performs}
+use Rattle.dcsctp_machine.specs.control.FlushChanges.{next_number}
+use Rattle.dcsctp_machine.specs.transfer.Reassembly.{DeferralModel}
+use Rattle.dcsctp_machine.specs.turns.BegunResets.{BegunReset}
+use Rattle.dcsctp_machine_agreement.proofs.Growth.{after_within}
+use Rattle.dcsctp_delivery_sending.specs.Places as places
+use Rattle.dcsctp_delivery_sending.specs.Places.{set_at}
+use Rattle.dcsctp_delivery_sending.proofs.Places.{decide, set_same}
+use Rattle.dcsctp_delivery_directions.specs.Directions.{nothing_asked, Asking}
+use Rattle.dcsctp_delivery_turns.specs.Asking.{AreNumbered}
+use Rattle.dcsctp_delivery_associations.specs.Answered as answered
+use Rattle.dcsctp_delivery_associations.specs.Answered.{Requests, number_at, WasHeld, WasJoined, AreAsked, IsPlaced, WerePerformed, IsInStep, StandsSo, Answers}
+use Rattle.dcsctp_delivery_associations.proofs.Growing.{set_all}
+use Rattle.dcsctp_delivery_associations.proofs.RequestNumbers.{newest_number, number_among, number_behind}
+use Rattle.dcsctp_delivery_associations.proofs.AnsweringNewest.{IsNewest, numbers_of, newest_is_asked}
+use Rattle.dcsctp_delivery_associations.proofs.AnsweringRests.{after_new, after_split, joined_later, joined_before, asked_later}
+
+module _ (requests : ℕ → Requests) (mine : Option Link) (past : List Effect) (link : Link) (happened their_past : List Effect) (waits waits' : Option DeferralModel) (begun : BegunReset)
+    (a : Answers requests mine past (Some link) their_past waits) (no_holds : (new : Link) → Has (holds new) happened → ⊥)
+    (only : (peer : Pair) (other : ℕ) → Has (performs peer other) happened → (peer ≡ link.peer) × (other ≡ begun.number)) (has : places.Has begun (requests link.my.tag).asking.requests) where
+  abbrev t : ℕ
+  t = link.my.tag
+
+  abbrev later : List Effect
+  later = after_effects happened their_past
+
+  -- It is known that the newest was performed.
+  abbrev changed : Requests
+  changed = record (requests t) { asking = record (requests t).asking { is_performed = true } }
+
+  abbrev all : ℕ → Requests
+  all = set_at t changed requests
+
+  here_joined : WasJoined their_past t (requests t).my
+  here_joined = subst (WasJoined their_past t) (sym (a.theirs_held link refl).1) (a.theirs_held link refl).0
+
+  before : (tag : ℕ) (my : Pair) → WasJoined later tag my → WasJoined their_past tag my
+  before tag my was = joined_before happened their_past no_holds tag my was
+
+  numbers : AreNumbered (requests t).first (requests t).asking.requests
+  numbers = numbers_of (requests t) their_past (a.asked t here_joined.some)
+
+  joined_still : (my : Pair) (number : ℕ) → Has (performs my number) later → (tag : ℕ) × WasJoined later tag (requests tag).my × ((requests tag).my ≡ my)
+  joined_still my number there =
+      elim (after_split (performs my number) happened their_past there) [
+        | inl new ↦ (t, joined_later happened their_past t (requests t).my here_joined, (a.theirs_held link refl).1 ∙ sym (only my number new).0)
+        | inr old ↦ (let j = a.joined my number old in (j.0, joined_later happened their_past j.0 (requests j.0).my j.1, j.2))
+      ]
+
+  -- What is performed is of no other tag.
+  performed_other : (tag : ℕ) → tag ≢ t → WasJoined later tag (requests tag).my → WerePerformed (requests tag) later
+  performed_other tag ne was number there =
+      elim (after_split (performs (requests tag).my number) happened their_past there) [
+        | inl new ↦ absurd (a.apart t tag (λ e. ne (sym e)) here_joined (before tag (requests tag).my was) ((a.theirs_held link refl).1 ∙ sym (only (requests tag).my number new).0))
+        | inr old ↦ a.performed tag (before tag (requests tag).my was) number old
+      ]
+
+  apart_still : (one two : ℕ) → one ≢ two → WasJoined later one (requests one).my → WasJoined later two (requests two).my → (requests one).my ≢ (requests two).my
+  apart_still one two ne first second = a.apart one two ne (before one (requests one).my first) (before two (requests two).my second)
+
+  mine_still : (there : Link) → mine ≡ Some there → (tag : ℕ) → there.peer.tag ≢ tag → WasJoined later tag (requests tag).my → there.my ≢ (requests tag).my
+  mine_still there is tag ne was = a.mine_apart there is tag ne (before tag (requests tag).my was)
+
+  held_still : (there : Link) → Some link ≡ Some there → WasJoined later there.my.tag there.peer × ((requests there.my.tag).my ≡ there.peer)
+  held_still there is = let held = a.theirs_held there is in (joined_later happened their_past there.my.tag there.peer held.0, held.1)
+
+  -- Messages don't interleave.
+  pub performs_plain : (requests t).is_interleaved ≡ false → Answers requests mine past (Some link) later waits'
+  performs_plain kind =
+      record {
+        asked = λ tag some. asked_later (requests tag) happened their_past (a.asked tag some);
+        asked_held = a.asked_held;
+        performed = λ tag. elim (decide tag t) [
+          | inl e ↦ subst (λ (n : ℕ). WasJoined later n (requests n).my → WerePerformed (requests n) later) (sym e) here
+          | inr ne ↦ performed_other tag ne
+        ];
+        apart = apart_still;
+        mine_apart = mine_still;
+        joined = joined_still;
+        mine_held = a.mine_held;
+        mine_first = a.mine_first;
+        theirs_held = held_still;
+        stands = λ there is. (
+            let same : link ≡ there = cc in
+            subst (λ (l : Link). StandsSo (requests l.my.tag) later waits') same (answered.plain kind (λ none. subst (places.Has begun) none has))
+            );
+      }
+    where
+      here : WasJoined later t (requests t).my → WerePerformed (requests t) later
+      here was number there =
+          elim (after_split (performs (requests t).my number) happened their_past there) [
+            | inl new ↦ (
+                let r = number_among (requests t).first (requests t).asking.requests begun numbers has in
+                record { place = r.0; below = r.1; is = (only (requests t).my number new).1 ∙ r.2; newest = λ mixed last. absurd (cc) }
+                )
+            | inr old ↦ a.performed t (before t (requests t).my was) number old
+          ]
+
+  -- It is known then that the newest was performed.
+  pub performs_it : IsInStep (requests t) their_past waits → length (requests t).asking.requests < 2 ^ 32 - 1 → (number_to_accept their_past ≡ Some begun.number) ⊎ (number_to_perform their_past ≡ Some begun.number)
+      → Has (performs link.peer begun.number) happened → number_to_accept later ≡ Some (next_number begun.number) → number_to_perform later ≡ None → waits' ≡ None
+      → Answers (set_at t (record (requests t) { asking = record (requests t).asking { is_performed = true } }) requests) mine past (Some link) later waits'
+  performs_it step few expected does accept perform empty =
+      record {
+        asked = set_all (λ n r. n ≢ 0 → (r.asking ≡ nothing_asked) ⊎ AreAsked r later) t changed requests (λ some. inr (here_asked (a.asked t some)))
+            (λ n ne some. asked_later (requests n) happened their_past (a.asked n some));
+        asked_held = set_all (λ n r. n ≢ 0 → (r.asking ≡ nothing_asked) ⊎ WasHeld past n r.my) t changed requests (λ some. inr (here_held (a.asked_held t some))) (λ n ne. a.asked_held n);
+        performed = set_all (λ n r. WasJoined later n r.my → WerePerformed r later) t changed requests here performed_other;
+        apart = λ one two ne.
+            subst (λ (m : Pair). WasJoined later one m → WasJoined later two (all two).my → m ≢ (all two).my) (sym (my_same one))
+            (subst (λ (m : Pair). WasJoined later one (requests one).my → WasJoined later two m → (requests one).my ≢ m) (sym (my_same two)) (apart_still one two ne));
+        mine_apart = λ there is tag ne. subst (λ (m : Pair). WasJoined later tag m → there.my ≢ m) (sym (my_same tag)) (mine_still there is tag ne);
+        joined = λ my number there. (
+            let j = joined_still my number there in (j.0, subst (WasJoined later j.0) (sym (my_same j.0)) j.1, my_same j.0 ∙ j.2)
+            );
+        mine_held = λ there is. (let held = a.mine_held there is in (held.0, my_same there.peer.tag ∙ held.1));
+        mine_first = λ there is. first_same there.peer.tag ∙ a.mine_first there is;
+        theirs_held = λ there is. (let held = held_still there is in (held.0, my_same there.my.tag ∙ held.1));
+        stands = λ there is. (
+            let same : link ≡ there = cc in
+            subst (λ (l : Link). StandsSo (all l.my.tag) later waits') same
+            (subst (λ (r : Requests). StandsSo r later waits') (sym (set_same t changed requests))
+            (answered.in_step
+            (answered.all_performed (accept ∙ ap Some (number_behind (requests t).first begun newest.0 (requests t).asking.requests newest.1 numbers)) perform empty (inr refl))))
+            );
+      }
+    where
+      newest : IsNewest (requests t) waits begun
+      newest = newest_is_asked requests mine past link their_past waits begun a step has few expected
+
+      number_is : begun.number ≡ number_at (requests t).first (length newest.0)
+      number_is = newest_number (requests t).first begun newest.0 (requests t).asking.requests newest.1 numbers
+
+      count : length (requests t).asking.requests ≡ suc (length newest.0)
+      count = ap (λ (l : List BegunReset). length l) newest.1
+
+      my_same : (tag : ℕ) → (all tag).my ≡ (requests tag).my
+      my_same tag = set_all (λ n r. r.my ≡ (requests n).my) t changed requests refl (λ n ne. refl) tag
+
+      first_same : (tag : ℕ) → (all tag).first ≡ (requests tag).first
+      first_same tag = set_all (λ n r. r.first ≡ (requests n).first) t changed requests refl (λ n ne. refl) tag
+
+      at_newest : (place : ℕ) → suc place ≡ length (requests t).asking.requests → begun.number ≡ number_at (requests t).first place
+      at_newest place last = let same : length newest.0 ≡ place = omega (arith, last, count) in number_is ∙ ap (number_at (requests t).first) same
+
+      here_held : ((requests t).asking ≡ nothing_asked) ⊎ WasHeld past t (requests t).my → WasHeld past t (requests t).my
+      here_held (inl none) = absurd (subst (λ (s : Asking). places.Has begun s.requests) none has)
+      here_held (inr held) = held
+
+      here_asked : ((requests t).asking ≡ nothing_asked) ⊎ AreAsked (requests t) their_past → AreAsked changed later
+      here_asked (inl none) = absurd (subst (λ (s : Asking). places.Has begun s.requests) none has)
+      here_asked (inr asked) =
+          record {
+            numbers = asked.numbers;
+            out = asked.out;
+            ended = λ kind place below. after_within happened their_past _ (asked.ended kind place below);
+            performed_is = λ kind is place last.
+                subst (λ (n : ℕ). Has (performs (requests t).my n) later) (at_newest place last)
+                (subst (λ (m : Pair). Has (performs m begun.number) later) (sym (a.theirs_held link refl).1) (after_new (performs link.peer begun.number) happened their_past does));
+          }
+
+      here : WasJoined later t (requests t).my → WerePerformed changed later
+      here was number there =
+          elim (after_split (performs (requests t).my number) happened their_past there) [
+            | inl new ↦ record { place = length newest.0; below = omega (arith, count); is = (only (requests t).my number new).1 ∙ number_is; newest = λ mixed last. refl }
+            | inr old ↦ (let p = a.performed t (before t (requests t).my was) number old in record { place = p.place; below = p.below; is = p.is; newest = λ mixed last. refl })
+          ]

@@ -1,0 +1,170 @@
+-- Turns of the receiver in which it performs nothing.
+use Rattle.std.proofs.Common.{◌≡◌, ◌≢◌, ℕ, Option, None, Some, List, [], ◌∷◌, sym, ◌∙◌, subst, inl, inr}
+use Rattle.std.specs.Prelude.{◌⊎◌}
+use Rattle.dcsctp_machine.specs.declared.association.Pair.{Pair}
+use Rattle.dcsctp_machine.specs.Past.{Has, number_to_accept, number_to_perform}
+use Rattle.dcsctp_machine.specs.World.{after_effects}
+use Rattle.dcsctp_machine.specs.control.Effect.{Link, Effect, draws, sends, holds, connects, ends, begins, completes, fails, accepts, performs, resumes}
+use Rattle.dcsctp_machine.specs.transfer.Reassembly.{DeferralModel}
+use Rattle.dcsctp_machine.specs.Reconfiguration.{RequestedReset}
+use Rattle.dcsctp_machine_agreement.proofs.Growth.{after_within}
+use Rattle.dcsctp_delivery_receiving.specs.Clear.{IsOwn}
+use Rattle.dcsctp_delivery_directions.specs.Directions.{nothing_asked}
+use Rattle.dcsctp_delivery_associations.specs.Answered as answered
+use Rattle.dcsctp_delivery_associations.specs.Answered.{Requests, WasHeld, WasJoined, AreAsked, WerePerformed, IsInStep, StandsSo, Answers}
+use Rattle.dcsctp_delivery_turns.specs.PeerRequests.{NoneAsked, SameWaits}
+
+-- ---- effects
+
+pub after_split : (effect : Effect) (happened past : List Effect) → Has effect (after_effects happened past) → Has effect happened ⊎ Has effect past
+after_split effect [] past has = inr has
+after_split effect (newest ∷ happened) past has =
+    elim (after_split effect happened (newest ∷ past) has) [
+      | inl there ↦ inl (inr there)
+      | inr older ↦ front older
+    ]
+  where
+    front : Has effect (newest ∷ past) → Has effect (newest ∷ happened) ⊎ Has effect past
+    front (inl e) = inl (inl e)
+    front (inr old) = inr old
+
+pub after_new : (effect : Effect) (happened past : List Effect) → Has effect happened → Has effect (after_effects happened past)
+after_new effect (newest ∷ happened) past (inl e) = after_within happened (newest ∷ past) effect (inl e)
+after_new effect (newest ∷ happened) past (inr has) = after_new effect happened (newest ∷ past) has
+after_new effect [] past has = absurd has
+
+pub none_performed : (happened : List Effect) → NoneAsked happened → (my : Pair) (number : ℕ) → Has (performs my number) happened → ⊥
+none_performed [] none my number has = has
+none_performed (accepts n ∷ effects) none my number has = none
+none_performed (performs peer n ∷ effects) none my number has = none
+none_performed (draws pair ∷ effects) none my number (inl e) = absurd (cc)
+none_performed (draws pair ∷ effects) none my number (inr has) = none_performed effects none my number has
+none_performed (sends packet ∷ effects) none my number (inl e) = absurd (cc)
+none_performed (sends packet ∷ effects) none my number (inr has) = none_performed effects none my number has
+none_performed (holds link ∷ effects) none my number (inl e) = absurd (cc)
+none_performed (holds link ∷ effects) none my number (inr has) = none_performed effects none my number has
+none_performed (connects link ∷ effects) none my number (inl e) = absurd (cc)
+none_performed (connects link ∷ effects) none my number (inr has) = none_performed effects none my number has
+none_performed (ends ∷ effects) none my number (inl e) = absurd (cc)
+none_performed (ends ∷ effects) none my number (inr has) = none_performed effects none my number has
+none_performed (begins n ∷ effects) none my number (inl e) = absurd (cc)
+none_performed (begins n ∷ effects) none my number (inr has) = none_performed effects none my number has
+none_performed (completes own n ∷ effects) none my number (inl e) = absurd (cc)
+none_performed (completes own n ∷ effects) none my number (inr has) = none_performed effects none my number has
+none_performed (fails n ∷ effects) none my number (inl e) = absurd (cc)
+none_performed (fails n ∷ effects) none my number (inr has) = none_performed effects none my number has
+none_performed (resumes link own last ∷ effects) none my number has = none
+
+-- ---- what is so later too
+
+pub joined_later : (happened past : List Effect) (tag : ℕ) (my : Pair) → WasJoined past tag my → WasJoined (after_effects happened past) tag my
+joined_later happened past tag my was = record { link = was.link; held = after_within happened past (holds was.link) was.held; tag_is = was.tag_is; my_is = was.my_is; some = was.some }
+
+pub asked_later : (requests : Requests) (happened past : List Effect) → (requests.asking ≡ nothing_asked) ⊎ AreAsked requests past → (requests.asking ≡ nothing_asked) ⊎ AreAsked requests (after_effects happened past)
+asked_later requests happened past (inl none) = inl none
+asked_later requests happened past (inr asked) =
+    inr
+    (record {
+      numbers = asked.numbers;
+      out = asked.out;
+      ended = λ kind place below. after_within happened past _ (asked.ended kind place below);
+      performed_is = λ kind is place newest. after_within happened past _ (asked.performed_is kind is place newest);
+    })
+
+-- Without `holds` no association was joined.
+pub joined_before : (happened past : List Effect) → ((link : Link) → Has (holds link) happened → ⊥) → (tag : ℕ) (my : Pair) → WasJoined (after_effects happened past) tag my → WasJoined past tag my
+joined_before happened past none tag my was =
+    elim (after_split (holds was.link) happened past was.held) [
+      | inl new ↦ absurd (none was.link new)
+      | inr old ↦ record { link = was.link; held = old; tag_is = was.tag_is; my_is = was.my_is; some = was.some }
+    ]
+
+-- ---- the same requests
+
+pub same_requests : (new old : ℕ → Requests) (mine : Option Link) (past : List Effect) (theirs : Option Link) (their_past : List Effect) (waits : Option DeferralModel) → ((tag : ℕ) → new tag ≡ old tag)
+    → Answers old mine past theirs their_past waits → Answers new mine past theirs their_past waits
+same_requests new old mine past theirs their_past waits same a =
+    record {
+      asked = λ tag some. subst (λ (r : Requests). (r.asking ≡ nothing_asked) ⊎ AreAsked r their_past) (sym (same tag)) (a.asked tag some);
+      asked_held = λ tag some. subst (λ (r : Requests). (r.asking ≡ nothing_asked) ⊎ WasHeld past tag r.my) (sym (same tag)) (a.asked_held tag some);
+      performed = λ tag. subst (λ (r : Requests). WasJoined their_past tag r.my → WerePerformed r their_past) (sym (same tag)) (a.performed tag);
+      apart = λ one two ne.
+          subst (λ (r : Requests). WasJoined their_past one r.my → WasJoined their_past two (new two).my → r.my ≢ (new two).my) (sym (same one))
+          (subst (λ (r : Requests). WasJoined their_past one (old one).my → WasJoined their_past two r.my → (old one).my ≢ r.my) (sym (same two)) (a.apart one two ne));
+      mine_apart = λ link is tag ne. subst (λ (r : Requests). WasJoined their_past tag r.my → link.my ≢ r.my) (sym (same tag)) (a.mine_apart link is tag ne);
+      joined = λ my number has. (
+          let j = a.joined my number has in
+          let k : WasJoined their_past j.0 (new j.0).my × ((new j.0).my ≡ my) = subst (λ (r : Requests). WasJoined their_past j.0 r.my × (r.my ≡ my)) (sym (same j.0)) (j.1, j.2) in
+          (j.0, k.0, k.1)
+          );
+      mine_held = λ link is. subst (λ (r : Requests). WasHeld past link.peer.tag link.my × (r.my ≡ link.my)) (sym (same link.peer.tag)) (a.mine_held link is);
+      mine_first = λ link is. subst (λ (r : Requests). r.first ≡ link.my.first_tsn) (sym (same link.peer.tag)) (a.mine_first link is);
+      theirs_held = λ link is. subst (λ (r : Requests). WasJoined their_past link.my.tag link.peer × (r.my ≡ link.peer)) (sym (same link.my.tag)) (a.theirs_held link is);
+      stands = λ link is. subst (λ (r : Requests). StandsSo r their_past waits) (sym (same link.my.tag)) (a.stands link is);
+    }
+
+-- ---- nothing is performed
+
+module _ (requests : ℕ → Requests) (mine : Option Link) (past : List Effect) (theirs : Option Link) (happened their_past : List Effect) (waits waits' : Option DeferralModel)
+    (a : Answers requests mine past theirs their_past waits) (no_holds : (link : Link) → Has (holds link) happened → ⊥) (no_performs : (my : Pair) (number : ℕ) → Has (performs my number) happened → ⊥) where
+  before : (my : Pair) (number : ℕ) → Has (performs my number) (after_effects happened their_past) → Has (performs my number) their_past
+  before my number has = elim (after_split (performs my number) happened their_past has) [ inl new ↦ absurd (no_performs my number new) | inr old ↦ old ]
+
+  -- The receiver has no association then.
+  pub rests : Answers requests mine past None (after_effects happened their_past) waits'
+  rests =
+      record {
+        asked = λ tag some. asked_later (requests tag) happened their_past (a.asked tag some);
+        asked_held = a.asked_held;
+        performed = λ tag was number has. a.performed tag (joined_before happened their_past no_holds tag (requests tag).my was) number (before (requests tag).my number has);
+        apart = λ one two ne first second. a.apart one two ne (joined_before happened their_past no_holds one (requests one).my first) (joined_before happened their_past no_holds two (requests two).my second);
+        mine_apart = λ link is tag ne was. a.mine_apart link is tag ne (joined_before happened their_past no_holds tag (requests tag).my was);
+        joined = λ my number has. (let j = a.joined my number (before my number has) in (j.0, joined_later happened their_past j.0 (requests j.0).my j.1, j.2));
+        mine_held = a.mine_held;
+        mine_first = a.mine_first;
+        theirs_held = λ link is. absurd (cc);
+        stands = λ link is. absurd (cc);
+      }
+
+  -- It has the same one, which stands anew.
+  pub stays_standing : ((link : Link) → theirs ≡ Some link → StandsSo (requests link.my.tag) (after_effects happened their_past) waits') → Answers requests mine past theirs (after_effects happened their_past) waits'
+  stays_standing stands =
+      record {
+        asked = rests.asked;
+        asked_held = a.asked_held;
+        performed = rests.performed;
+        apart = rests.apart;
+        mine_apart = rests.mine_apart;
+        joined = rests.joined;
+        mine_held = a.mine_held;
+        mine_first = a.mine_first;
+        theirs_held = λ link is. (let held = a.theirs_held link is in (joined_later happened their_past link.my.tag link.peer held.0, held.1));
+        stands = stands;
+      }
+
+own_same : (reset : RequestedReset) (waits waits' : Option DeferralModel) → SameWaits waits waits' → IsOwn reset waits → IsOwn reset waits'
+own_same reset None waits' same own = subst (IsOwn reset) (sym same) tt
+own_same reset (Some old) waits' same own = subst (IsOwn reset) (sym same.1) (same.2 ∙ own)
+
+none_same : (waits waits' : Option DeferralModel) → SameWaits waits waits' → waits ≡ None → waits' ≡ None
+none_same None waits' same is = same
+none_same (Some old) waits' same is = absurd (cc)
+
+-- It has accepted and performed the same.
+pub stands_same : (requests : Requests) (their_past their_later : List Effect) (waits waits' : Option DeferralModel) → number_to_accept their_later ≡ number_to_accept their_past
+    → number_to_perform their_later ≡ number_to_perform their_past → SameWaits waits waits' → StandsSo requests their_past waits → StandsSo requests their_later waits'
+stands_same requests their_past their_later waits waits' accept perform same (answered.plain kind some) = answered.plain kind some
+stands_same requests their_past their_later waits waits' accept perform same (answered.in_step step) = answered.in_step (go step)
+  where
+    go : IsInStep requests their_past waits → IsInStep requests their_later waits'
+    go (answered.all_performed number none empty is) = answered.all_performed (accept ∙ number) (perform ∙ none) (none_same waits waits' same empty) is
+    go (answered.unaccepted newest earlier is number none empty not) = answered.unaccepted newest earlier is (accept ∙ number) (perform ∙ none) (none_same waits waits' same empty) not
+    go (answered.in_progress newest earlier is number out own not) = answered.in_progress newest earlier is (accept ∙ number) (perform ∙ out) (own_same newest.reset waits waits' same own) not
+
+pub asks_nothing : (requests : ℕ → Requests) (mine : Option Link) (past : List Effect) (link : Link) (happened their_past : List Effect) (waits waits' : Option DeferralModel)
+    → Answers requests mine past (Some link) their_past waits → ((new : Link) → Has (holds new) happened → ⊥) → ((my : Pair) (number : ℕ) → Has (performs my number) happened → ⊥)
+    → number_to_accept (after_effects happened their_past) ≡ number_to_accept their_past → number_to_perform (after_effects happened their_past) ≡ number_to_perform their_past → SameWaits waits waits'
+    → Answers requests mine past (Some link) (after_effects happened their_past) waits'
+asks_nothing requests mine past link happened their_past waits waits' a no_holds no_performs accept perform same =
+    stays_standing requests mine past (Some link) happened their_past waits waits' a no_holds no_performs
+    (λ there is. stands_same (requests there.my.tag) their_past (after_effects happened their_past) waits waits' accept perform same (a.stands there is))

@@ -1,0 +1,300 @@
+-- A turn of the receiver, as what becomes of the sender's requests.
+use Rattle.std.proofs.Common.{◌≡◌, ◌≢◌, ℕ, Bool, true, false, ◌<◌, ◌-◌, ◌^◌, Option, None, Some, List, [], ◌∷◌, length, refl, sym, ◌∙◌, ap, subst, inl, inr}
+use Rattle.std.specs.Prelude.{◌⊎◌}
+use Rattle.dcsctp_machine.specs.declared.association.Pair.{Pair}
+use Rattle.dcsctp_machine.specs.declared.options.Options.{Options}
+use Rattle.dcsctp_machine.specs.Endpoint.{Endpoint}
+use Rattle.dcsctp_machine.specs.Outcome.{Outcome}
+use Rattle.dcsctp_machine.specs.Packet.{Content, re_config}
+use Rattle.dcsctp_machine.specs.Past.{Has, number_to_accept, number_to_perform}
+use Rattle.dcsctp_machine.specs.Reconfiguration.{RequestedReset, ResetParameter, outgoing_reset_request}
+use Rattle.dcsctp_machine.specs.Turn.{Input, Turn}
+use Rattle.dcsctp_machine.specs.World.{after_effects}
+use Rattle.dcsctp_machine.specs.control.Effect as effects
+use Rattle.dcsctp_machine.specs.control.Effect.{Link, Effect, holds, link_of, link_in}
+use Rattle.dcsctp_machine.specs.control.FlushChanges.{next_number, reset_request}
+use Rattle.dcsctp_machine.specs.transfer.Reassembly.{DeferralModel}
+use Rattle.dcsctp_machine.specs.transfer.Transfer.{Transfer}
+use Rattle.dcsctp_machine.specs.turns.BegunResets.{BegunReset}
+use Rattle.dcsctp_machine.specs.turns.ResetOutcomes.{has_reset, requested_in}
+use Rattle.dcsctp_delivery_receiving.specs.Clear.{IsOwn}
+use Rattle.dcsctp_delivery_sending.specs.Places as places
+use Rattle.dcsctp_delivery_sending.specs.Places.{set_at}
+use Rattle.dcsctp_delivery_sending.proofs.Places.{decide, set_same, set_other}
+use Rattle.dcsctp_delivery_directions.specs.Directions.{Asking, nothing_asked, Direction, Run}
+use Rattle.dcsctp_delivery_directions.specs.Requests.{IsOfBegun}
+use Rattle.dcsctp_delivery_directions.proofs.Requests.{requests_were_begun}
+use Rattle.dcsctp_delivery_turns.specs.Actions.{IsOpening, came_by, Begun, IsCall, IsCalm}
+use Rattle.dcsctp_delivery_turns.specs.PeerRequests.{KnowsPeerIn, IsPlainRequest, IsDue, WaitsFor, PeerTurns, asks_nothing, performs_it, defers_it, begins_anew}
+use Rattle.dcsctp_delivery_turns.specs.Runs.{IsNewest, PerformsNewest, performed_where, PerformedBy}
+use Rattle.dcsctp_delivery_turns.specs.Sides.{WasSent}
+use Rattle.dcsctp_delivery_turns.proofs.Holding.{holds_mean, ends_mean}
+use Rattle.dcsctp_delivery_turns.proofs.PeersTurns.{peers_turn}
+use Rattle.dcsctp_delivery_associations.specs.Ends.{ReceivingEnd, Ends}
+use Rattle.dcsctp_delivery_associations.specs.Answered.{Requests, WasJoined, IsInStep, Answers, requests_of, waits_in, AreAnswered}
+use Rattle.dcsctp_delivery_associations.proofs.UnaskedPasts.{same_numbers, reset_none, some_reset, performs_reset}
+use Rattle.dcsctp_delivery_associations.proofs.AnsweringRests as answering
+use Rattle.dcsctp_delivery_associations.proofs.AnsweringRests.{none_performed, same_requests}
+use Rattle.dcsctp_delivery_associations.proofs.AnsweringNewest.{newest_is_asked}
+use Rattle.dcsctp_delivery_associations.proofs.AnsweringDefers as defers
+use Rattle.dcsctp_delivery_associations.proofs.AnsweringPerforms as performs
+
+-- ---- what is handled
+
+-- A RE-CONFIG that the sender sent has no request, or one that was begun.
+pub plainly_sent : (options : Options) (first size : ℕ) (direction : Direction) → Run options first size direction → (came : Option Content) → WasSent direction.sent came → IsPlainRequest came
+plainly_sent options first size direction run (Some (re_config parameters)) (inl none) = inl none
+plainly_sent options first size direction run (Some (re_config parameters)) (inr was) = by_begun (requests_were_begun options first size direction run was.emission parameters was.was was.holds)
+  where
+    by_begun : IsOfBegun direction.asking.requests (re_config parameters) → IsPlainRequest (Some (re_config parameters))
+    by_begun (inl none) = inl none
+    by_begun (inr begun) = inr (begun.0.number, begun.0.reset, parameters_of begun.2)
+      where
+        parameters_of : {one other : List ResetParameter} → re_config one ≡ re_config other → one ≡ other
+        parameters_of is = cc
+plainly_sent options first size direction run came was = tt
+
+-- The request that is handled is one that was begun.
+pub begun_of : (options : Options) (first size : ℕ) (direction : Direction) → Run options first size direction → (number : ℕ) (reset : RequestedReset) → WasSent direction.sent (Some (reset_request number reset))
+    → (begun : BegunReset) × places.Has begun direction.asking.requests × (begun.number ≡ number) × (begun.reset ≡ reset)
+begun_of options first size direction run number reset (inl none) = absurd none
+begun_of options first size direction run number reset (inr was) =
+    by_begun (requests_were_begun options first size direction run was.emission (outgoing_reset_request number number reset ∷ []) was.was was.holds)
+  where
+    by_begun : IsOfBegun direction.asking.requests (reset_request number reset) → (begun : BegunReset) × places.Has begun direction.asking.requests × (begun.number ≡ number) × (begun.reset ≡ reset)
+    by_begun (inl none) = absurd none
+    by_begun (inr begun) = (begun.0, begun.1, number_of begun.2, reset_of begun.2)
+      where
+        number_of : {n m : ℕ} {r s : RequestedReset} → reset_request n r ≡ reset_request m s → m ≡ n
+        number_of is = cc
+
+        reset_of : {n m : ℕ} {r s : RequestedReset} → reset_request n r ≡ reset_request m s → s ≡ r
+        reset_of is = cc
+
+-- ---- both ends
+
+-- the ends once the receiver has this under the tag, and this is known of the requests there
+abbrev pub asked_ends : Ends → ℕ → Asking → ReceivingEnd → Ends
+asked_ends ends tag asking got =
+    record { sends = λ t. record (ends.sends t) { asking = set_at tag asking (λ n. (ends.sends n).asking) t }; gets = set_at tag got ends.gets; firsts = ends.firsts }
+
+module _ (ends : Ends) (pairs : ℕ → Pair) (tag : ℕ) (got : ReceivingEnd) where
+  -- a tag's requests, with this begun
+  with_asking : ℕ → Asking → Requests
+  with_asking t asking = record (requests_of ends pairs t) { asking = asking }
+
+  same_asked : (asking : Asking) → asking ≡ (ends.sends tag).asking → (t : ℕ) → requests_of (asked_ends ends tag asking got) pairs t ≡ requests_of ends pairs t
+  same_asked asking is t =
+      elim (decide t tag) [
+        | inl e ↦
+            ap (λ (a : Asking). record (requests_of ends pairs t) { asking = a })
+            (ap (set_at tag asking (λ n. (ends.sends n).asking)) e ∙ set_same tag asking (λ n. (ends.sends n).asking) ∙ is ∙ ap (λ (n : ℕ). (ends.sends n).asking) (sym e))
+        | inr ne ↦ ap (λ (a : Asking). record (requests_of ends pairs t) { asking = a }) (set_other tag t asking (λ n. (ends.sends n).asking) ne)
+      ]
+
+  new_asked : (asking : Asking) → (t : ℕ) → requests_of (asked_ends ends tag asking got) pairs t ≡ set_at tag (record (requests_of ends pairs tag) { asking = asking }) (requests_of ends pairs) t
+  new_asked asking t =
+      elim (decide t tag) [
+        | inl e ↦
+            ap (λ (n : ℕ). requests_of (asked_ends ends tag asking got) pairs n) e
+            ∙ ap (λ (a : Asking). record (requests_of ends pairs tag) { asking = a }) (set_same tag asking (λ n. (ends.sends n).asking))
+            ∙ sym (set_same tag (record (requests_of ends pairs tag) { asking = asking }) (requests_of ends pairs))
+            ∙ ap (set_at tag (record (requests_of ends pairs tag) { asking = asking }) (requests_of ends pairs)) (sym e)
+        | inr ne ↦
+            ap (λ (a : Asking). record (requests_of ends pairs t) { asking = a }) (set_other tag t asking (λ n. (ends.sends n).asking) ne)
+            ∙ sym (set_other tag t (record (requests_of ends pairs tag) { asking = asking }) (requests_of ends pairs) ne)
+      ]
+
+-- ---- an association goes on
+
+module _ (ends : Ends) (e : Endpoint) (past : List Effect) (d : Endpoint) (their_past : List Effect) (w : AreAnswered ends e past d their_past) (input : Input) (o : Outcome) (may : IsCall input) (turn : Turn d input o)
+    (new_tags : (link old : Link) → Has (holds link) o.effects → Has (holds old) their_past → old.my.tag ≢ link.my.tag) where
+  no_holds : link_in o.after.core ≡ link_in d.core → (link : Link) → Has (holds link) o.effects → ⊥
+  no_holds same link has =
+      let there : WasJoined their_past link.my.tag link.peer = (w.answers.theirs_held link (sym same ∙ holds_mean d input o link may turn has)).0 in
+      new_tags link there.link has there.held there.tag_is
+
+  no_holds_none : link_in o.after.core ≡ None → (link : Link) → Has (holds link) o.effects → ⊥
+  no_holds_none none link has = (let clash : ◌≡◌ {A = Option Link} None (Some link) = sym none ∙ holds_mean d input o link may turn has in absurd (cc))
+
+  no_ends : (link : Link) → link_in o.after.core ≡ Some link → Has effects.ends o.effects → ⊥
+  no_ends link linked has = (let clash : ◌≡◌ {A = Option Link} None (Some link) = ap link_in (sym (ends_mean d input o may turn has)) ∙ linked in absurd (cc))
+
+  module _ (link : Link) (linked : link_in d.core ≡ Some link) (transfer left : Transfer) (there : d.below.transfer ≡ Some transfer) (is_left : o.after.below.transfer ≡ Some left) where
+    abbrev there_waits : Option DeferralModel
+    there_waits = transfer.reassembly.deferral
+
+    abbrev tag : ℕ
+    tag = link.my.tag
+
+    answers_here : Answers (requests_of ends w.pairs) (link_in e.core) past (Some link) their_past transfer.reassembly.deferral
+    answers_here =
+        subst (λ (t : Option Transfer). Answers (requests_of ends w.pairs) (link_in e.core) past (Some link) their_past (waits_in t)) there
+        (subst (λ (l : Option Link). Answers (requests_of ends w.pairs) (link_in e.core) past l their_past (waits_in d.below.transfer)) linked w.answers)
+
+    module _ (size : ℕ) (options : Options) (direction : Direction) (first : ℕ) (run : Run options first size direction) (asked_is : direction.asking ≡ (ends.sends link.my.tag).asking) (sent : WasSent direction.sent (came_by input))
+        (few : length (ends.sends link.my.tag).asking.requests < 2 ^ 32 - 1) (knows : KnowsPeerIn their_past d.core) where
+      peers : PeerTurns link their_past d input o transfer.reassembly.deferral left.reassembly.deferral
+      peers = peers_turn d input o their_past link transfer left knows (plainly_sent options first size direction run (came_by input) sent) may turn linked there is_left
+
+      -- the request that is handled
+      handled : (number : ℕ) (reset : RequestedReset) → came_by input ≡ Some (reset_request number reset)
+          → (begun : BegunReset) × places.Has begun (ends.sends link.my.tag).asking.requests × (begun.number ≡ number) × (begun.reset ≡ reset)
+      handled number reset came =
+          let found = begun_of options first size direction run number reset (subst (λ (c : Option Content). WasSent direction.sent c) came sent) in
+          (found.0, subst (λ (a : Asking). places.Has found.0 a.requests) asked_is found.1, found.2, found.3)
+
+      requested_is : (parameters : List ResetParameter) (number : ℕ) (reset other : RequestedReset) → came_by input ≡ Some (reset_request number reset) → came_by input ≡ Some (re_config parameters) → requested_in parameters ≡ Some other → reset ≡ other
+      requested_is parameters number reset other came came' asked =
+          let same : outgoing_reset_request number number reset ∷ [] ≡ parameters = cc in
+          let is : ◌≡◌ {A = Option RequestedReset} (Some reset) (Some other) = ap requested_in same ∙ asked in
+          cc
+
+      -- What is performed is the newest.
+      pub performs_newest : IsInStep (requests_of ends w.pairs link.my.tag) their_past transfer.reassembly.deferral → PerformsNewest direction transfer (came_by input) o.effects
+      performs_newest step done parameters reset came asked = by_peers peers
+        where
+          by_peers : PeerTurns link their_past d input o transfer.reassembly.deferral left.reassembly.deferral → IsNewest direction transfer reset
+          by_peers (asks_nothing none same) = (let clash : true ≡ false = sym done ∙ reset_none o.effects none in absurd (cc))
+          by_peers (defers_it number other came' due none accept perform kept is waits) = (let found = some_reset o.effects done in absurd (none found.0 found.1 found.2))
+          by_peers (begins_anew begun opening linked' none empty) = (let clash : true ≡ false = sym done ∙ reset_none o.effects none in absurd (cc))
+          by_peers (performs_it number other came' due only has accept perform empty) =
+              let found = handled number other came' in
+              let newest =
+              newest_is_asked (requests_of ends w.pairs) (link_in e.core) past link their_past transfer.reassembly.deferral found.0 answers_here step found.1 few
+              (subst (λ (n : ℕ). (number_to_accept their_past ≡ Some n) ⊎ (number_to_perform their_past ≡ Some n)) (sym found.2) due) in
+              let same : other ≡ reset = requested_is parameters number other reset came' came asked in
+              record {
+                newest = found.0;
+                earlier = newest.0;
+                is = ap (λ (a : Asking). a.requests) asked_is ∙ newest.1;
+                asks = found.3 ∙ same;
+                own = subst (λ (r : RequestedReset). IsOwn r transfer.reassembly.deferral) (found.3 ∙ same) newest.2;
+              }
+
+      -- Where nothing was asked nothing is performed.
+      pub nothing_performed : has_reset o.effects ≡ true → (ends.sends link.my.tag).asking ≡ nothing_asked → ⊥
+      nothing_performed done none = by_peers peers
+        where
+          by_peers : PeerTurns link their_past d input o transfer.reassembly.deferral left.reassembly.deferral → ⊥
+          by_peers (asks_nothing unasked same) = (let clash : true ≡ false = sym done ∙ reset_none o.effects unasked in absurd (cc))
+          by_peers (defers_it number other came due unreset accept perform kept is waits) = (let found = some_reset o.effects done in unreset found.0 found.1 found.2)
+          by_peers (begins_anew begun opening linked' unasked empty) = (let clash : true ≡ false = sym done ∙ reset_none o.effects unasked in absurd (cc))
+          by_peers (performs_it number other came due only has accept perform empty) = (let found = handled number other came in subst (λ (a : Asking). places.Has found.0 a.requests) none found.1)
+
+      -- where the receiver stands, if a request that it performs is known to be the newest
+      abbrev pub Standing : Bool → Type 0
+      Standing true = IsInStep (requests_of ends w.pairs link.my.tag) their_past transfer.reassembly.deferral
+      Standing false = (ends.sends link.my.tag).below.queue.is_interleaved ≡ false
+
+      -- ---- after the turn
+
+      abbrev Later : List Effect
+      Later = after_effects o.effects their_past
+
+      module _ (new_same : (begun : Begun d o) → IsOpening (came_by input) → link_in o.after.core ≡ Some (link_of begun.my begun.held) → link_of begun.my begun.held ≡ link → ⊥) (same : link_in o.after.core ≡ link_in d.core)
+          (is_known : Bool) (stands : Standing is_known) (asking : Asking) (by : PerformedBy is_known input o direction asking) (got : ReceivingEnd) where
+        abbrev After : Type 0
+        After = AreAnswered (asked_ends ends link.my.tag asking got) e past o.after (after_effects o.effects their_past)
+
+        linked_after : link_in o.after.core ≡ Some link
+        linked_after = same ∙ linked
+
+        answered_by : Answers (requests_of (asked_ends ends link.my.tag asking got) w.pairs) (link_in e.core) past (Some link) (after_effects o.effects their_past) left.reassembly.deferral → After
+        answered_by answers =
+            record {
+              pairs = w.pairs;
+              answers = subst (λ (t : Option Transfer). Answers (requests_of (asked_ends ends link.my.tag asking got) w.pairs) (link_in e.core) past (link_in o.after.core) (after_effects o.effects their_past) (waits_in t)) (sym is_left)
+                  (subst (λ (l : Option Link). Answers (requests_of (asked_ends ends link.my.tag asking got) w.pairs) (link_in e.core) past l (after_effects o.effects their_past) left.reassembly.deferral) (sym linked_after) answers);
+              unlinked = λ none. (let clash : ◌≡◌ {A = Option Transfer} None (Some left) = sym none ∙ is_left in absurd (cc));
+            }
+
+        -- Nothing was performed.
+        asking_same : has_reset o.effects ≡ false → asking ≡ (ends.sends link.my.tag).asking
+        asking_same none = by.3 ∙ go by.0 by.2 ∙ asked_is
+          where
+            go : (is_reset : Bool) → (is_reset ≡ true → has_reset o.effects ≡ true) → performed_where is_known is_reset direction.asking ≡ direction.asking
+            go false says = by_known is_known
+              where
+                by_known : (b : Bool) → performed_where b false direction.asking ≡ direction.asking
+                by_known true = refl
+                by_known false = refl
+            go true says = (let clash : true ≡ false = sym (says refl) ∙ none in absurd (cc))
+
+        unchanged : asking ≡ (ends.sends link.my.tag).asking → Answers (requests_of ends w.pairs) (link_in e.core) past (Some link) (after_effects o.effects their_past) left.reassembly.deferral → After
+        unchanged is answers =
+            answered_by
+            (same_requests (requests_of (asked_ends ends link.my.tag asking got) w.pairs) (requests_of ends w.pairs) (link_in e.core) past (Some link) (after_effects o.effects their_past) left.reassembly.deferral
+            (same_asked ends w.pairs link.my.tag got asking is) answers)
+
+        none_reset : ((peer : Pair) (other : ℕ) → Has (effects.performs peer other) o.effects → ⊥) → has_reset o.effects ≡ false
+        none_reset none = go (has_reset o.effects) refl
+          where
+            go : (b : Bool) → has_reset o.effects ≡ b → has_reset o.effects ≡ false
+            go false is = is
+            go true is = (let found = some_reset o.effects is in absurd (none found.0 found.1 found.2))
+
+        -- A request was performed, and it is known to be the newest, or messages don't interleave.
+        performed_so : (number : ℕ) (reset : RequestedReset) → came_by input ≡ Some (reset_request number reset) → Has (effects.performs link.peer number) o.effects
+            → asking ≡ performed_where is_known true (ends.sends link.my.tag).asking
+        performed_so number reset came has = by.3 ∙ go by.0 by.1 ∙ ap (performed_where is_known true) asked_is
+          where
+            go : (is_reset : Bool) → (is_reset ≡ false → (has_reset o.effects ≡ false) ⊎ IsCalm (came_by input)) → performed_where is_known is_reset direction.asking ≡ performed_where is_known true direction.asking
+            go true says = refl
+            go false says = elim (says refl) [
+              | inl none ↦ (let clash : true ≡ false = sym (performs_reset o.effects link.peer number has) ∙ none in absurd (cc))
+              | inr calm ↦ absurd (calm (outgoing_reset_request number number reset ∷ []) came)
+            ]
+
+        by_performing : (b : Bool) → is_known ≡ b → Standing b → (number : ℕ) (reset : RequestedReset) → came_by input ≡ Some (reset_request number reset) → IsDue their_past number
+            → ((peer : Pair) (other : ℕ) → Has (effects.performs peer other) o.effects → (peer ≡ link.peer) × (other ≡ number)) → Has (effects.performs link.peer number) o.effects
+            → number_to_accept (after_effects o.effects their_past) ≡ Some (next_number number) → number_to_perform (after_effects o.effects their_past) ≡ None → left.reassembly.deferral ≡ None → After
+        by_performing true known step number reset came due only has accept perform empty =
+            let found = handled number reset came in
+            let is : asking ≡ record (ends.sends link.my.tag).asking { is_performed = true } = performed_so number reset came has ∙ ap (λ (b : Bool). performed_where b true (ends.sends link.my.tag).asking) known in
+            answered_by
+            (same_requests (requests_of (asked_ends ends link.my.tag asking got) w.pairs)
+            (set_at link.my.tag (record (requests_of ends w.pairs link.my.tag) { asking = record (ends.sends link.my.tag).asking { is_performed = true } }) (requests_of ends w.pairs))
+            (link_in e.core) past (Some link) (after_effects o.effects their_past) left.reassembly.deferral
+            (λ t. new_asked ends w.pairs link.my.tag got asking t ∙ ap (λ (a : Asking). set_at link.my.tag (record (requests_of ends w.pairs link.my.tag) { asking = a }) (requests_of ends w.pairs) t) is)
+            (performs.performs_it (requests_of ends w.pairs) (link_in e.core) past link o.effects their_past transfer.reassembly.deferral left.reassembly.deferral found.0 answers_here (no_holds same)
+            (λ peer other h. (let one = only peer other h in (one.0, one.1 ∙ sym found.2))) found.1 step few
+            (subst (λ (n : ℕ). (number_to_accept their_past ≡ Some n) ⊎ (number_to_perform their_past ≡ Some n)) (sym found.2) due)
+            (subst (λ (n : ℕ). Has (effects.performs link.peer n) o.effects) (sym found.2) has) (accept ∙ ap (λ (n : ℕ). Some (next_number n)) (sym found.2)) perform empty))
+        by_performing false known kind number reset came due only has accept perform empty =
+            let found = handled number reset came in
+            unchanged (performed_so number reset came has ∙ ap (λ (b : Bool). performed_where b true (ends.sends link.my.tag).asking) known)
+            (performs.performs_plain (requests_of ends w.pairs) (link_in e.core) past link o.effects their_past transfer.reassembly.deferral left.reassembly.deferral found.0 answers_here (no_holds same)
+            (λ peer other h. (let one = only peer other h in (one.0, one.1 ∙ sym found.2))) found.1 kind)
+
+        by_deferring : (b : Bool) → Standing b → (number : ℕ) (reset : RequestedReset) → came_by input ≡ Some (reset_request number reset) → IsDue their_past number
+            → ((peer : Pair) (other : ℕ) → Has (effects.performs peer other) o.effects → ⊥)
+            → number_to_accept (after_effects o.effects their_past) ≡ Some (next_number number) → number_to_perform (after_effects o.effects their_past) ≡ Some number
+            → (kept : DeferralModel) → left.reassembly.deferral ≡ Some kept → WaitsFor reset transfer.reassembly.deferral kept → After
+        by_deferring true step number reset came due none accept perform kept is waits =
+            let found = handled number reset came in
+            unchanged (asking_same (none_reset none))
+            (defers.defers_it (requests_of ends w.pairs) (link_in e.core) past link o.effects their_past transfer.reassembly.deferral left.reassembly.deferral answers_here (no_holds same) none found.0 kept step found.1 few
+            (subst (λ (n : ℕ). (number_to_accept their_past ≡ Some n) ⊎ (number_to_perform their_past ≡ Some n)) (sym found.2) due)
+            (accept ∙ ap (λ (n : ℕ). Some (next_number n)) (sym found.2)) (perform ∙ ap Some (sym found.2)) is
+            (subst (λ (r : RequestedReset). WaitsFor r transfer.reassembly.deferral kept) (sym found.3) waits))
+        by_deferring false kind number reset came due none accept perform kept is waits =
+            let found = handled number reset came in
+            unchanged (asking_same (none_reset none))
+            (defers.defers_plain (requests_of ends w.pairs) (link_in e.core) past link o.effects their_past transfer.reassembly.deferral left.reassembly.deferral answers_here (no_holds same) none found.0 kind found.1)
+
+        pub goes_answered : After
+        goes_answered = by_peers peers
+          where
+            by_peers : PeerTurns link their_past d input o transfer.reassembly.deferral left.reassembly.deferral → After
+            by_peers (asks_nothing none waits) =
+                let numbers = same_numbers o.effects their_past none (no_holds same) (no_ends link linked_after) in
+                unchanged (asking_same (reset_none o.effects none))
+                (answering.asks_nothing (requests_of ends w.pairs) (link_in e.core) past link o.effects their_past transfer.reassembly.deferral left.reassembly.deferral answers_here (no_holds same) (none_performed o.effects none)
+                numbers.0 numbers.1 waits)
+            by_peers (performs_it number reset came due only has accept perform empty) = by_performing is_known refl stands number reset came due only has accept perform empty
+            by_peers (defers_it number reset came due none accept perform kept is waits) = by_deferring is_known stands number reset came due none accept perform kept is waits
+            by_peers (begins_anew begun opening there' none empty) = absurd (new_same begun opening there' (one_link there' linked_after))
+              where
+                one_link : {found : Option Link} {one two : Link} → found ≡ Some one → found ≡ Some two → one ≡ two
+                one_link first second = cc

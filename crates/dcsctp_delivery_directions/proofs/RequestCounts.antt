@@ -1,0 +1,137 @@
+-- No fewer requests to reset streams were sent than were begun.
+use Rattle.std.proofs.Common.{◌≡◌, ℕ, ◌≤◌, ◌+◌, List, [], ◌∷◌, ◌++◌, length, map, refl, ◌∙◌, ap, arith}
+use Rattle.std.specs.Prelude.{Bool, Option, None, Some}
+use Rattle.dcsctp_machine.specs.declared.options.Options.{Options}
+use Rattle.dcsctp_machine.specs.Endpoint.{Endpoint}
+use Rattle.dcsctp_machine.specs.Event.{Event, sent, packets_in}
+use Rattle.dcsctp_machine.specs.Packet.{plain, Content, init, init_ack, cookie_echo, cookie_ack, re_config, abort, shutdown, shutdown_ack, shutdown_complete, Emission}
+use Rattle.dcsctp_machine.specs.Reconfiguration.{ResetParameter, outgoing_reset_request, incoming_reset_request, reconfiguration_response, other_reset_parameter}
+use Rattle.dcsctp_machine.specs.control.Choices.{plain_contents}
+use Rattle.dcsctp_machine.specs.turns.BegunResets.{BegunReset, request_contents}
+use Rattle.dcsctp_machine.specs.turns.FlushOutcomes.{Told, told_event, Answer, answer_contents, filled, goes_out, asked, next_draft, flush_of}
+use Rattle.dcsctp_delivery_sending.specs.Flushes.{NoRequests, NoContent, NoData, begun_by}
+use Rattle.dcsctp_delivery_directions.specs.Directions.{Asking, asking_with, Direction, Step, queues, sets, prepares, commits, rolls_back, resends, resends_nothing, speaks, asks_again, turns_aside, tracks, defers, flushes, acknowledges, loses, receives, forwards, receives_interleaved, forwards_interleaved, performs, resets, takes, Run, begins, goes_on, starts}
+use Rattle.dcsctp_delivery_directions.specs.Requests.{one_if_asked, is_request, requests_among, requests_in, requests_to}
+use Rattle.dcsctp_delivery_directions.proofs.Requests.{packets_apart, told_then, told_alone}
+
+-- ---- lists
+
+pub requests_among_more : (contents more : List Content) → requests_among (contents ++ more) ≡ requests_among contents + requests_among more
+requests_among_more [] more = omega arith
+requests_among_more (c ∷ contents) more = (let rest = requests_among_more contents more in omega (arith, rest))
+
+pub requests_more : (packets more : List Emission) → requests_in (packets ++ more) ≡ requests_in packets + requests_in more
+requests_more [] more = omega arith
+requests_more (p ∷ packets) more = (let rest = requests_more packets more in omega (arith, rest))
+
+pub requests_more_to : (tag : ℕ) (packets more : List Emission) → requests_to tag (packets ++ more) ≡ requests_to tag packets + requests_to tag more
+requests_more_to tag [] more = omega arith
+requests_more_to tag (p ∷ packets) more = (let rest = requests_more_to tag packets more in omega (arith, rest))
+
+-- ---- chunks without a request
+
+none_asked : (parameters : List ResetParameter) → NoRequests parameters → one_if_asked parameters ≡ 0
+none_asked [] nothing = refl
+none_asked (outgoing_reset_request number answered reset ∷ parameters) nothing = absurd nothing
+none_asked (incoming_reset_request number streams ∷ parameters) nothing = absurd nothing
+none_asked (reconfiguration_response number result ∷ parameters) nothing = none_asked parameters nothing
+none_asked (other_reset_parameter parameter ∷ parameters) nothing = none_asked parameters nothing
+
+no_request : (content : Content) → NoContent content → is_request content ≡ 0
+no_request (plain chunk) nothing = refl
+no_request (init a) nothing = refl
+no_request (init_ack a b) nothing = refl
+no_request (cookie_echo a) nothing = refl
+no_request cookie_ack nothing = refl
+no_request (re_config a) nothing = none_asked a nothing
+no_request (abort a b) nothing = refl
+no_request (shutdown a) nothing = refl
+no_request shutdown_ack nothing = refl
+no_request (shutdown_complete a) nothing = refl
+
+pub no_data_requests : (contents : List Content) → NoData contents → requests_among contents ≡ 0
+no_data_requests [] nothing = refl
+no_data_requests (content ∷ contents) free = (let one = no_request content free.0 in let rest = no_data_requests contents free.1 in omega (arith, one, rest))
+
+-- ---- a flush
+
+-- how many it begins
+abbrev begun_count : Option BegunReset → ℕ
+begun_count None = 0
+begun_count (Some begun) = 1
+
+request_counts : (begun : Option BegunReset) → requests_among (request_contents begun) ≡ begun_count begun
+request_counts None = refl
+request_counts (Some begun) = refl
+
+asking_counts : (begun : Option BegunReset) (asking : Asking) → length (asking_with begun asking).requests ≡ begun_count begun + length asking.requests
+asking_counts None asking = omega arith
+asking_counts (Some begun) asking = omega arith
+
+out_counts : (e : Endpoint) (told : List Told) (with_checksum : Bool) (tag : ℕ) (contents : List Content) → requests_in (packets_in (goes_out e (map told_event told) with_checksum tag contents).events) ≡ requests_among contents
+out_counts e told with_checksum tag [] = ap requests_in (told_alone told)
+out_counts e told with_checksum tag (c ∷ contents) =
+    let emission : Emission = record { with_checksum = with_checksum; packet = record { tag = tag; contents = c ∷ contents } } in
+    ap requests_in (told_then told (sent emission ∷ [])) ∙ omega arith
+
+asked_counts : (e : Endpoint) (draft : Emission) (answer : Answer) → begun_count answer.begun ≤ requests_in (packets_in (asked e draft answer).events)
+asked_counts e draft answer =
+    let counted : requests_in (packets_in (asked e draft answer).events) ≡ requests_among (filled draft (answer_contents answer)).packet.contents =
+    out_counts answer.after answer.told draft.with_checksum draft.packet.tag (filled draft (answer_contents answer)).packet.contents in
+    let parts = requests_among_more draft.packet.contents (answer_contents answer) in
+    let parts' = requests_among_more (plain_contents answer.acknowledgements) (request_contents answer.begun ++ plain_contents answer.data_chunks) in
+    let parts'' = requests_among_more (request_contents answer.begun) (plain_contents answer.data_chunks) in
+    let one = request_counts answer.begun in
+    omega (arith, counted, parts, parts', parts'', one)
+
+flush_counts : (e : Endpoint) (draft : Emission) (answers : List Answer) → begun_count (begun_by answers) ≤ requests_in (packets_in (flush_of e draft answers).events)
+flush_counts e draft [] = omega arith
+flush_counts e draft (answer ∷ answers) =
+    let one = asked_counts e draft answer in
+    let others : List (Event Emission) = (flush_of (asked e draft answer).after (next_draft e.core draft) answers).events in
+    let apart : requests_in (packets_in (flush_of e draft (answer ∷ answers)).events) ≡ requests_in (packets_in (asked e draft answer).events ++ packets_in others) =
+    ap requests_in (packets_apart (asked e draft answer).events others) in
+    let both = requests_more (packets_in (asked e draft answer).events) (packets_in others) in
+    omega (arith, one, apart, both)
+
+-- ---- a run
+
+abbrev AreSent : Direction → Type 0
+AreSent direction = length direction.asking.requests ≤ requests_in direction.sent
+
+one_more : (old : Direction) (emission : Emission) → AreSent old → length old.asking.requests ≤ requests_in (old.sent ++ emission ∷ [])
+one_more old emission h = (let more = requests_more old.sent (emission ∷ []) in omega (arith, more, h))
+
+stepped : (old new : Direction) → AreSent old → Step old new → AreSent new
+stepped old _ h (queues now sending fits some) = h
+stepped old _ h (sets setting) = h
+stepped old _ h (prepares ids) = h
+stepped old _ h (commits go_on) = h
+stepped old _ h rolls_back = h
+stepped old _ h (flushes e draft answers same no_data allowed) =
+    let more = requests_more old.sent (packets_in (flush_of e draft answers).events) in
+    let begun = flush_counts e draft answers in
+    let asks = asking_counts (begun_by answers) old.asking in
+    omega (arith, more, begun, asks, h)
+stepped old _ h (resends now room transfer left tsns chunks emission known sends are contents) = one_more old emission h
+stepped old _ h (resends_nothing now room transfer left tsns known sends) = h
+stepped old _ h (speaks emission no_data) = one_more old emission h
+stepped old _ h (asks_again emission begun was contents) = one_more old emission h
+stepped old _ h (turns_aside transfer new known same) = h
+stepped old _ h (acknowledges now sack transfer new known valid does) = h
+stepped old _ h (loses now transfer known) = h
+stepped old _ h (receives emission chunk theirs new was holds some same same' does) = h
+stepped old _ h (forwards emission tsn streams theirs new was holds same same' does) = h
+stepped old _ h (receives_interleaved emission chunk theirs new was holds some same same' does) = h
+stepped old _ h (forwards_interleaved emission tsn streams theirs new was holds same same' does) = h
+stepped old _ h (tracks new cumulative ranges) = h
+stepped old _ h (defers last_tsn streams) = h
+stepped old _ h (performs newest earlier new asks reached own leaves) = h
+stepped old _ h (resets streams new leaves) = h
+stepped old _ h (takes message messages is) = h
+
+pub requests_are_sent : (options : Options) (first size : ℕ) (direction : Direction) → Run options first size direction → length direction.asking.requests ≤ requests_in direction.sent
+requests_are_sent options first size _ (begins direction b) =
+    (let asked : length direction.asking.requests ≡ 0 = ap (λ (a : Asking). length a.requests) b.asking in omega (arith, asked))
+requests_are_sent options first size _ (goes_on old direction run step) = stepped old direction (requests_are_sent options first size old run) step
+requests_are_sent options first size _ (starts old queued below run awaited fit waits none) = requests_are_sent options first size old run

@@ -1,0 +1,76 @@
+-- Each own request of a socket that ended as performed was performed by the other socket, or it is the 2^32nd of its association.
+use Rattle.std.proofs.Common.{◌≢◌, ℕ, List, [], ◌∷◌, ◌++◌, sym, subst, inl, inr, arith}
+use Rattle.std.specs.List.{AllByRecursion}
+use Rattle.dcsctp_machine.specs.declared.association.Pair.{Pair}
+use Rattle.dcsctp_machine.specs.declared.options.Options.{Options}
+use Rattle.dcsctp_machine.specs.declared.schedule.Side.{Side}
+use Rattle.dcsctp_machine.specs.declared.schedule.Side.TheVariants as sides
+use Rattle.dcsctp_machine.specs.Schedule.{AreHonest}
+use Rattle.dcsctp_machine.specs.Offer.{Offer, offer_of}
+use Rattle.dcsctp_machine.specs.CallTurns.{Turned, pairs_of}
+use Rattle.dcsctp_machine.specs.Laws.{AnswerKeepsAgreement}
+use Rattle.dcsctp_machine.specs.Past.{Has}
+use Rattle.dcsctp_machine.specs.Sockets.{Worked, Both, with_turns, turns_after, SocketRun, acts_of}
+use Rattle.dcsctp_machine.specs.World.{SideState, World, world_after}
+use Rattle.dcsctp_machine.specs.control.Effect.{Effect, completes, performs, noted}
+use Rattle.dcsctp_machine.proofs.TurnLemmas.{pairs_of-append}
+use Rattle.dcsctp_machine_agreement.proofs.Agreement.{TrueWorld}
+use Rattle.dcsctp_machine_agreement.proofs.Facts.{TruePast}
+use Rattle.dcsctp_machine_agreement.proofs.Growth.{true_of}
+use Rattle.dcsctp_machine_refinement.specs.Agreement.{HasDistinctTags, AreUsable, AreFresh, noted_past}
+use Rattle.dcsctp_machine_refinement.proofs.Follow.{Followed}
+use Rattle.dcsctp_machine_refinement.proofs.Moves.{Below}
+use Rattle.dcsctp_machine_refinement.proofs.NotedLemmas.{performed-noted}
+use Rattle.dcsctp_machine_refinement.proofs.OneSocket.{noted_happened}
+use Rattle.dcsctp_machine_refinement.proofs.SocketsAgree.{Joined, joined}
+use Rattle.dcsctp_delivery_sockets.proofs.Echoes.{true_world}
+use Rattle.dcsctp_delivery_sockets.proofs.NewLinks.{AllPerformed}
+
+-- ---- one side
+
+-- What was performed was noted.
+performs_noted : (peer : Pair) (number : ℕ) (past : List Effect) → Has (performs peer number) past → Has (performs peer number) (noted past)
+performs_noted peer number past has = (performed-noted past (completes peer number ∷ []) ((λ few. has), tt)).0 (omega arith)
+
+all_performed : (mine theirs : Options) (my_offer their_offer : Offer) (turns others : List Turned) (one other : SideState) → Followed mine turns one → Followed theirs others other
+    → TruePast my_offer their_offer one.past other.past → AllPerformed (noted_past turns) (noted_past others)
+all_performed mine theirs my_offer their_offer turns others one other h k is my number has =
+    let was : Has (completes my number) one.past = noted_happened (completes my number) one.past (subst (Has (completes my number)) (sym h.past) has) in
+    elim (true_of my_offer their_offer one.past other.past (completes my number) is was) [
+      | inl done ↦ inl (subst (Has (performs my number)) k.past (performs_noted my number other.past done))
+      | inr last ↦ inr last
+    ]
+
+-- ---- both sides
+
+pub record BothPerformed (turns : Both (List Turned)) : Type 0 where
+  pub a : AllPerformed (noted_past turns.a) (noted_past turns.b)
+  pub b : AllPerformed (noted_past turns.b) (noted_past turns.a)
+
+pub both_performed : Below → AnswerKeepsAgreement → (options : Both Options) (run : List Worked) → AreUsable options → SocketRun options run → AreHonest (acts_of run) → AreFresh (turns_after run)
+    → BothPerformed (turns_after run)
+both_performed law answers options run are runs honest fresh =
+    let h : Joined options (turns_after run) = joined law options run are runs honest in
+    let world : World = world_after options.a options.b h.steps in
+    let is : TrueWorld world = true_world law answers options run h fresh in
+    record {
+      a = all_performed options.a options.b (offer_of world.a.options) (offer_of world.b.options) (turns_after run).a (turns_after run).b world.a world.b h.a h.b is.a.past;
+      b = all_performed options.b options.a (offer_of world.b.options) (offer_of world.a.options) (turns_after run).b (turns_after run).a world.b world.a h.b h.a is.b.past;
+    }
+
+-- ---- no tag is drawn twice in a first part of a run
+
+front_of : (P : Pair → Type 0) (pairs more : List Pair) → AllByRecursion P (pairs ++ more) → AllByRecursion P pairs
+front_of P [] more h = tt
+front_of P (pair ∷ pairs) more h = (h.0, front_of P pairs more h.1)
+
+distinct_front : (pairs more : List Pair) → HasDistinctTags (pairs ++ more) → HasDistinctTags pairs
+distinct_front [] more h = tt
+distinct_front (pair ∷ pairs) more h = (front_of (λ later. pair.tag ≢ later.tag) pairs more h.0, distinct_front pairs more h.1)
+
+distinct_before : (turns more : List Turned) → HasDistinctTags (pairs_of (turns ++ more)) → HasDistinctTags (pairs_of turns)
+distinct_before turns more h = distinct_front (pairs_of turns) (pairs_of more) (subst HasDistinctTags (pairs_of-append turns more) h)
+
+pub fresh_front : (turns : Both (List Turned)) (side : Side) (more : List Turned) → AreFresh (with_turns side more turns) → AreFresh turns
+fresh_front turns sides.A more fresh = record { a = distinct_before turns.a more fresh.a; b = fresh.b }
+fresh_front turns sides.B more fresh = record { a = fresh.a; b = distinct_before turns.b more fresh.b }

@@ -1,0 +1,268 @@
+-- Which own request ends as performed in a turn.
+use Rattle.dcsctp_machine.specs.control.Effect as effects
+use Rattle.std.proofs.Common.{◌≡◌, ◌⊎◌, inl, inr, ℕ, Bool, true, false, cond, Option, None, Some, List, [], ◌∷◌, ◌++◌, refl, sym, ◌∙◌, ap, subst}
+use Rattle.std.proofs.lemmas.Bool.{eqb-true}
+use Rattle.dcsctp_wire.specs.declared.reconfiguration.ReconfigurationResponseResult.{ReconfigurationResponseResult}
+use Rattle.dcsctp_wire.specs.declared.reconfiguration.ReconfigurationResponseResult.TheVariants.{SuccessNothingToDo, SuccessPerformed, Denied, ErrorWrongSSN, ErrorRequestAlreadyInProgress, ErrorBadSequenceNumber, InProgress}
+use Rattle.dcsctp_machine.specs.declared.association.Pair.{Pair}
+use Rattle.dcsctp_machine.specs.declared.association.Held.{Held}
+use Rattle.dcsctp_machine.specs.declared.word.Word.{Word}
+use Rattle.dcsctp_machine.specs.declared.word.Word.TheVariants.{U32}
+use Rattle.dcsctp_machine.specs.Reconfiguration.{ResetParameter, outgoing_reset_request, incoming_reset_request, reconfiguration_response, other_reset_parameter}
+use Rattle.dcsctp_machine.specs.Packet.{Introduction, Content, init, init_ack, cookie_echo, cookie_ack, re_config, abort, shutdown, shutdown_ack, shutdown_complete, plain, Emission}
+use Rattle.dcsctp_machine.specs.Endpoint.{Endpoint, Core, closed, cookie_wait, cookie_echoed, open_in, established, shutdown_pending, shutdown_sent, shutdown_received, shutdown_ack_sent}
+use Rattle.dcsctp_machine.specs.Event.{Event}
+use Rattle.dcsctp_machine.specs.Outcome.{Outcome, quiet, sends, fits, emits, to_peer}
+use Rattle.dcsctp_machine.specs.Past.{Has}
+use Rattle.dcsctp_machine.specs.Controlled.{ControlledChunk, ControlledAct}
+use Rattle.dcsctp_machine.specs.Turn.{Input, arrival, refusal, packet_begins, chunk_input, packet_ends, act_input, user_sets, user_sends, user_resets, user_takes, timer_expires, time_passes, restores, has_data, ContentTurn, Turn}
+use Rattle.dcsctp_machine.specs.control.Acts.{Act, shutdown_repeats, flushes}
+use Rattle.dcsctp_machine.specs.control.Effect.{Effect, Change, link_of, link_in}
+use Rattle.dcsctp_machine.specs.control.ResetChanges.{Place, again, next, astray, place_of, worked, repeated, outgoing_by, incoming_by, informed_where, is_outstanding, WorkedParameters, work_parameters, work_chunk}
+use Rattle.dcsctp_machine.specs.turns.BegunResets.{BegunReset, begun_effects}
+use Rattle.dcsctp_machine.specs.turns.FlushOutcomes.{Answer, draft_to, first_ask, packets_allowed}
+use Rattle.dcsctp_machine.specs.turns.HandshakeOutcomes.{pair_from, renewed_pair, renewed_outcome, init_ack_emission, init_outcome}
+use Rattle.dcsctp_machine.specs.turns.OwnTimers.{timer_act}
+use Rattle.dcsctp_machine.specs.turns.ResetOutcomes.{requested_in, is_reached, worked_in, answered_in, told_of, resets_worked, responses_outcome, responses_by, ResponseAnswers, WorksResets, ResetTurn}
+use Rattle.dcsctp_machine.proofs.ControlEcho.{cookie_echo_controlled}
+use Rattle.dcsctp_machine.proofs.ControlHandshake.{init_ack_controlled, cookie_ack_controlled, abort_controlled}
+use Rattle.dcsctp_machine.proofs.ControlLemmas.{begin_stands, acts_are_controlled}
+use Rattle.dcsctp_machine.proofs.DataLemmas.{flushed_act, end_at, send_at, resets_at, take_at}
+use Rattle.dcsctp_machine.proofs.FlushKeeps.{begun_by, flush_keeps}
+use Rattle.dcsctp_machine.proofs.HeartbeatLemmas.{timer_controlled}
+use Rattle.dcsctp_machine.proofs.PlainLemmas.{plain_controlled}
+use Rattle.dcsctp_machine.proofs.ShutdownLemmas.{shutdown_controlled, shutdown_ack_controlled, shutdown_complete_controlled}
+use Rattle.dcsctp_machine_agreement.proofs.AnswerEndsTurns.{answers_end_requests}
+use Rattle.dcsctp_machine_agreement.specs.OneSide.{parameters_in, IsSuccess, HasResponse}
+use Rattle.dcsctp_machine_refinement.proofs.OneSocket.{noted_happened}
+use Rattle.dcsctp_delivery_turns.specs.Actions.{IsCall}
+use Rattle.dcsctp_delivery_turns.specs.Asking.{own_with, own_of, own_in}
+use Rattle.dcsctp_delivery_turns.specs.Completing.{EndsOwn, CompletesOwn}
+use Rattle.dcsctp_delivery_turns.proofs.Performed.{outgoing_out, incoming_out}
+
+-- ---- effects one after another
+
+has_either : (effect : Effect) (first later : List Effect) → Has effect (first ++ later) → Has effect first ⊎ Has effect later
+has_either effect [] later has = inr has
+has_either effect (newest ∷ first) later (inl is) = inl (inl is)
+has_either effect (newest ∷ first) later (inr has) =
+    elim (has_either effect first later has) [
+      | inl front ↦ inl (inr front)
+      | inr behind ↦ inr behind
+    ]
+
+module _ (my : Pair) (number : ℕ) where
+  abbrev Completed : List Effect → Type 0
+  Completed happened = Has (effects.completes my number) happened
+
+  one_none : (effect : Effect) → (effects.completes my number ≡ effect → ⊥) → Completed (effect ∷ []) → ⊥
+  one_none effect other (inl is) = other is
+  one_none effect other (inr has) = has
+
+  begun_none : (begun : Option BegunReset) → Completed (begun_effects begun) → ⊥
+  begun_none None has = has
+  begun_none (Some begun) has = one_none (effects.begins begun.number) (λ is. absurd (cc)) has
+
+  -- ---- the peer's requests
+
+  worked_none : (held : Held) (asked : ℕ) (reached : Bool) → Completed (worked held asked reached).effects → ⊥
+  worked_none held asked true has = one_none (effects.performs held.peer asked) (λ is. absurd (cc)) has
+  worked_none held asked false has = has
+
+  repeated_none : (held : Held) (result : ReconfigurationResponseResult) (reached : Bool) → Completed (repeated held result reached).effects → ⊥
+  repeated_none held SuccessNothingToDo reached has = has
+  repeated_none held SuccessPerformed reached has = has
+  repeated_none held Denied reached has = has
+  repeated_none held ErrorWrongSSN reached has = has
+  repeated_none held ErrorRequestAlreadyInProgress reached has = has
+  repeated_none held ErrorBadSequenceNumber reached has = has
+  repeated_none held InProgress reached has = worked_none held held.peer_last reached has
+
+  outgoing_none : (held : Held) (asked : ℕ) (reached : Bool) (place : Place) → Completed (outgoing_by held asked reached place).effects → ⊥
+  outgoing_none held asked reached again has = repeated_none held held.peer_result reached has
+  outgoing_none held asked reached next (inl is) = absurd (cc)
+  outgoing_none held asked reached next (inr has) = worked_none held asked reached has
+  outgoing_none held asked reached astray has = has
+
+  incoming_none : (held : Held) (asked : ℕ) (place : Place) → Completed (incoming_by held asked place).effects → ⊥
+  incoming_none held asked again has = has
+  incoming_none held asked next has = one_none (effects.accepts asked) (λ is. absurd (cc)) has
+  incoming_none held asked astray has = has
+
+  -- ---- the peer's answers
+
+  -- The request that ends is under this own pair, and was this one.
+  abbrev Ends : Pair → Option ℕ → Type 0
+  Ends own out = (own ≡ my) × (out ≡ Some number)
+
+  out_is : (answered : ℕ) (out : Option ℕ) → is_outstanding answered out ≡ true → out ≡ Some answered
+  out_is answered None is = absurd (cc)
+  out_is answered (Some own) is = ap (λ (n : ℕ). Some n) (sym (eqb-true answered own is))
+
+  said_ends : (own : Pair) (answered : ℕ) (out : Option ℕ) → out ≡ Some answered → Completed (effects.completes own answered ∷ []) → Ends own out
+  said_ends own answered out is (inl same) =
+      let pairs : own ≡ my = cc in
+      let numbers : answered ≡ number = cc in
+      (pairs, is ∙ ap (λ (n : ℕ). Some n) numbers)
+  said_ends own answered out is (inr has) = absurd has
+
+  informed_ends : (own : Pair) (held : Held) (answered : ℕ) (result : ReconfigurationResponseResult) (b : Bool) → is_outstanding answered held.own_outstanding ≡ b
+      → Completed (informed_where own held answered result b).effects → Ends own held.own_outstanding
+  informed_ends own held answered result false is has = absurd has
+  informed_ends own held answered SuccessNothingToDo true is has = said_ends own answered held.own_outstanding (out_is answered held.own_outstanding is) has
+  informed_ends own held answered SuccessPerformed true is has = said_ends own answered held.own_outstanding (out_is answered held.own_outstanding is) has
+  informed_ends own held answered Denied true is has = absurd (one_none (effects.fails answered) (λ same. absurd (cc)) has)
+  informed_ends own held answered ErrorWrongSSN true is has = absurd (one_none (effects.fails answered) (λ same. absurd (cc)) has)
+  informed_ends own held answered ErrorRequestAlreadyInProgress true is has = absurd (one_none (effects.fails answered) (λ same. absurd (cc)) has)
+  informed_ends own held answered ErrorBadSequenceNumber true is has = absurd (one_none (effects.fails answered) (λ same. absurd (cc)) has)
+  informed_ends own held answered InProgress true is has = absurd has
+
+  -- What has no end after an answer had none before it.
+  informed_out : (own : Pair) (held : Held) (answered : ℕ) (result : ReconfigurationResponseResult) (b : Bool) → (informed_where own held answered result b).held.own_outstanding ≡ Some number
+      → held.own_outstanding ≡ Some number
+  informed_out own held answered result false is = is
+  informed_out own held answered SuccessNothingToDo true is = absurd (cc)
+  informed_out own held answered SuccessPerformed true is = absurd (cc)
+  informed_out own held answered Denied true is = absurd (cc)
+  informed_out own held answered ErrorWrongSSN true is = absurd (cc)
+  informed_out own held answered ErrorRequestAlreadyInProgress true is = absurd (cc)
+  informed_out own held answered ErrorBadSequenceNumber true is = absurd (cc)
+  informed_out own held answered InProgress true is = is
+
+  parameters_end : (own : Pair) (reached has_worked : Bool) (held : Held) (parameters : List ResetParameter) → Completed (work_parameters own reached has_worked held parameters).effects
+      → Ends own held.own_outstanding
+  parameters_end own reached has_worked held [] has = absurd has
+  parameters_end own reached true held (outgoing_reset_request asked answered reset ∷ parameters) has = absurd has
+  parameters_end own reached false held (outgoing_reset_request asked answered reset ∷ parameters) has =
+      let first = outgoing_by held asked reached (place_of held.peer_last asked) in
+      elim (has_either (effects.completes my number) first.effects (work_parameters own reached true first.held parameters).effects has) [
+        | inl front ↦ absurd (outgoing_none held asked reached (place_of held.peer_last asked) front)
+        | inr behind ↦
+            (let later : Ends own first.held.own_outstanding = parameters_end own reached true first.held parameters behind in
+            (later.0, sym (outgoing_out held asked reached (place_of held.peer_last asked)) ∙ later.1))
+      ]
+  parameters_end own reached has_worked held (incoming_reset_request asked streams ∷ parameters) has =
+      let first = incoming_by held asked (place_of held.peer_last asked) in
+      elim (has_either (effects.completes my number) first.effects (work_parameters own reached has_worked first.held parameters).effects has) [
+        | inl front ↦ absurd (incoming_none held asked (place_of held.peer_last asked) front)
+        | inr behind ↦
+            (let later : Ends own first.held.own_outstanding = parameters_end own reached has_worked first.held parameters behind in
+            (later.0, sym (incoming_out held asked (place_of held.peer_last asked)) ∙ later.1))
+      ]
+  parameters_end own reached has_worked held (reconfiguration_response answered result ∷ parameters) has =
+      let first = informed_where own held answered result (is_outstanding answered held.own_outstanding) in
+      elim (has_either (effects.completes my number) first.effects (work_parameters own reached has_worked first.held parameters).effects has) [
+        | inl front ↦ informed_ends own held answered result (is_outstanding answered held.own_outstanding) refl front
+        | inr behind ↦
+            (let later : Ends own first.held.own_outstanding = parameters_end own reached has_worked first.held parameters behind in
+            (later.0, informed_out own held answered result (is_outstanding answered held.own_outstanding) later.1))
+      ]
+  parameters_end own reached has_worked held (other_reset_parameter parameter ∷ parameters) has = parameters_end own reached has_worked held parameters has
+
+  chunk_ends : (own : Pair) (reached : Bool) (held : Held) (parameters : List ResetParameter) → Completed (work_chunk own reached held parameters).effects → Ends own held.own_outstanding
+  chunk_ends own reached held [] has = absurd has
+  chunk_ends own reached held (parameter ∷ parameters) has = parameters_end own reached false held (parameter ∷ parameters) has
+
+  -- ---- the turn of RE-CONFIG
+
+  -- The flush behind it ends none.
+  sent_none : (refused : Bool) (e : Endpoint) (told : List (Event Emission)) (held : Held) (parameters responses : List ResetParameter) (answers : List Answer) → ResponseAnswers refused e held responses answers
+      → Completed (responses_by refused e told held parameters responses answers).effects → ⊥
+  sent_none true e told held parameters responses answers allowed has = has
+  sent_none false e told held parameters responses answers allowed has =
+      let base : Endpoint = (responses_outcome e held responses).after in
+      begun_none (begun_by answers) (subst Completed (flush_keeps first_ask (packets_allowed base.options.max_burst base.core) base (draft_to held) answers allowed).effects has)
+
+  works_ends : (e : Endpoint) (own : Pair) (held : Held) (parameters : List ResetParameter) (o : Outcome) → link_in e.core ≡ Some (link_of own held) → own_of e ≡ Some (own_with held e.outstanding)
+      → WorksResets e own held parameters o → Completed o.effects → EndsOwn e my number
+  works_ends e own held parameters o linked kept turn has =
+      let w : WorkedParameters = worked_in e own held parameters in
+      let reached : Bool = is_reached e.below.transfer (requested_in parameters) in
+      let base : Endpoint = resets_worked e (answered_in held w parameters) w.held turn.left in
+      let last : Outcome = responses_by w.is_refused base (told_of e parameters w.effects) w.held parameters w.answers turn.answers in
+      let happened : Completed (w.effects ++ last.effects) = subst (λ (x : Outcome). Completed x.effects) turn.is has in
+      let ends : Ends own held.own_outstanding =
+      elim (has_either (effects.completes my number) w.effects last.effects happened) [
+        | inl front ↦ chunk_ends own reached held parameters front
+        | inr behind ↦ absurd (sent_none w.is_refused base (told_of e parameters w.effects) w.held parameters w.answers turn.answers turn.allowed behind)
+      ] in
+      record { link = link_of own held; linked = linked; mine = ends.0; own = own_with held e.outstanding; kept = kept; outstanding = ends.1 }
+
+  reset_ends : (e : Endpoint) (core : Core) (parameters : List ResetParameter) (o : Outcome) → e.core ≡ core → ResetTurn e core parameters o → Completed o.effects → EndsOwn e my number
+  reset_ends e closed parameters o same turn has = absurd (subst (λ (x : Outcome). Completed x.effects) turn has)
+  reset_ends e (cookie_wait own) parameters o same turn has = absurd (subst (λ (x : Outcome). Completed x.effects) turn has)
+  reset_ends e (cookie_echoed own held cookie) parameters o same turn has =
+      works_ends e own held parameters o (ap link_in same) (ap (λ (c : Core). own_in c e.outstanding) same) turn has
+  reset_ends e (open_in phase own held) parameters o same turn has =
+      works_ends e own held parameters o (ap link_in same) (ap (λ (c : Core). own_in c e.outstanding) same) turn has
+
+  -- ---- the other turns
+
+  by_chunk : (e : Endpoint) (tag : ℕ) (content : Content) (o : Outcome) → ControlledChunk e tag content o → Completed o.effects → HasResponse IsSuccess number (parameters_in content)
+  by_chunk e tag content o turn has =
+      answers_end_requests.completed e.options e.core tag content turn.1.0 my number
+      (subst (λ (c : Change). Completed c.effects) turn.1.2 (noted_happened (effects.completes my number) turn.0.effects (subst Completed turn.2.effects has)))
+
+  by_act : (e : Endpoint) (act : Act) (o : Outcome) → ControlledAct e act o → Completed o.effects → ⊥
+  by_act e act o turn has = answers_end_requests.none_completed e.options e.core act turn.0 my number (noted_happened (effects.completes my number) _ (subst Completed turn.1.effects has))
+
+  same_none : (o other : Outcome) → o ≡ other → (Completed other.effects → ⊥) → Completed o.effects → ⊥
+  same_none o other is none has = none (subst (λ (x : Outcome). Completed x.effects) is has)
+
+  drawn_before : (pair : Pair) (happened : List Effect) → (Completed happened → ⊥) → Completed (effects.draws pair ∷ happened) → ⊥
+  drawn_before pair happened none (inl is) = absurd (cc)
+  drawn_before pair happened none (inr has) = none has
+
+  packet_none : (b : Bool) (e : Endpoint) (words : List Word) (emission : Emission) → Completed (cond b (sends e words [] emission) (quiet e words [])).effects → ⊥
+  packet_none true e words emission has = has
+  packet_none false e words emission has = has
+
+  emits_none : (e : Endpoint) (words : List Word) (emission : Emission) → Completed (emits e words emission).effects → ⊥
+  emits_none e words emission has = packet_none (fits e emission) e words emission has
+
+  renewed_none : (e : Endpoint) (theirs : Introduction) (word : ℕ) → Completed (renewed_outcome e theirs word).effects → ⊥
+  renewed_none e theirs word has = drawn_before _ _ (emits_none e (U32 word ∷ []) (init_ack_emission e theirs (renewed_pair e word) e.tie)) has
+
+  init_none : (e : Endpoint) (theirs : Introduction) (core : Core) (word later : ℕ) → Completed (init_outcome e theirs core word later).effects → ⊥
+  init_none e theirs closed word later has = drawn_before _ _ (emits_none e (U32 word ∷ U32 later ∷ []) (init_ack_emission e theirs (pair_from word later) 0)) has
+  init_none e theirs (cookie_wait own) word later has = emits_none e [] (init_ack_emission e theirs own 0) has
+  init_none e theirs (cookie_echoed own held cookie) word later has = emits_none e [] (init_ack_emission e theirs own 0) has
+  init_none e theirs (open_in established own held) word later has = renewed_none e theirs word has
+  init_none e theirs (open_in shutdown_pending own held) word later has = renewed_none e theirs word has
+  init_none e theirs (open_in shutdown_sent own held) word later has = renewed_none e theirs word has
+  init_none e theirs (open_in shutdown_received own held) word later has = renewed_none e theirs word has
+  init_none e theirs (open_in shutdown_ack_sent own held) word later has = emits_none e [] (to_peer held shutdown_ack) has
+
+  content_ends : (e : Endpoint) (tag : ℕ) (content : Content) (o : Outcome) → ContentTurn e tag content o → Completed o.effects → EndsOwn e my number
+  content_ends e tag (init theirs) o turn has = absurd (same_none o _ turn.2 (init_none e theirs e.core turn.0 turn.1) has)
+  content_ends e tag (init_ack theirs cookie) o turn has = absurd (by_chunk e tag (init_ack theirs cookie) o (init_ack_controlled e tag theirs cookie o turn) has)
+  content_ends e tag (cookie_echo cookie) o turn has = absurd (by_chunk e tag (cookie_echo cookie) o (cookie_echo_controlled e tag cookie o turn) has)
+  content_ends e tag cookie_ack o turn has = absurd (by_chunk e tag cookie_ack o (cookie_ack_controlled e tag o turn) has)
+  content_ends e tag (re_config parameters) o turn has = reset_ends e e.core parameters o refl turn has
+  content_ends e tag (abort reflected causes) o turn has = absurd (by_chunk e tag (abort reflected causes) o (abort_controlled e tag reflected causes o turn) has)
+  content_ends e tag (shutdown tsn) o turn has = absurd (by_chunk e tag (shutdown tsn) o (shutdown_controlled e tag tsn o turn) has)
+  content_ends e tag shutdown_ack o turn has = absurd (by_chunk e tag shutdown_ack o (shutdown_ack_controlled e tag o turn) has)
+  content_ends e tag (shutdown_complete reflected) o turn has = absurd (by_chunk e tag (shutdown_complete reflected) o (shutdown_complete_controlled e tag reflected o turn) has)
+  content_ends e tag (plain chunk) o turn has = absurd (by_chunk e tag (plain chunk) o (plain_controlled e tag chunk o turn) has)
+
+  turn_ends : (e : Endpoint) (input : Input) (o : Outcome) → IsCall input → Turn e input o → Completed o.effects → EndsOwn e my number
+  turn_ends e arrival o may turn has = absurd (same_none o _ turn (λ h. h) has)
+  turn_ends e (refusal text) o may turn has = absurd (same_none o _ turn (λ h. h) has)
+  turn_ends e (packet_begins contents) o may turn has =
+      elim (begin_stands e e.core (has_data contents) o refl turn) [
+        | inl stays ↦ absurd (same_none o _ stays (λ h. h) has)
+        | inr acts ↦ absurd (by_act e shutdown_repeats o acts has)
+      ]
+  turn_ends e (chunk_input tag content) o may turn has = content_ends e tag content o turn has
+  turn_ends e packet_ends o may turn has = absurd (by_act e flushes o (flushed_act e o (end_at e e.below.transfer o turn)) has)
+  turn_ends e (act_input act) o may turn has = absurd (by_act e act o (acts_are_controlled e act o turn) has)
+  turn_ends e (user_sets setting) o may turn has = absurd (same_none o _ turn (λ h. h) has)
+  turn_ends e (user_sends messages) o may turn has = absurd (by_act e flushes o (flushed_act e o (send_at e messages o turn)) has)
+  turn_ends e (user_resets ids) o may turn has = absurd (by_act e flushes o (flushed_act e o (resets_at e ids o turn)) has)
+  turn_ends e user_takes o may turn has = absurd (by_act e flushes o (flushed_act e o (take_at e e.below.transfer o turn)) has)
+  turn_ends e (timer_expires timer) o may turn has = absurd (by_act e (timer_act e timer) o (timer_controlled e timer o turn) has)
+  turn_ends e (time_passes moment) o may turn has = absurd (same_none o _ turn (λ h. h) has)
+  turn_ends e (restores state) o may turn has = absurd may
+
+pub completes_own : CompletesOwn
+completes_own e input o my number may turn has = turn_ends my number e input o may turn has

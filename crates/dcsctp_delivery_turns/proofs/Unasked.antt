@@ -1,0 +1,174 @@
+-- The turns in which no RE-CONFIG is handled: no request of the peer is accepted or performed, and what waits for one waits still.
+use Rattle.std.proofs.Common.{◌≡◌, ℕ, Bool, true, false, Option, None, Some, List, [], ◌∷◌, refl, sym, ◌∙◌, subst, ap}
+use Rattle.dcsctp_wire.specs.Content.{SackContent, no_user_data}
+use Rattle.dcsctp_machine.specs.declared.arrivals.SkippedTo.{SkippedTo}
+use Rattle.dcsctp_machine.specs.declared.association.Held.{Held}
+use Rattle.dcsctp_machine.specs.Endpoint.{Endpoint, held_in}
+use Rattle.dcsctp_machine.specs.Outcome.{Outcome, still, to_peer}
+use Rattle.dcsctp_machine.specs.Packet.{plain, error_of}
+use Rattle.dcsctp_machine.specs.control.Choices.{plain_contents}
+use Rattle.dcsctp_machine.specs.transfer.Acknowledging.{is_sack_valid}
+use Rattle.dcsctp_machine.specs.transfer.Arrivals.{Arrival}
+use Rattle.dcsctp_machine.specs.transfer.Messages.{MessageContent}
+use Rattle.dcsctp_machine.specs.transfer.OwnResets.{prepared_all}
+use Rattle.dcsctp_machine.specs.transfer.Reassembly.{ReassemblyState}
+use Rattle.dcsctp_machine.specs.transfer.Retransmission.{has_fast_retransmit}
+use Rattle.dcsctp_machine.specs.transfer.Tracker.{TrackerState, after_packet_end, is_acknowledgement_due, sacked}
+use Rattle.dcsctp_machine.specs.transfer.Transfer.{Transfer, Below}
+use Rattle.dcsctp_machine.specs.turns.DataOutcomes.{with_transfer, with_tracker, flush_by, AnswersTo, FlushTurn, no_user_data_outcome, ReceiveTurn, DataWhere, ForwardTurn, FastRetransmits, sack_taken, AcknowledgesBy, SackWhere, SackBy, SackTurn, acknowledging, EndWhere, EndsBy, TakeWhere, TakeTurn, delay_outcome, LossTurn}
+use Rattle.dcsctp_machine.specs.turns.FlushOutcomes.{own_sack, Answer, draft_to}
+use Rattle.dcsctp_machine.specs.turns.MessageOutcomes.{MessageRefusal, Sending, sending_refusal, queue_by, queue_one, queue_all, takes_any, SendAnswers, send_by, SendTurn}
+use Rattle.dcsctp_machine.specs.turns.PreparedResets.{ResetRefusal, reset_refusal, with_queue, OwnResetsWhere, OwnResetsTurn}
+use Rattle.dcsctp_delivery_sending.proofs.Packets.{out_below}
+use Rattle.dcsctp_delivery_turns.specs.PeerRequests.{SameWaits}
+use Rattle.dcsctp_delivery_turns.proofs.Received.{timed_alike}
+use Rattle.dcsctp_delivery_turns.proofs.Shutdown.{step_below}
+use Rattle.dcsctp_delivery_turns.proofs.Waiting.{unasked_append, same_waits, waits_by, receives_wait, moves_wait, StillWaits, some_wait, all_wait, wait_then, AsksNothing, as_this, rests, emitted, flushed}
+
+-- ---- a flush by itself
+
+to_asks : (e : Endpoint) (peer : Option Held) (answers : List Answer) → AnswersTo e peer answers → AsksNothing e.below.transfer (flush_by e peer answers)
+to_asks e None answers allowed = rests e
+to_asks e (Some held) answers allowed = flushed e (draft_to held) answers allowed
+
+pub flush_asks : (e : Endpoint) (o : Outcome) → FlushTurn e o → AsksNothing e.below.transfer o
+flush_asks e o turn = as_this e.below.transfer o _ turn.2 (to_asks e (held_in e.core) turn.0 turn.1)
+
+-- ---- data
+
+-- this is below from here on
+module _ (e : Endpoint) (transfer new : Transfer) (known : e.below.transfer ≡ Some transfer) (waits : SameWaits transfer.reassembly.deferral new.reassembly.deferral) where
+  turns_to : AsksNothing e.below.transfer (still (with_transfer e new))
+  turns_to = record { none = tt; waits = some_wait e.below.transfer transfer new known waits }
+
+no_data_asks : (e : Endpoint) (peer : Option Held) (tsn : ℕ) → AsksNothing e.below.transfer (no_user_data_outcome e peer tsn)
+no_data_asks e None tsn = record { none = tt; waits = all_wait e.below.transfer }
+no_data_asks e (Some held) tsn = (let sent = emitted e [] (to_peer held (plain (error_of (no_user_data tsn ∷ [])))) in record { none = sent.none; waits = sent.waits })
+
+receive_asks : (e : Endpoint) (transfer : Option Transfer) (arrival : Arrival) (o : Outcome) → e.below.transfer ≡ transfer → ReceiveTurn e transfer arrival o → AsksNothing e.below.transfer o
+receive_asks e None arrival o known turn = as_this e.below.transfer o _ turn (record { none = tt; waits = all_wait e.below.transfer })
+receive_asks e (Some transfer) arrival o known turn = as_this e.below.transfer o _ turn.2 (turns_to e transfer turn.0 known (receives_wait arrival transfer turn.0 turn.1))
+
+pub data_asks : (e : Endpoint) (arrival : Arrival) (payload : List ℕ) (o : Outcome) → DataWhere e arrival payload o → AsksNothing e.below.transfer o
+data_asks e arrival [] o turn = as_this e.below.transfer o _ turn (no_data_asks e (held_in e.core) arrival.tsn)
+data_asks e arrival (byte ∷ bytes) o turn = receive_asks e e.below.transfer arrival o refl turn
+
+pub forward_asks : (e : Endpoint) (transfer : Option Transfer) (tsn : ℕ) (entries : List SkippedTo) (o : Outcome) → e.below.transfer ≡ transfer → ForwardTurn e transfer tsn entries o → AsksNothing e.below.transfer o
+forward_asks e None tsn entries o known turn = as_this e.below.transfer o _ turn (rests e)
+forward_asks e (Some transfer) tsn entries o known turn = as_this e.below.transfer o _ turn.2 (turns_to e transfer turn.0 known (moves_wait tsn entries transfer turn.0 turn.1))
+
+-- ---- SACK
+
+fast_waits : (b : Bool) (e : Endpoint) (held : Held) (transfer : Transfer) (o : Outcome) → e.below.transfer ≡ Some transfer → FastRetransmits b e held transfer o → StillWaits (Some transfer) o.after.below.transfer
+fast_waits false e held transfer o known turn =
+    subst (λ (x : Outcome). StillWaits (Some transfer) x.after.below.transfer) (sym turn) (subst (StillWaits (Some transfer)) (sym known) (all_wait (Some transfer)))
+fast_waits true e held transfer o known turn =
+    let base : Endpoint = with_transfer e (record transfer { retransmission = turn.left }) in
+    subst (λ (x : Outcome). StillWaits (Some transfer) x.after.below.transfer) (sym turn.is)
+    (subst (λ (b : Below). StillWaits (Some transfer) b.transfer) (sym (out_below base [] (draft_to held).with_checksum (draft_to held).packet.tag (plain_contents turn.chunks)))
+    (some_wait (Some transfer) transfer (record transfer { retransmission = turn.left }) refl (same_waits transfer.reassembly.deferral)))
+
+acknowledges_asks : (e : Endpoint) (held : Held) (transfer : Transfer) (sack : SackContent) (o : Outcome) → e.below.transfer ≡ Some transfer → AcknowledgesBy e held transfer sack o → AsksNothing e.below.transfer o
+acknowledges_asks e held transfer sack o known turn =
+    let taken : Endpoint = sack_taken e transfer turn.left in
+    let same : turn.stepped.after.below ≡ taken.below = ap (λ (x : Outcome). x.after.below) turn.steps ∙ step_below taken e.core in
+    let timed = timed_alike turn.takes.round_trip (record transfer { retransmission = turn.takes.left }) in
+    let reassembly : turn.left.reassembly ≡ transfer.reassembly = ap (λ (t : Transfer). t.reassembly) turn.takes.is ∙ timed.reassembly in
+    let first : StillWaits e.below.transfer (Some turn.left) =
+    some_wait e.below.transfer transfer turn.left known (waits_by transfer.reassembly.deferral turn.left.reassembly.deferral (ap (λ (r : ReassemblyState). r.deferral) reassembly)) in
+    let second : StillWaits (Some turn.left) turn.fast.after.below.transfer =
+    fast_waits (has_fast_retransmit turn.left.retransmission) turn.stepped.after held turn.left turn.fast (ap (λ (b : Below). b.transfer) same) turn.resends in
+    let last = flushed turn.fast.after (draft_to held) turn.answers turn.allowed in
+    as_this e.below.transfer o _ turn.is
+    (record {
+      none = last.none;
+      waits = wait_then e.below.transfer turn.fast.after.below.transfer _ (wait_then e.below.transfer (Some turn.left) turn.fast.after.below.transfer first second) last.waits;
+    })
+
+sack_where_asks : (b : Bool) (e : Endpoint) (held : Held) (transfer : Transfer) (sack : SackContent) (o : Outcome) → e.below.transfer ≡ Some transfer → SackWhere b e held transfer sack o → AsksNothing e.below.transfer o
+sack_where_asks false e held transfer sack o known turn = as_this e.below.transfer o _ turn (rests e)
+sack_where_asks true e held transfer sack o known turn = acknowledges_asks e held transfer sack o known turn
+
+sack_by_asks : (e : Endpoint) (peer : Option Held) (transfer : Transfer) (sack : SackContent) (o : Outcome) → e.below.transfer ≡ Some transfer → SackBy e peer transfer sack o → AsksNothing e.below.transfer o
+sack_by_asks e None transfer sack o known turn = as_this e.below.transfer o _ turn (rests e)
+sack_by_asks e (Some held) transfer sack o known turn = sack_where_asks (is_sack_valid transfer.retransmission sack.cumulative_tsn_ack) e held transfer sack o known turn
+
+pub sack_asks : (e : Endpoint) (transfer : Option Transfer) (sack : SackContent) (o : Outcome) → e.below.transfer ≡ transfer → SackTurn e transfer sack o → AsksNothing e.below.transfer o
+sack_asks e None sack o known turn = as_this e.below.transfer o _ turn (record { none = tt; waits = all_wait e.below.transfer })
+sack_asks e (Some transfer) sack o known turn = sack_by_asks e (held_in e.core) transfer sack o known turn
+
+-- ---- the end of a packet, what the user takes, and the timers of both
+
+end_where_asks : (b : Bool) (e : Endpoint) (peer : Option Held) (transfer : Transfer) (tracker : TrackerState) (o : Outcome) → e.below.transfer ≡ Some transfer → EndWhere b e peer transfer tracker o → AsksNothing e.below.transfer o
+end_where_asks true e (Some held) transfer tracker o known turn =
+    let base : Endpoint = with_tracker e transfer (sacked tracker) in
+    let last = flushed base (acknowledging e held (own_sack (record transfer { tracker = tracker }))) turn.answers turn.allowed in
+    as_this e.below.transfer o _ turn.is
+    (record {
+      none = last.none;
+      waits = wait_then e.below.transfer base.below.transfer _ (some_wait e.below.transfer transfer (record transfer { tracker = sacked tracker }) known (same_waits transfer.reassembly.deferral)) last.waits;
+    })
+end_where_asks true e None transfer tracker o known turn = as_this e.below.transfer o _ turn (turns_to e transfer (record transfer { tracker = tracker }) known (same_waits transfer.reassembly.deferral))
+end_where_asks false e peer transfer tracker o known turn = as_this e.below.transfer o _ turn (turns_to e transfer (record transfer { tracker = tracker }) known (same_waits transfer.reassembly.deferral))
+
+pub end_asks : (e : Endpoint) (transfer : Option Transfer) (o : Outcome) → e.below.transfer ≡ transfer → EndsBy e transfer o → AsksNothing e.below.transfer o
+end_asks e None o known turn = as_this e.below.transfer o _ turn (rests e)
+end_asks e (Some transfer) o known turn =
+    let tracker = after_packet_end e.moment transfer.tracker in end_where_asks (is_acknowledgement_due tracker) e (held_in e.core) transfer tracker o known turn
+
+take_where_asks : (e : Endpoint) (transfer : Transfer) (messages : List MessageContent) (o : Outcome) → e.below.transfer ≡ Some transfer → TakeWhere e transfer messages o → AsksNothing e.below.transfer o
+take_where_asks e transfer [] o known turn = as_this e.below.transfer o _ turn (rests e)
+take_where_asks e transfer (message ∷ messages) o known turn = as_this e.below.transfer o _ turn (turns_to e transfer _ known (same_waits transfer.reassembly.deferral))
+
+pub take_asks : (e : Endpoint) (transfer : Option Transfer) (o : Outcome) → e.below.transfer ≡ transfer → TakeTurn e transfer o → AsksNothing e.below.transfer o
+take_asks e None o known turn = as_this e.below.transfer o _ turn (rests e)
+take_asks e (Some transfer) o known turn = take_where_asks e transfer transfer.reassembly.incoming.ready o known turn
+
+pub delay_asks : (e : Endpoint) (transfer : Option Transfer) → e.below.transfer ≡ transfer → AsksNothing e.below.transfer (delay_outcome e transfer)
+delay_asks e None known = rests e
+delay_asks e (Some transfer) known = turns_to e transfer _ known (same_waits transfer.reassembly.deferral)
+
+pub loss_asks : (e : Endpoint) (transfer : Option Transfer) (o : Outcome) → e.below.transfer ≡ transfer → LossTurn e transfer o → AsksNothing e.below.transfer o
+loss_asks e None o known turn = as_this e.below.transfer o _ turn (rests e)
+loss_asks e (Some transfer) o known turn =
+    as_this e.below.transfer o _ turn (record { none = tt; waits = some_wait e.below.transfer transfer _ known (same_waits transfer.reassembly.deferral) })
+
+-- ---- what the user sends and resets
+
+queue_by_asks : (e : Endpoint) (sending : Sending) (refusal : Option MessageRefusal) → AsksNothing e.below.transfer (queue_by e sending refusal)
+queue_by_asks e sending None = record { none = tt; waits = all_wait e.below.transfer }
+queue_by_asks e sending (Some refusal) = record { none = tt; waits = all_wait e.below.transfer }
+
+queue_all_asks : (e : Endpoint) (sendings : List Sending) → AsksNothing e.below.transfer (queue_all e sendings)
+queue_all_asks e [] = rests e
+queue_all_asks e (sending ∷ sendings) =
+    let first : AsksNothing e.below.transfer (queue_one e sending) = queue_by_asks e sending (sending_refusal e sending) in
+    let rest = queue_all_asks (queue_one e sending).after sendings in
+    record {
+      none = unasked_append (queue_one e sending).effects (queue_all (queue_one e sending).after sendings).effects first.none rest.none;
+      waits = wait_then e.below.transfer (queue_one e sending).after.below.transfer _ first.waits rest.waits;
+    }
+
+send_by_asks : (b : Bool) (e : Endpoint) (answers : List Answer) → SendAnswers b e answers → AsksNothing e.below.transfer (send_by b e answers)
+send_by_asks false e answers allowed = rests e
+send_by_asks true e answers allowed = to_asks e (held_in e.core) answers allowed
+
+pub send_asks : (e : Endpoint) (sendings : List Sending) (o : Outcome) → SendTurn e sendings o → AsksNothing e.below.transfer o
+send_asks e sendings o turn =
+    let all : Outcome = queue_all e sendings in
+    let first = queue_all_asks e sendings in
+    let last = send_by_asks (takes_any e sendings) all.after turn.0 turn.1 in
+    as_this e.below.transfer o _ turn.2
+    (record {
+      none = unasked_append all.effects (send_by (takes_any e sendings) all.after turn.0).effects first.none last.none;
+      waits = wait_then e.below.transfer all.after.below.transfer _ first.waits last.waits;
+    })
+
+resets_where_ask : (refusal : Option ResetRefusal) (e : Endpoint) (ids : List ℕ) (o : Outcome) → OwnResetsWhere refusal e ids o → AsksNothing e.below.transfer o
+resets_where_ask None e ids o turn =
+    let last = flush_asks (with_queue e (prepared_all ids e.below.queue)) turn.flushed turn.flushes in
+    as_this e.below.transfer o _ turn.is (record { none = last.none; waits = last.waits })
+resets_where_ask (Some refusal) e ids o turn = as_this e.below.transfer o _ turn (rests e)
+
+pub own_resets_ask : (e : Endpoint) (ids : List ℕ) (o : Outcome) → OwnResetsTurn e ids o → AsksNothing e.below.transfer o
+own_resets_ask e ids o turn = resets_where_ask (reset_refusal e) e ids o turn

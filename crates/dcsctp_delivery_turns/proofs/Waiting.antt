@@ -1,0 +1,191 @@
+-- What waits for a reset, where no request of the peer is handled.
+use Rattle.dcsctp_machine.specs.control.Effect as effects
+use Rattle.std.proofs.Common.{◌≡◌, ℕ, Bool, true, false, cond, Option, None, Some, List, [], ◌∷◌, ◌++◌, length, refl, sym, ◌∙◌, subst, ap}
+use Rattle.dcsctp_machine.specs.declared.arrivals.SkippedTo.{SkippedTo}
+use Rattle.dcsctp_machine.specs.declared.word.Word.{Word}
+use Rattle.dcsctp_machine.specs.Endpoint.{Endpoint}
+use Rattle.dcsctp_machine.specs.Event.{Event}
+use Rattle.dcsctp_machine.specs.Outcome.{Outcome, still, quiet, sends, emits, fits, behind}
+use Rattle.dcsctp_machine.specs.Packet.{Emission}
+use Rattle.dcsctp_machine.specs.control.Effect.{Effect}
+use Rattle.dcsctp_machine.specs.transfer.Arrivals.{Arrival}
+use Rattle.dcsctp_machine.specs.transfer.IncomingStreams.{ChunkModel}
+use Rattle.dcsctp_machine.specs.transfer.Reassembly.{DeferralModel, WaitingModel, ReassemblyState, can_count, is_deferred, is_forward_deferred, with_waiting, arrived, skipping, AddsData, SkipsData, is_above_watermark}
+use Rattle.dcsctp_machine.specs.transfer.Tracker.{is_new_tsn, is_forward, is_valid_tsn}
+use Rattle.dcsctp_machine.specs.transfer.Transfer.{Transfer, Below}
+use Rattle.dcsctp_machine.specs.turns.BegunResets.{BegunReset, begun_effects}
+use Rattle.dcsctp_machine.specs.turns.EndOutcomes.{ended_outcome}
+use Rattle.dcsctp_machine.specs.turns.FlushOutcomes.{Answer, answer_contents, filled, asked, next_draft, flush_of, FlushAnswers, Ask, first_ask, later_ask, AnsweredBelow, Answered, Answers, at_limit, at_empty, after_packet, packets_allowed}
+use Rattle.dcsctp_machine.specs.turns.TransferMoves.{AddsWhere, ReceivesWhere, ReceivesData, SkipsWhere, MovesWhere, MovesForward}
+use Rattle.dcsctp_machine.proofs.FlushKeeps.{begun_by, flush_keeps}
+use Rattle.dcsctp_delivery_sending.proofs.Packets.{out_below}
+use Rattle.dcsctp_delivery_turns.specs.PeerRequests.{NoneAsked, SameWaits}
+use Rattle.dcsctp_delivery_turns.proofs.Received.{flush_left}
+use Rattle.std.specs.Prelude.{not, ◌&&◌}
+
+-- ---- effects
+
+pub unasked_append : (first later : List Effect) → NoneAsked first → NoneAsked later → NoneAsked (first ++ later)
+unasked_append [] later none rest = rest
+unasked_append (effects.accepts number ∷ first) later none rest = absurd none
+unasked_append (effects.performs peer number ∷ first) later none rest = absurd none
+unasked_append (effects.resumes link own last ∷ first) later none rest = absurd none
+unasked_append (effect ∷ first) later none rest = unasked_append first later none rest
+
+pub begun_unasked : (begun : Option BegunReset) → NoneAsked (begun_effects begun)
+begun_unasked None = tt
+begun_unasked (Some begun) = tt
+
+-- ---- what waits
+
+pub same_waits : (deferral : Option DeferralModel) → SameWaits deferral deferral
+same_waits None = refl
+same_waits (Some deferral) = (deferral, refl, refl)
+
+pub waits_by : (old new : Option DeferralModel) → new ≡ old → SameWaits old new
+waits_by old new is = subst (SameWaits old) (sym is) (same_waits old)
+
+pub waits_then : (old between new : Option DeferralModel) → SameWaits old between → SameWaits between new → SameWaits old new
+waits_then None None new first second = second
+waits_then None (Some between) new first second = absurd (cc)
+waits_then (Some old) None new first second = (let is = first.1 in absurd (cc))
+waits_then (Some old) (Some between) new first second =
+    let is : Some between ≡ Some first.0 = first.1 in
+    let same : between ≡ first.0 = cc in
+    (second.0, second.1, second.2 ∙ ap (λ (d : DeferralModel). d.last_tsn) same ∙ first.2)
+
+more_waits : (last : WaitingModel) (deferral : Option DeferralModel) → SameWaits deferral (with_waiting last deferral)
+more_waits last None = refl
+more_waits last (Some deferral) = (record deferral { waiting = deferral.waiting ++ last ∷ [] }, refl, refl)
+
+-- ---- data
+
+abbrev Waits : ReassemblyState → ReassemblyState → Type 0
+Waits old new = SameWaits old.deferral new.deferral
+
+waits_as : (old between new : ReassemblyState) → new ≡ between → Waits old between → Waits old new
+waits_as old between new is waits = subst (Waits old) (sym is) waits
+
+adds_wait : (tsn : ℕ) (chunk : ChunkModel) (old new : ReassemblyState) (counts defers : Bool) → can_count (length chunk.payload) old ≡ counts → is_deferred tsn chunk.stream old.deferral ≡ defers → AddsData tsn chunk old new → Waits old new
+adds_wait tsn chunk old new true true counts defers does = waits_as old _ new (does.deferred counts defers) (more_waits (arrived tsn chunk) old.deferral)
+adds_wait tsn chunk old new true false counts defers does = waits_by old.deferral new.deferral (does.taken counts defers).deferral
+adds_wait tsn chunk old new false defers counts is does = waits_as old old new (does.too_much counts) (same_waits old.deferral)
+
+adds_where_wait : (b : Bool) (tsn : ℕ) (chunk : ChunkModel) (old new : ReassemblyState) → AddsWhere b tsn chunk old new → Waits old new
+adds_where_wait true tsn chunk old new does = adds_wait tsn chunk old new (can_count (length chunk.payload) old) (is_deferred tsn chunk.stream old.deferral) refl refl does
+adds_where_wait false tsn chunk old new does = waits_as old old new does (same_waits old.deferral)
+
+receives_where_wait : (b : Bool) (arrival : Arrival) (old new : Transfer) → ReceivesWhere b arrival old new → Waits old.reassembly new.reassembly
+receives_where_wait true arrival old new does = adds_where_wait (is_new_tsn arrival.tsn old.tracker) arrival.tsn arrival.chunk old.reassembly new.reassembly does.reassembly
+receives_where_wait false arrival old new does = waits_as old.reassembly old.reassembly new.reassembly (ap (λ (t : Transfer). t.reassembly) does) (same_waits old.reassembly.deferral)
+
+pub receives_wait : (arrival : Arrival) (old new : Transfer) → ReceivesData arrival old new → SameWaits old.reassembly.deferral new.reassembly.deferral
+receives_wait arrival old new does = receives_where_wait (not (is_above_watermark old.reassembly) && is_valid_tsn old.tracker.cumulative arrival.tsn) arrival old new does
+
+skips_wait : (tsn : ℕ) (entries : List SkippedTo) (old new : ReassemblyState) (defers : Bool) → is_forward_deferred tsn old.deferral ≡ defers → SkipsData tsn entries old new → Waits old new
+skips_wait tsn entries old new true defers does = waits_as old _ new (does.deferred defers) (more_waits (skipping tsn entries) old.deferral)
+skips_wait tsn entries old new false defers does = waits_by old.deferral new.deferral (does.moved defers).deferral
+
+skips_where_wait : (b : Bool) (tsn : ℕ) (entries : List SkippedTo) (old new : ReassemblyState) → SkipsWhere b tsn entries old new → Waits old new
+skips_where_wait true tsn entries old new does = skips_wait tsn entries old new (is_forward_deferred tsn old.deferral) refl does
+skips_where_wait false tsn entries old new does = waits_as old old new does (same_waits old.deferral)
+
+moves_where_wait : (b : Bool) (tsn : ℕ) (entries : List SkippedTo) (old new : Transfer) → MovesWhere b tsn entries old new → Waits old.reassembly new.reassembly
+moves_where_wait true tsn entries old new does = skips_where_wait (is_forward old.tracker.cumulative tsn) tsn entries old.reassembly new.reassembly does.reassembly
+moves_where_wait false tsn entries old new does = waits_as old.reassembly old.reassembly new.reassembly (ap (λ (t : Transfer). t.reassembly) does) (same_waits old.reassembly.deferral)
+
+pub moves_wait : (tsn : ℕ) (entries : List SkippedTo) (old new : Transfer) → MovesForward tsn entries old new → SameWaits old.reassembly.deferral new.reassembly.deferral
+moves_wait tsn entries old new does = moves_where_wait (is_valid_tsn old.tracker.cumulative tsn) tsn entries old new does
+
+-- ---- below an association
+
+-- It waited for the same before, and there was one.
+abbrev pub WaitedIn : Option Transfer → Transfer → Type 0
+WaitedIn None left = ⊥
+WaitedIn (Some transfer) left = SameWaits transfer.reassembly.deferral left.reassembly.deferral
+
+-- So it is if there is one still.
+abbrev pub StillWaits : Option Transfer → Option Transfer → Type 0
+StillWaits old new = (left : Transfer) → new ≡ Some left → WaitedIn old left
+
+pub some_wait : (found : Option Transfer) (transfer new : Transfer) → found ≡ Some transfer → SameWaits transfer.reassembly.deferral new.reassembly.deferral → StillWaits found (Some new)
+some_wait found transfer new known waits =
+    subst (λ (f : Option Transfer). StillWaits f (Some new)) (sym known)
+    (λ left is. let same : new ≡ left = cc in subst (λ (t : Transfer). SameWaits transfer.reassembly.deferral t.reassembly.deferral) same waits)
+
+pub all_wait : (found : Option Transfer) → StillWaits found found
+all_wait None = λ left is. absurd (cc)
+all_wait (Some transfer) = some_wait (Some transfer) transfer transfer refl (same_waits transfer.reassembly.deferral)
+
+waited_in : (old : Option Transfer) (between left : Transfer) → WaitedIn old between → SameWaits between.reassembly.deferral left.reassembly.deferral → WaitedIn old left
+waited_in None between left first second = absurd first
+waited_in (Some transfer) between left first second = waits_then transfer.reassembly.deferral between.reassembly.deferral left.reassembly.deferral first second
+
+pub wait_then : (old between new : Option Transfer) → StillWaits old between → StillWaits between new → StillWaits old new
+wait_then old None new first second = λ left is. absurd (second left is)
+wait_then old (Some between) new first second = λ left is. waited_in old between left (first between refl) (second left is)
+
+-- ---- a flush
+
+-- Without an association it leaves none.
+answered_none : (ask : Ask) (e : Endpoint) (draft : Emission) (found : Option Transfer) (answer : Answer) → e.below.transfer ≡ None → found ≡ None → AnsweredBelow ask e draft answer found → answer.after.below.transfer ≡ None
+answered_none ask e draft None answer none is does = ap (λ (a : Answer). a.after.below.transfer) does ∙ none
+answered_none ask e draft (Some transfer) answer none is does = absurd (cc)
+
+asked_none : (ask : Ask) (e : Endpoint) (draft : Emission) (answer : Answer) → e.below.transfer ≡ None → Answered ask e draft answer → (asked e draft answer).after.below.transfer ≡ None
+asked_none ask e draft answer none does =
+    ap (λ (b : Below). b.transfer) (out_below answer.after _ draft.with_checksum draft.packet.tag (filled draft (answer_contents answer)).packet.contents)
+    ∙ answered_none ask e draft e.below.transfer answer none none does.by_transfer
+
+flush_none : (ask : Ask) (n : ℕ) (e : Endpoint) (draft : Emission) (answers : List Answer) → e.below.transfer ≡ None → Answers ask n e draft answers → (flush_of e draft answers).after.below.transfer ≡ None
+flush_none _ _ _ _ _ none (at_limit ask e draft) = none
+flush_none _ _ _ _ _ none (at_empty ask more e draft answer does empty) = asked_none ask e draft answer none does
+flush_none _ _ _ _ _ none (after_packet ask more e draft answer answers does some rest) =
+    flush_none later_ask more (asked e draft answer).after (next_draft e.core draft) answers (asked_none ask e draft answer none does) rest
+
+flush_waits : (found : Option Transfer) (e : Endpoint) (draft : Emission) (answers : List Answer) → e.below.transfer ≡ found → FlushAnswers e draft answers → StillWaits found (flush_of e draft answers).after.below.transfer
+flush_waits None e draft answers known allowed =
+    λ left is. let none : (flush_of e draft answers).after.below.transfer ≡ None = flush_none first_ask (packets_allowed e.options.max_burst e.core) e draft answers known allowed in absurd (cc)
+flush_waits (Some transfer) e draft answers known allowed =
+    let kept = flush_left first_ask (packets_allowed e.options.max_burst e.core) e draft answers transfer known allowed in
+    subst (StillWaits (Some transfer)) (sym kept.is)
+    (some_wait (Some transfer) transfer kept.left refl (waits_by transfer.reassembly.deferral kept.left.reassembly.deferral (ap (λ (r : ReassemblyState). r.deferral) kept.same.reassembly)))
+
+-- ---- outcomes
+
+-- No request of the peer is accepted or performed, and what waits for one in this waits for it still.
+pub record AsksNothing (found : Option Transfer) (o : Outcome) : Type 0 where
+  pub none : NoneAsked o.effects
+  pub waits : StillWaits found o.after.below.transfer
+
+-- as this outcome
+pub as_this : (found : Option Transfer) (o this : Outcome) → o ≡ this → AsksNothing found this → AsksNothing found o
+as_this found o this is asks = subst (AsksNothing found) (sym is) asks
+
+pub rests : (e : Endpoint) → AsksNothing e.below.transfer (still e)
+rests e = record { none = tt; waits = all_wait e.below.transfer }
+
+-- Nothing is asked, and what is below stays.
+pub said : (e : Endpoint) (o : Outcome) → NoneAsked o.effects → o.after.below ≡ e.below → AsksNothing e.below.transfer o
+said e o none same = record { none = none; waits = subst (λ (b : Below). StillWaits e.below.transfer b.transfer) (sym same) (all_wait e.below.transfer) }
+
+packet_if : (b : Bool) (e : Endpoint) (words : List Word) (emission : Emission) → AsksNothing e.below.transfer (cond b (sends e words [] emission) (quiet e words []))
+packet_if true e words emission = record { none = tt; waits = all_wait e.below.transfer }
+packet_if false e words emission = record { none = tt; waits = all_wait e.below.transfer }
+
+pub emitted : (e : Endpoint) (words : List Word) (emission : Emission) → AsksNothing e.below.transfer (emits e words emission)
+emitted e words emission = packet_if (fits e emission) e words emission
+
+pub flushed : (e : Endpoint) (draft : Emission) (answers : List Answer) → FlushAnswers e draft answers → AsksNothing e.below.transfer (flush_of e draft answers)
+flushed e draft answers allowed =
+    record {
+      none = subst NoneAsked (sym (flush_keeps first_ask (packets_allowed e.options.max_burst e.core) e draft answers allowed).effects) (begun_unasked (begun_by answers));
+      waits = flush_waits e.below.transfer e draft answers refl allowed;
+    }
+
+pub flushed_behind : (e : Endpoint) (words : List Word) (told : List (Event Emission)) (draft : Emission) (answers : List Answer) → FlushAnswers e draft answers
+    → AsksNothing e.below.transfer (behind words told (flush_of e draft answers))
+flushed_behind e words told draft answers allowed = (let last = flushed e draft answers allowed in record { none = last.none; waits = last.waits })
+
+pub ended : (found : Option Transfer) (before : Outcome) (event : Event Emission) → NoneAsked before.effects → AsksNothing found (ended_outcome before event)
+ended found before event none = record { none = unasked_append before.effects (effects.ends ∷ []) none tt; waits = λ left is. absurd (cc) }

@@ -1,0 +1,23 @@
+-- An own request to reset streams that ends as performed is the one that had no end (RFC 6525, section 5.2.7).
+use Rattle.std.specs.Prelude.{◌≡◌, ℕ, Some}
+use Rattle.dcsctp_machine.specs.declared.association.Pair.{Pair}
+use Rattle.dcsctp_machine.specs.Endpoint.{Endpoint}
+use Rattle.dcsctp_machine.specs.Outcome.{Outcome}
+use Rattle.dcsctp_machine.specs.Past.{Has}
+use Rattle.dcsctp_machine.specs.Turn.{Input, Turn}
+use Rattle.dcsctp_machine.specs.control.Effect.{Link, completes, link_in}
+use Rattle.dcsctp_delivery_turns.specs.Actions.{IsCall}
+use Rattle.dcsctp_delivery_turns.specs.Asking.{Own, own_of}
+
+-- The request of this number has no end yet, in the association whose own pair this is.
+pub record EndsOwn (e : Endpoint) (my : Pair) (number : ℕ) : Type 0 where
+  pub link : Link
+  pub linked : link_in e.core ≡ Some link
+  pub mine : link.my ≡ my
+  pub own : Own
+  pub kept : own_of e ≡ Some own
+  pub outstanding : own.number ≡ Some number
+
+-- So it was before a turn in which a request ends as performed.
+abbrev pub CompletesOwn : Type 0
+CompletesOwn = (e : Endpoint) (input : Input) (o : Outcome) (my : Pair) (number : ℕ) → IsCall input → Turn e input o → Has (completes my number) o.effects → EndsOwn e my number
