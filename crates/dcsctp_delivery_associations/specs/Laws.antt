@@ -25,7 +25,7 @@ use Rattle.dcsctp_delivery_turns.specs.Sides.{WasSent}
 use Rattle.dcsctp_delivery_associations.specs.Ends.{Ends, NewPeer, NewTag, Between}
 use Rattle.dcsctp_delivery_associations.specs.Reads.{Read, reads_after, messages_of}
 
--- In an association with interleaving no own request to reset streams is refused.
+-- In an association with interleaving no own request to reset streams fails.
 abbrev pub RefusesNone : Endpoint → Outcome → Type 0
 RefusesNone e o = e.below.queue.is_interleaved ≡ true → has_refused o.effects ≡ false
 
@@ -47,14 +47,16 @@ pub record AreEnds (options : Options) (e : Endpoint) (queued : List Message) (p
 abbrev pub EndsBegin : Type 0
 EndsBegin = (mine options : Options) → AreEnds options (fresh_endpoint mine) [] [] [] (fresh_endpoint options) [] []
 
--- A turn of the sender leaves them, if an association that begins is of a new tag and of the matching one at the receiver.
+-- A turn of the sender leaves them, if an association that begins is of a new tag and of the matching one at the receiver, few requests to
+-- reset streams went to each tag, with interleaving none fails, and one that ends as performed was performed by the receiver.
 abbrev pub SendersTurn : Type 0
 SendersTurn =
     (options : Options) (ends : Ends) (e : Endpoint) (queued : List Message) (past : List Effect) (packets : List Emission) (other : Endpoint) (their_past : List Effect) (reads : List Read) (input : Input) (o : Outcome)
     → Between options ends e queued past packets other their_past reads → AreAnswered ends e past other their_past → ((begun : Begun e o) → IsOpening (came_by input) → link_in o.after.core ≡ Some (link_of begun.my begun.held) → NewPeer past their_past (link_of begun.my begun.held)) → length (queued_after e input queued) < 2 ^ 64 → AsksLittle (packets ++ packets_in o.events)
     → RefusesNone e o → CompletesPerformed their_past o → IsCall input → Turn e input o → AreEnds options o.after (queued_after e input queued) (after_effects o.effects past) (packets ++ packets_in o.events) other their_past reads
 
--- So does one of the receiver, if what is handled in its association was sent in it, and each that is noted is of a new tag.
+-- So does one of the receiver, if what is handled in its association was sent in it, each that is noted is of a new tag, and few requests
+-- went to each tag.
 abbrev pub ReceiversTurn : Type 0
 ReceiversTurn =
     (options : Options) (ends : Ends) (e : Endpoint) (queued : List Message) (past : List Effect) (packets : List Emission) (other : Endpoint) (their_past : List Effect) (reads : List Read) (input : Input) (o : Outcome)

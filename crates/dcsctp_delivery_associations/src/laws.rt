@@ -8,12 +8,14 @@ pub fn ends_begin()
 {}
 
 /// A turn of the sender leaves what is known of all associations, if one that begins is of a tag of its own, and the
-/// receiver's of that tag is the matching one.
+/// receiver's of that tag is the matching one; if few requests to reset streams went to each tag, and none fails with
+/// interleaving; and if one that ends as performed was performed by the receiver.
 pub fn senders_turn()
     ensures { SendersTurn }
 {}
 
-/// So does a turn of the receiver, where what it handles was sent in the association that handles it.
+/// So does a turn of the receiver, where what it handles was sent in the association that handles it, and few requests
+/// to reset streams went to each tag.
 pub fn receivers_turn()
     ensures { ReceiversTurn }
 {}

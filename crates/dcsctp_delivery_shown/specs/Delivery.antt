@@ -9,7 +9,7 @@ use Rattle.dcsctp_delivery_sockets.specs.Delivery.{AreInMemory, SendsLittle, Non
 use Rattle.dcsctp_delivery_shown.specs.Shown.{ShownTagsServeOnce}
 
 -- All that delivery asks of a run, beside what agreement asks: each verification tag serves one association, not too much is sent to it,
--- and with interleaving no own request to reset streams is refused.
+-- and with interleaving no own request to reset streams fails.
 pub record AllowsDelivery (options : Both Options) (run : List Worked) : Type 0 where
   pub tags : ShownTagsServeOnce options run
   pub little : (side : Side) → SendsLittle (of_side side options) (of_side side (turns_after run))

@@ -62,8 +62,8 @@ pub record TagsServeOnce (turns : Both (List Turned)) : Type 0 where
 -- ---- how much is sent
 
 -- Fewer than 2^30 chunks of data, new or sent again, went to each verification tag: then an association assigns fewer than 2^31 TSNs, which
--- are told apart (RFC 9260, section 1.6). Fewer than 2^32 - 1 requests to reset streams went to each. And fewer than 2^64 messages were
--- sent.
+-- are told apart (RFC 9260, section 1.6). Fewer than 2^32 - 1 requests to reset streams went to each, new or sent again. And fewer than
+-- 2^64 messages were sent.
 pub record SendsLittle (options : Options) (turns : List Turned) : Type 0 where
   pub messages : length (sent_of (fresh_endpoint options) turns) < 2 ^ 64
   pub chunks : (tag : ℕ) → chunks_to tag (packets_in (events_of turns)) < 2 ^ 30
@@ -71,7 +71,7 @@ pub record SendsLittle (options : Options) (turns : List Turned) : Type 0 where
 
 -- ---- with interleaving
 
--- In an association with interleaving no own request to reset streams is refused in this turn.
+-- In an association with interleaving no own request to reset streams fails in this turn (OnStreamsResetFailed).
 abbrev pub IsUnrefused : Endpoint → Turned → Type 0
 IsUnrefused e turn = RefusesNone e turn.outcome
 
@@ -92,7 +92,8 @@ abbrev pub Delivers : Both Options → Both (List Turned) → Side → Type 0
 Delivers options turns side =
     IsDelivered (sent_of (fresh_endpoint (of_other side options)) (of_other side turns)) (read_of (fresh_endpoint (of_side side options)) (of_side side turns))
 
--- So it is at the end of a run that is honest, in which no tag was drawn twice and each served one association.
+-- So it is at the end of a run that is honest, in which no tag was drawn twice, each served one association, little was sent, and with
+-- interleaving no request to reset streams failed.
 abbrev pub SocketsDeliver : Type 0
 SocketsDeliver =
     (options : Both Options) (run : List Worked) → AreUsable options → AreInMemory (acts_of run) → SocketRun options run → AreHonest (acts_of run) → AreFresh (turns_after run) → TurnsAllowDelivery options (turns_after run)

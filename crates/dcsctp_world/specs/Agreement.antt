@@ -27,7 +27,7 @@ use Rattle.dcsctp_world.specs.Run.{IsRun}
 -- side's request to reset streams was performed, the other performed it. With the second premise alone, each COOKIE ECHO that a
 -- side handles bears a cookie that this side gave away in an earlier turn; if it makes an association, that was at most the
 -- cookie's lifetime before. With both premises, if each tag serves one association and not too much goes to it, and with interleaving
--- no request to reset streams is refused, what a user reads is what the other user sent, and no message is read twice. If the sockets
+-- no request to reset streams fails, what a user reads is what the other user sent, and no message is read twice. If the sockets
 -- fit each other, the first five acts of a handshake connect them, whatever comes later.
 -- The rest holds whatever bytes came from outside. What each side notes of connections and of the numbers of requests is in its
 -- order. Each turn's events tell what it notes of connections, ends and resets, in the same order. A side's association is the

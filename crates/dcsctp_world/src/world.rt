@@ -252,10 +252,11 @@ impl<R: Rng + Drop> World<R> {
     /// bytes, and no message is read twice, in any association. That has further premises. Each verification tag
     /// serves one association: what `associations` shows after an act was there before it, or has an own tag and a
     /// peer's tag that are new, and where one side's own tag is the other's peer tag, both pairs are crossed. Fewer
-    /// than 2^30 chunks of data and fewer than 2^32 - 1 requests to reset streams go to each tag. In an association
-    /// with interleaving (RFC 8260) no such request is refused. A COOKIE ECHO that is delivered again once its
-    /// association has ended makes another one under the same tags, for as long as its cookie lives; then a message
-    /// may be read twice, or be made of parts of two.
+    /// than 2^30 chunks of data and fewer than 2^32 - 1 requests to reset streams go to each tag, each counted as often
+    /// as it is sent, and a side sends fewer than 2^64 messages. In an association with interleaving (RFC 8260) no
+    /// such request ends by OnStreamsResetFailed. For one, a COOKIE ECHO that is delivered again once its association
+    /// has ended makes another one under the same tags, for as long as its cookie lives; then a message may be read
+    /// twice, or be made of parts of two.
     ///
     /// The rest holds whatever comes from outside. In one lifetime an association connects at most once, and
     /// the numbers of requests to reset streams go up by one. Each request that was accepted is performed at
