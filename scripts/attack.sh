@@ -12,8 +12,10 @@ set -eu
 export LC_ALL=C.UTF-8
 cd "$(dirname "$0")/.."
 top=$PWD
-machine=dcsctp_machine
-agreement=dcsctp_machine_agreement
+# the crates of definitions, with the lemmas, the laws and the runs that stand on them, lowest first
+machine=()
+for name in types spec spec_lemmas spec_laws spec_runs; do machine+=("dcsctp_$name"); done
+agreement=dcsctp_theorem_association
 # the laws on delivery, lowest first
 delivery=()
 for name in sending receiving directions turns associations sockets shown; do delivery+=("dcsctp_delivery_$name"); done
@@ -36,7 +38,7 @@ below() {
         read -r name todo <<< "$todo"
         case " $seen " in *" $name "*) continue ;; esac
         seen="$seen $name"
-        todo="$todo $(sed -n "s/^$name: *//p" crates.txt)"
+        todo="$todo $(sed -n "s/^$name\( [a-z]*\)*: *//p" crates.txt)"
         todo=${todo# }
     done
     for name in $seen; do [ ! -d "crates/$name" ] || echo "$name"; done | sort
@@ -96,12 +98,14 @@ if [ $# -eq 0 ]; then
         passed=
     fi
     changed() { [ -z "$passed" ] || ! git diff --quiet "$passed" HEAD -- "$@"; }
+    definitions=("${machine[@]/#/crates/}")
+    definitions=("${definitions[@]/%//specs}")
     for folder in attacks/*/; do
         name=$(basename "$folder")
         if [ "$name" = definitions ]; then
-            changed attacks/definitions crates/$machine/specs crates/$agreement || continue
+            changed attacks/definitions "${definitions[@]}" crates/$agreement || continue
         elif [ "$name" = delivery ]; then
-            changed attacks/delivery crates/$machine/specs "${delivery[@]/#/crates/}" || continue
+            changed attacks/delivery "${definitions[@]}" "${delivery[@]/#/crates/}" || continue
         else
             changed "attacks/$name" "crates/$name/src" "crates/$name/specs" "crates/$name/proofs" || continue
         fi
@@ -191,7 +195,17 @@ judge() {
     esac
 }
 
-# Tries the edits of a folder of attacks: the first of these crates that isn't proved refuses it.
+# Does this crate, or one below it, have an edit in the copy?
+is_edited() {
+    local name
+    for name in $(below "$1"); do
+        git -C "$room/copy" diff --quiet -- "crates/$name" || return 0
+    done
+    return 1
+}
+
+# Tries the edits of a folder of attacks: the first of these crates that isn't proved refuses it. Those that an edit
+# doesn't reach are left out.
 of_definitions() {
     local folder=$1 edit name crate said sources
     sources=$(sources_of "$folder")
@@ -200,6 +214,7 @@ of_definitions() {
         name=$(basename "$edit" .edit)
         if said=$(apply "$edit"); then
             for crate in "$@"; do
+                is_edited "$crate" || continue
                 said=$(judge "$crate")
                 [ "$said" = proved ] || break
             done
@@ -220,8 +235,8 @@ of_definitions() {
 
 for name in "${names[@]}"; do
     case $name in
-        definitions) of_definitions definitions $machine $agreement ;;
-        delivery) of_definitions delivery $machine "${delivery[@]}" ;;
+        definitions) of_definitions definitions "${machine[@]}" $agreement ;;
+        delivery) of_definitions delivery "${machine[@]}" "${delivery[@]}" ;;
         *) of_crate "$name" ;;
     esac
 done

@@ -1,18 +1,19 @@
 -- What the calls of a socket do.
 use Rattle.std.specs.Prelude.{◌≡◌, ℕ, Bool, true, false, Option, Some, None, Result, Ok, Err, List, [], ◌∷◌, ◌++◌, map}
-use Rattle.dcsctp_machine.specs.Settings.{Ports, ports_of}
-use Rattle.dcsctp_machine.specs.declared.association.Pair.{Pair}
-use Rattle.dcsctp_machine.specs.declared.word.Word.{Word}
-use Rattle.dcsctp_machine.specs.declared.ends.AbortReason.TheVariants.{CloseCalled}
-use Rattle.dcsctp_machine.specs.Event.{Event, event_map}
-use Rattle.dcsctp_machine.specs.Packet.{Emission, emission_bytes}
-use Rattle.dcsctp_machine.specs.Endpoint.{Endpoint, Core, closed, cookie_wait, cookie_echoed, open_in, OpenPhase, established, shutdown_pending, shutdown_sent, shutdown_received, shutdown_ack_sent}
-use Rattle.dcsctp_machine.specs.transfer.SendQueue.{stream_of}
-use Rattle.dcsctp_machine.specs.transfer.SendStreams.{Stream}
-use Rattle.dcsctp_machine.specs.Turn.{act_input}
-use Rattle.dcsctp_machine.specs.turns.SettingOutcomes.{Setting, endpoint_with}
-use Rattle.dcsctp_machine.specs.control.Acts.{Act, connect, shut_down, abort_with}
-use Rattle.dcsctp_machine.specs.CallTurns.{Turned, Turns, HandleInput, CutInput, after_all, words_of, pairs_of, events_of}
+use Rattle.dcsctp_spec.specs.types.Settings.{Ports, ports_of}
+use Rattle.dcsctp_spec.specs.types.declared.association.Pair.{Pair}
+use Rattle.dcsctp_spec.specs.types.declared.word.Word.{Word}
+use Rattle.dcsctp_spec.specs.types.declared.ends.AbortReason.TheVariants.{CloseCalled}
+use Rattle.dcsctp_spec.specs.endpoint.Event.{Event, event_map}
+use Rattle.dcsctp_spec.specs.Packet.{Emission, emission_bytes}
+use Rattle.dcsctp_spec.specs.endpoint.Endpoint.{Endpoint, Core, closed, cookie_wait, cookie_echoed, open_in, OpenPhase, established, shutdown_pending, shutdown_sent, shutdown_received, shutdown_ack_sent}
+use Rattle.dcsctp_spec.specs.queues.SendQueue.{stream_of}
+use Rattle.dcsctp_spec.specs.types.queues.SendStreams.{Stream}
+use Rattle.dcsctp_spec.specs.endpoint.Turn.{act_input}
+use Rattle.dcsctp_spec.specs.types.Setting.{Setting}
+use Rattle.dcsctp_spec.specs.endpoint.SettingOutcomes.{endpoint_with}
+use Rattle.dcsctp_spec.specs.association.Acts.{Act, connect, shut_down, abort_with}
+use Rattle.dcsctp_spec.specs.endpoint.CallTurns.{Turned, Turns, HandleInput, CutInput, after_all, words_of, pairs_of, events_of}
 use Rattle.dcsctp_api.specs.declared.errors.SocketFault.{SocketFault}
 use Rattle.dcsctp_api.specs.declared.errors.SocketFault.TheVariants.{OutOfMemory, Failed}
 use Rattle.dcsctp_api.specs.declared.events.SocketEvent.{SocketEvent}

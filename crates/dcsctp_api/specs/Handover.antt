@@ -1,12 +1,12 @@
 -- What the calls that hand a socket over and restore it do.
 use Rattle.std.specs.Prelude.{◌≡◌, ◌≢◌, ◌⊎◌, true, false, Result, Ok, Err, List, []}
-use Rattle.dcsctp_machine.specs.Endpoint.{Endpoint, Core}
-use Rattle.dcsctp_machine.specs.Handover.{readiness_of}
-use Rattle.dcsctp_machine.specs.Snapshot.{Snapshot, snapshot, is_valid_snapshot}
-use Rattle.dcsctp_machine.specs.SocketSnapshot.{snapshot_of}
-use Rattle.dcsctp_machine.specs.Sockets.{inputs_of_handover, inputs_of_restore}
-use Rattle.dcsctp_machine.specs.CallTurns.{Turned, Turns}
-use Rattle.dcsctp_machine.specs.declared.snapshot.SocketHandoverState.{SocketHandoverState}
+use Rattle.dcsctp_spec.specs.endpoint.Endpoint.{Endpoint, Core}
+use Rattle.dcsctp_spec.specs.Handover.{readiness_of}
+use Rattle.dcsctp_spec.specs.types.Snapshot.{Snapshot, snapshot, is_valid_snapshot}
+use Rattle.dcsctp_spec.specs.SocketSnapshot.{snapshot_of}
+use Rattle.dcsctp_spec.specs.HandoverInputs.{inputs_of_handover, inputs_of_restore}
+use Rattle.dcsctp_spec.specs.endpoint.CallTurns.{Turned, Turns}
+use Rattle.dcsctp_spec.specs.types.declared.snapshot.SocketHandoverState.{SocketHandoverState}
 use Rattle.dcsctp_api.specs.declared.errors.HandoverError.{HandoverError}
 use Rattle.dcsctp_api.specs.declared.errors.HandoverError.TheVariants.{NotReady}
 use Rattle.dcsctp_api.specs.declared.errors.RestoreError.{RestoreError}

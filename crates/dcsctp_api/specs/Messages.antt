@@ -1,16 +1,16 @@
 -- What the calls that send and take messages do.
 use Rattle.std.specs.Prelude.{◌≡◌, ℕ, Option, Some, None, Result, Ok, Err, List, [], ◌∷◌, map, length}
-use Rattle.dcsctp_machine.specs.declared.message.Message.{Message}
-use Rattle.dcsctp_machine.specs.declared.message.SendOptions.{SendOptions}
-use Rattle.dcsctp_machine.specs.transfer.Messages.{MessageContent, message_content}
-use Rattle.dcsctp_machine.specs.transfer.Transfer.{Transfer}
-use Rattle.dcsctp_machine.specs.transfer.IncomingStreams.{StreamModel}
-use Rattle.dcsctp_machine.specs.Endpoint.{Endpoint}
-use Rattle.dcsctp_machine.specs.Outcome.{Outcome}
-use Rattle.dcsctp_machine.specs.Turn.{Input, user_sends}
-use Rattle.dcsctp_machine.specs.turns.DataOutcomes.{TakeTurn}
-use Rattle.dcsctp_machine.specs.turns.MessageOutcomes.{MessageRefusal, empty_payload, message_too_large, shutting_down, resource_exhaustion, message_refusal, sending_of, RefusedMessage, refused_from}
-use Rattle.dcsctp_machine.specs.CallTurns.{Turned, Turns}
+use Rattle.dcsctp_spec.specs.types.declared.message.Message.{Message}
+use Rattle.dcsctp_spec.specs.types.declared.message.SendOptions.{SendOptions}
+use Rattle.dcsctp_spec.specs.types.queues.Messages.{MessageContent, message_content}
+use Rattle.dcsctp_spec.specs.queues.Transfer.{Transfer}
+use Rattle.dcsctp_spec.specs.queues.IncomingStreams.{StreamModel}
+use Rattle.dcsctp_spec.specs.endpoint.Endpoint.{Endpoint}
+use Rattle.dcsctp_spec.specs.endpoint.Outcome.{Outcome}
+use Rattle.dcsctp_spec.specs.endpoint.Turn.{Input, user_sends}
+use Rattle.dcsctp_spec.specs.endpoint.DataOutcomes.{TakeTurn}
+use Rattle.dcsctp_spec.specs.endpoint.MessageOutcomes.{MessageRefusal, empty_payload, message_too_large, shutting_down, resource_exhaustion, message_refusal, sending_of, RefusedMessage, refused_from}
+use Rattle.dcsctp_spec.specs.endpoint.CallTurns.{Turned, Turns}
 use Rattle.dcsctp_api.specs.declared.errors.BatchSendError.{BatchSendError}
 use Rattle.dcsctp_api.specs.declared.errors.SendError.{SendError}
 use Rattle.dcsctp_api.specs.declared.errors.SendError.TheVariants.{EmptyPayload, MessageTooLarge, ResourceExhaustion, ShuttingDown}

@@ -1,8 +1,8 @@
 -- What `advance_time` does to a socket.
 use Rattle.std.specs.Prelude.{◌≡◌, ℕ, Result, Ok, Err, IsOk, List, []}
-use Rattle.dcsctp_machine.specs.Turn.{clock_at}
-use Rattle.dcsctp_machine.specs.TimeTurns.{AdvanceTurns}
-use Rattle.dcsctp_machine.specs.CallTurns.{Turned}
+use Rattle.dcsctp_spec.specs.endpoint.Turn.{clock_at}
+use Rattle.dcsctp_spec.specs.endpoint.TimeTurns.{AdvanceTurns}
+use Rattle.dcsctp_spec.specs.endpoint.CallTurns.{Turned}
 use Rattle.dcsctp_api.specs.declared.errors.SocketFault.{SocketFault}
 use Rattle.dcsctp_api.specs.declared.errors.SocketFault.TheVariants.{OutOfMemory, Failed}
 use Rattle.dcsctp_api.specs.Calls.{UserView, Follows, RanOut, StaysFailed}

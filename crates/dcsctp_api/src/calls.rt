@@ -4,18 +4,18 @@ ghost use Rattle.std.specs.Prelude.{◌≡◌, ◌≢◌, [], true, false, None,
 ghost use Rattle.dcsctp_api.specs.Calls.{UserView, PollsEvent, HandlesInput, Connects, Closes, ShutsDown, takes_shutdown, Sets, with_setting, stream_shown, is_closed, socket_state_of};
 ghost use Rattle.dcsctp_api.specs.Handover.{HandsOver, Restores};
 ghost use Rattle.dcsctp_api.specs.Messages.{Sends, SendsMany, TakesNext, ready_messages, incoming_streams};
-ghost use Rattle.dcsctp_machine.specs.transfer.Incoming.{AreInOrder};
-ghost use Rattle.dcsctp_machine.specs.transfer.SendQueue.{IsWellFormed};
+ghost use Rattle.dcsctp_spec.specs.queues.Incoming.{AreInOrder};
+ghost use Rattle.dcsctp_spec.specs.queues.SendQueue.{IsWellFormed};
 ghost use Rattle.dcsctp_api.specs.Metrics.{ShowsMetrics};
 ghost use Rattle.dcsctp_api.specs.Resets.{ResetsOwn};
-ghost use Rattle.dcsctp_machine.specs.Handover.{readiness_of};
-ghost use Rattle.dcsctp_machine.specs.Ids.{stream_numbers};
-ghost use Rattle.dcsctp_machine.specs.Snapshot.{snapshot, is_valid_snapshot};
-ghost use Rattle.dcsctp_machine.specs.Sockets.{inputs_of_restore};
-ghost use Rattle.dcsctp_machine.specs.transfer.Messages.{message_content};
-ghost use Rattle.dcsctp_machine.specs.turns.PreparedResets.{reset_refusal};
-ghost use Rattle.dcsctp_machine.specs.turns.SettingOutcomes.{stream_priority, stream_low_threshold, longest_message};
-ghost use Rattle.dcsctp_machine.specs.TimeTurns.{Waits, next_moment};
+ghost use Rattle.dcsctp_spec.specs.Handover.{readiness_of};
+ghost use Rattle.dcsctp_spec.specs.types.Ids.{stream_numbers};
+ghost use Rattle.dcsctp_spec.specs.types.Snapshot.{snapshot, is_valid_snapshot};
+ghost use Rattle.dcsctp_spec.specs.HandoverInputs.{inputs_of_restore};
+ghost use Rattle.dcsctp_spec.specs.types.queues.Messages.{message_content};
+ghost use Rattle.dcsctp_spec.specs.endpoint.PreparedResets.{reset_refusal};
+ghost use Rattle.dcsctp_spec.specs.types.Setting.{stream_priority, stream_low_threshold, longest_message};
+ghost use Rattle.dcsctp_spec.specs.endpoint.TimeTurns.{Waits, next_moment};
 ghost use Rattle.dcsctp_api.specs.Time.{Advances, OnlyMovesClock};
 
 use crate::errors::{
@@ -24,7 +24,7 @@ use crate::errors::{
 use crate::events::SocketEvent;
 use crate::metrics::Metrics;
 use crate::state::SocketState;
-use dcsctp_machine::{
+use dcsctp_spec::types::{
     HandoverReadiness, Message, Options, SendOptions, SocketHandoverState, SocketTime, StreamId,
 };
 

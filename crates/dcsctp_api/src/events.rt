@@ -1,6 +1,6 @@
 //! The events of a socket, and the queue in which they wait for its user.
 
-use dcsctp_machine::{ErrorKind, LifecycleId, StreamId};
+use dcsctp_spec::types::{ErrorKind, LifecycleId, StreamId};
 use std::alloc::{AllocError, Global};
 use std::collections::VecDeque;
 use std::marker::Model;

@@ -5,13 +5,13 @@ ghost use Rattle.std.specs.Prelude.{◌≡◌, ◌↔◌, ℕ, IsTrue, false};
 ghost use Rattle.std.specs.Cmp.{IsTotalOrder};
 ghost use Rattle.std.specs.Ordering.{nat_cmp};
 ghost use Rattle.dcsctp_api.specs.Cookie.{StateCookieReadsBack};
-ghost use Rattle.dcsctp_machine.specs.Ids.{lifecycle_number};
-ghost use Rattle.dcsctp_machine.specs.declared.ids.LifecycleId.{LifecycleId};
-ghost use Rattle.dcsctp_machine.specs.declared.ids.StreamId.{StreamId};
-ghost use Rattle.dcsctp_machine.specs.declared.ids.PpId.{PpId};
-ghost use Rattle.dcsctp_machine.specs.declared.message.SendOptions.{SendOptions};
+ghost use Rattle.dcsctp_spec.specs.types.Ids.{lifecycle_number};
+ghost use Rattle.dcsctp_spec.specs.types.declared.ids.LifecycleId.{LifecycleId};
+ghost use Rattle.dcsctp_spec.specs.types.declared.ids.StreamId.{StreamId};
+ghost use Rattle.dcsctp_spec.specs.types.declared.ids.PpId.{PpId};
+ghost use Rattle.dcsctp_spec.specs.types.declared.message.SendOptions.{SendOptions};
 
-use dcsctp_machine::{LifecycleId, PpId, SendOptions, SocketTime, StreamId, cookie_reads_back};
+use dcsctp_spec::types::{LifecycleId, PpId, SendOptions, SocketTime, StreamId};
 use std::hash::Hash;
 
 /// Moments are compared by their nanoseconds: `==` holds only of equal ones. `cmp`, `<` and the rest order
@@ -79,6 +79,4 @@ pub fn send_options_default()
 /// 5.1.3), if no tag is 0.
 pub fn state_cookie_reads_back()
     ensures { StateCookieReadsBack }
-{
-    cookie_reads_back();
-}
+{}

@@ -1,6 +1,6 @@
 //! What a socket shows of its work.
 
-use dcsctp_machine::SctpImplementation;
+use dcsctp_spec::types::SctpImplementation;
 use std::time::Duration;
 
 /// What was counted over the socket's life, and how the present association is. Counts and sums stop at the

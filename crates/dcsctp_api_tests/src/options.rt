@@ -1,11 +1,11 @@
 //! Options and what is negotiated from them.
 
 use crate::checks::{same, shows};
+use dcsctp_api::wire::Parameter;
 use dcsctp_api::{
     Capabilities, Options, ZERO_CHECKSUM_ALTERNATE_ERROR_DETECTION_METHOD_LOWER_LAYER_DTLS,
     ZERO_CHECKSUM_ALTERNATE_ERROR_DETECTION_METHOD_NONE,
 };
-use dcsctp_wire::Parameter;
 
 #[test]
 fn default_numbers(rt: HostRuntime) {

@@ -1,7 +1,7 @@
 //! Timers and the retransmission timeout.
 
 use crate::checks::same;
-use dcsctp_machine::{Options, SocketTime};
+use dcsctp_api::types::{Options, SocketTime};
 use dcsctp_send_timer::BackoffAlgorithm::{self, Exponential, Fixed};
 use dcsctp_send_timer::{RetransmissionTimeout, Timer};
 use dcsctp_testing::{Row, Takes, run_steps};

@@ -1,6 +1,6 @@
 //! The chunks of data on a link, one way.
 
-use dcsctp_wire::{Chunk, PacketError, SctpPacket, WireOptions};
+use dcsctp_types::wire::{Chunk, PacketError, SctpPacket, WireOptions};
 use std::alloc::{AllocError, Global};
 
 // A reader that trusts the link.

@@ -1,7 +1,7 @@
 //! Two sockets and the link between them: packets wait in it in the order in which they were sent, each for
 //! as long as the link takes.
 
-ghost use Rattle.dcsctp_machine.specs.Settings.{IsValid};
+ghost use Rattle.dcsctp_types.specs.Settings.{IsValid};
 
 use crate::chunks::Chunks;
 use crate::failure::Failure;

@@ -4,7 +4,7 @@
 use crate::failure::Failure;
 use crate::pair::Pair;
 use dcsctp_socket::{DcSctpSocket, SocketEvent};
-use dcsctp_wire::{
+use dcsctp_types::wire::{
     Chunk, DataChunk, DataFlags, IDataChunk, OutgoingSsnResetRequestParameter, Parameter,
     ReConfigChunk,
 };

@@ -1,8 +1,8 @@
 -- What an export does: a call on the session of a handle, whose status is returned as a number.
 use Rattle.std.specs.Prelude.{◌≡◌, ℕ, ℤ, pos, ◌⊎◌, Bool, true, false, List, Option, Some, None, Ok, Err}
-use Rattle.dcsctp_machine.specs.Handover.{readiness_of}
-use Rattle.dcsctp_machine.specs.transfer.Incoming.{AreInOrder}
-use Rattle.dcsctp_machine.specs.transfer.SendQueue.{IsWellFormed}
+use Rattle.dcsctp_api.specs.spec.Handover.{readiness_of}
+use Rattle.dcsctp_api.specs.spec.queues.Incoming.{AreInOrder}
+use Rattle.dcsctp_api.specs.spec.queues.SendQueue.{IsWellFormed}
 use Rattle.dcsctp_api.specs.Calls.{socket_state_of, stream_shown}
 use Rattle.dcsctp_api.specs.Messages.{incoming_streams}
 use Rattle.dcsctp_session.specs.declared.session.Session.{Session}

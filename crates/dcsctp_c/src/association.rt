@@ -1,7 +1,7 @@
 //! Inputs and commands.
 
 ghost use Rattle.std.specs.Prelude.{◌≡◌, map};
-ghost use Rattle.dcsctp_machine.specs.turns.SettingOutcomes.{stream_priority, stream_low_threshold};
+ghost use Rattle.dcsctp_api.specs.types.Setting.{stream_priority, stream_low_threshold};
 ghost use Rattle.dcsctp_session.specs.Calls.{Connected, ShutDown, Closed, InputHandled, Advanced, SettingMade, SizeLimited, MessageSent, StreamsReset};
 ghost use Rattle.dcsctp_c.specs.Exports.{Exported};
 

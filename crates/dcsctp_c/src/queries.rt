@@ -1,7 +1,7 @@
 //! Queries.
 
 ghost use Rattle.std.specs.Prelude.{◌≡◌, min, length};
-ghost use Rattle.dcsctp_machine.specs.TimeTurns.{next_moment};
+ghost use Rattle.dcsctp_api.specs.spec.endpoint.TimeTurns.{next_moment};
 ghost use Rattle.dcsctp_api.specs.Calls.{stream_shown};
 ghost use Rattle.dcsctp_api.specs.Messages.{ready_messages};
 ghost use Rattle.dcsctp_session.specs.Options.{ShowsOptions, never};

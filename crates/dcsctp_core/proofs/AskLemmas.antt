@@ -1,19 +1,19 @@
 -- What each step of a flush does, by whether an allocation failed.
-use Rattle.dcsctp_machine.specs.transfer.SendQueue.{has_data, SendQueueState}
+use Rattle.dcsctp_transfer.specs.spec.queues.SendQueue.{has_data, SendQueueState}
 use Rattle.dcsctp_core.proofs.FirstLemmas.{Forwarded, BeforeData, fills_first, forwarded_where, transfer_is, before_data, begun_in_view, fills_behind, handed_of, until_of, same_view}
 use Rattle.dcsctp_core.specs.Flushing.{Fills, AcknowledgesBelow, AskCut, AsksWith, BeginsAt, FillsWith, ForwardsAt, HasNoData, KeepsSize, SendsUnlessEmpty, TellsData, TellsForward, TriesData, can_send_below, packet_for}
 use Rattle.dcsctp_transfer.specs.Filling.{Acknowledges, is_sack_wanted}
 use Rattle.std.proofs.Common.{◌≡◌, Bool, Err, IsOk, List, None, Ok, Option, Result, Some, [], ap, append_assoc, false, refl, subst, sym, true, ℕ, ◌++◌, ◌||◌, ◌∙◌}
-use Rattle.dcsctp_machine.specs.turns.FlushOutcomes.{Ask, FillsWhere, filled, first_ask, later_ask, may_abandon, may_forward, room_in, stage_of}
-use Rattle.dcsctp_wire_build.specs.Building.{Building, bytes_remaining}
-use Rattle.dcsctp_machine.specs.Packet.{Emission}
-use Rattle.dcsctp_machine.specs.Endpoint.{Endpoint}
-use Rattle.dcsctp_machine.specs.Event.{Event}
-use Rattle.dcsctp_machine.proofs.FilledAnswers.{GivesUntilFull, answer_filling}
-use Rattle.dcsctp_machine.specs.transfer.Abandoning.{GivesUpAll}
-use Rattle.dcsctp_machine.specs.transfer.Retransmission.{RetransmissionState}
+use Rattle.dcsctp_transfer.specs.spec.endpoint.FlushOutcomes.{Ask, FillsWhere, filled, first_ask, later_ask, may_abandon, may_forward, room_in, stage_of}
+use Rattle.dcsctp_transfer.specs.wire_build.Building.{Building, bytes_remaining}
+use Rattle.dcsctp_transfer.specs.spec.Packet.{Emission}
+use Rattle.dcsctp_transfer.specs.spec.endpoint.Endpoint.{Endpoint}
+use Rattle.dcsctp_transfer.specs.spec.endpoint.Event.{Event}
+use Rattle.dcsctp_transfer.proofs.spec_lemmas.FilledAnswers.{GivesUntilFull, answer_filling}
+use Rattle.dcsctp_transfer.specs.spec.queues.Abandoning.{GivesUpAll}
+use Rattle.dcsctp_transfer.specs.spec.queues.Retransmission.{RetransmissionState}
 use Rattle.rand_core.specs.Stream.{Stream}
-use Rattle.dcsctp_machine.specs.transfer.Transfer.{Transfer, is_idle, may_give}
+use Rattle.dcsctp_transfer.specs.spec.queues.Transfer.{Transfer, is_idle, may_give}
 use Rattle.dcsctp_core.specs.declared.context.Context.{Context}
 use Rattle.dcsctp_core.specs.declared.state.State.{State}
 use Rattle.dcsctp_core.specs.View.{View, endpoint_of, transfer_of, view_of}

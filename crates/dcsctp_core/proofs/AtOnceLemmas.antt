@@ -2,19 +2,19 @@
 use Rattle.std.proofs.Common.{◌≡◌, ◌==◌, ◌++◌, not, ℕ, Bool, true, false, Option, None, Some, List, [], ◌∷◌, map, refl, sym, ap, subst, ◌∙◌}
 use Rattle.std.specs.List.{flat_map}
 use Rattle.rand_core.specs.Stream.{Stream}
-use Rattle.dcsctp_wire_build.specs.Building.{Building}
-use Rattle.dcsctp_wire.specs.Spelling.{chunk_bytes, header_bytes, packet_bytes_of}
-use Rattle.dcsctp_machine.specs.declared.association.Held.{Held}
-use Rattle.dcsctp_machine.specs.Event.{Event}
-use Rattle.dcsctp_machine.specs.Packet.{Plain, unworked, Content, Emission}
-use Rattle.dcsctp_machine.specs.transfer.Transfer.{Transfer}
-use Rattle.dcsctp_machine.specs.transfer.Retransmission.{has_fast_retransmit}
-use Rattle.dcsctp_machine.specs.Endpoint.{Endpoint, held_in}
-use Rattle.dcsctp_machine.specs.Outcome.{Outcome, still, sends}
-use Rattle.dcsctp_machine.specs.control.Choices.{plain_contents}
-use Rattle.dcsctp_machine.specs.turns.FlushOutcomes.{Answer, draft_to, goes_out, is_none}
-use Rattle.dcsctp_machine.specs.transfer.AtOnce.{SendsAtOnce}
-use Rattle.dcsctp_machine.specs.turns.DataOutcomes.{with_transfer, FastRetransmits, SendsLost}
+use Rattle.dcsctp_transfer.specs.wire_build.Building.{Building}
+use Rattle.dcsctp_transfer.specs.wire.Spelling.{chunk_bytes, header_bytes, packet_bytes_of}
+use Rattle.dcsctp_transfer.specs.types.declared.association.Held.{Held}
+use Rattle.dcsctp_transfer.specs.spec.endpoint.Event.{Event}
+use Rattle.dcsctp_transfer.specs.spec.Packet.{Plain, unworked, Content, Emission}
+use Rattle.dcsctp_transfer.specs.spec.queues.Transfer.{Transfer}
+use Rattle.dcsctp_transfer.specs.spec.queues.Retransmission.{has_fast_retransmit}
+use Rattle.dcsctp_transfer.specs.spec.endpoint.Endpoint.{Endpoint, held_in}
+use Rattle.dcsctp_transfer.specs.spec.endpoint.Outcome.{Outcome, still, sends}
+use Rattle.dcsctp_transfer.specs.spec.association.Choices.{plain_contents}
+use Rattle.dcsctp_transfer.specs.spec.endpoint.FlushOutcomes.{Answer, draft_to, goes_out, is_none}
+use Rattle.dcsctp_transfer.specs.spec.queues.AtOnce.{SendsAtOnce}
+use Rattle.dcsctp_transfer.specs.spec.endpoint.DataOutcomes.{with_transfer, FastRetransmits, SendsLost}
 use Rattle.dcsctp_transfer.specs.Sacks.{FillsAtOnce}
 use Rattle.dcsctp_core.specs.declared.context.Context.{Context}
 use Rattle.dcsctp_core.specs.declared.state.State.{State}
@@ -30,7 +30,7 @@ use Rattle.dcsctp_core.proofs.FlushLemmas.{fits_by}
 use Rattle.dcsctp_core.proofs.LoopLemmas.{held_by_tcb, none_by_tcb, packet_to}
 use Rattle.dcsctp_core.proofs.Moving.{moves_still}
 use Rattle.dcsctp_core.proofs.SentLemmas.{body_of_chunks, none_as_bytes, sent_moves, built_bytes}
-use Rattle.dcsctp_machine.proofs.LostOutcomes.{some_lost}
+use Rattle.dcsctp_transfer.proofs.spec_lemmas.LostOutcomes.{some_lost}
 
 -- the packet that was filled, if it holds a chunk
 goes : {R : Type 0} (stream : R → Stream) (v : View R) (after : Transfer) (with_checksum : Bool) (tag : ℕ) (contents : List Content) (packet : Building) (new : View R)

@@ -2,25 +2,25 @@
 use Rattle.std.proofs.Common.{◌≡◌, ℕ, Bool, true, false, Option, None, Some, Result, List, [], ◌++◌, map, refl, sym, ap, subst, ◌∙◌, ◌∷◌, IfSome, IfNone}
 use Rattle.std.proofs.lemmas.List.{append-nil}
 use Rattle.rand_core.specs.Stream.{Stream}
-use Rattle.dcsctp_machine.specs.Settings.{Ports, ports_of}
-use Rattle.dcsctp_api.specs.Calls.{user_event}
-use Rattle.dcsctp_machine.specs.transfer.Transfer.{Transfer}
-use Rattle.dcsctp_machine.specs.transfer.Reassembly.{with_ready}
-use Rattle.dcsctp_machine.specs.transfer.Messages.{message_content}
-use Rattle.dcsctp_machine.specs.Endpoint.{Endpoint}
-use Rattle.dcsctp_machine.specs.Outcome.{Outcome, still}
-use Rattle.dcsctp_machine.specs.TimeTurns.{own_timer, has_come, loss_deadline}
-use Rattle.dcsctp_machine.specs.turns.DataOutcomes.{with_transfer, LossTurn}
-use Rattle.dcsctp_machine.specs.turns.OwnTimers.{retransmission}
-use Rattle.dcsctp_machine.specs.turns.HeartbeatOutcomes.{error_counted}
-use Rattle.dcsctp_wire.specs.Content.{SackContent}
-use Rattle.dcsctp_machine.specs.declared.message.Message.{Message}
+use Rattle.dcsctp_transfer.specs.types.Settings.{Ports, ports_of}
+use Rattle.dcsctp_transfer.specs.api.Calls.{user_event}
+use Rattle.dcsctp_transfer.specs.spec.queues.Transfer.{Transfer}
+use Rattle.dcsctp_transfer.specs.spec.queues.Reassembly.{with_ready}
+use Rattle.dcsctp_transfer.specs.types.queues.Messages.{message_content}
+use Rattle.dcsctp_transfer.specs.spec.endpoint.Endpoint.{Endpoint}
+use Rattle.dcsctp_transfer.specs.spec.endpoint.Outcome.{Outcome, still}
+use Rattle.dcsctp_transfer.specs.spec.endpoint.TimeTurns.{own_timer, has_come, loss_deadline}
+use Rattle.dcsctp_transfer.specs.spec.endpoint.DataOutcomes.{with_transfer, LossTurn}
+use Rattle.dcsctp_transfer.specs.spec.endpoint.OwnTimers.{retransmission}
+use Rattle.dcsctp_transfer.specs.spec.endpoint.HeartbeatOutcomes.{error_counted}
+use Rattle.dcsctp_transfer.specs.wire.Content.{SackContent}
+use Rattle.dcsctp_transfer.specs.types.declared.message.Message.{Message}
 use Rattle.dcsctp_core.specs.Errors.{ErrorCount}
 use Rattle.dcsctp_core.specs.declared.context.Context.{Context}
 use Rattle.dcsctp_core.specs.declared.state.State.{State}
 use Rattle.dcsctp_core.specs.declared.transmission_control_block.TransmissionControlBlock.{TransmissionControlBlock}
 use Rattle.std.specs.declared.alloc.AllocError.{AllocError}
-use Rattle.dcsctp_machine.specs.Event.{Event}
+use Rattle.dcsctp_transfer.specs.spec.endpoint.Event.{Event}
 use Rattle.dcsctp_transfer.specs.Sacks.{HandlesSack}
 use Rattle.dcsctp_transfer.specs.declared.sacks.HandledSack.{HandledSack}
 use Rattle.dcsctp_core.specs.View.{View, tcb_of, transfer_of, endpoint_of, view_of, Moves}

@@ -2,16 +2,16 @@
 use Rattle.std.proofs.Common.{◌≡◌, ℕ, zero, suc, List, [], ◌∷◌, ◌++◌, map, take, refl, sym, ap, subst, ◌∙◌, append_assoc}
 use Rattle.std.proofs.lemmas.List.{append-nil, map-append}
 use Rattle.rand_core.specs.Stream.{Stream}
-use Rattle.dcsctp_machine.specs.Settings.{Ports, ports_of}
-use Rattle.dcsctp_machine.specs.declared.association.Pair.{Pair}
-use Rattle.dcsctp_machine.specs.declared.word.Word.{Word}
-use Rattle.dcsctp_machine.specs.Event.{Event}
-use Rattle.dcsctp_machine.specs.Packet.{Emission}
-use Rattle.dcsctp_machine.specs.Outcome.{Outcome, noting}
-use Rattle.dcsctp_machine.specs.control.Effect.{Effect, drawn_in}
-use Rattle.dcsctp_api.specs.Calls.{user_event}
-use Rattle.dcsctp_api.specs.Events.{event_content}
-use Rattle.dcsctp_api.specs.declared.events.SocketEvent.{SocketEvent}
+use Rattle.dcsctp_transfer.specs.types.Settings.{Ports, ports_of}
+use Rattle.dcsctp_transfer.specs.types.declared.association.Pair.{Pair}
+use Rattle.dcsctp_transfer.specs.types.declared.word.Word.{Word}
+use Rattle.dcsctp_transfer.specs.spec.endpoint.Event.{Event}
+use Rattle.dcsctp_transfer.specs.spec.Packet.{Emission}
+use Rattle.dcsctp_transfer.specs.spec.endpoint.Outcome.{Outcome, noting}
+use Rattle.dcsctp_transfer.specs.spec.association.Effect.{Effect, drawn_in}
+use Rattle.dcsctp_transfer.specs.api.Calls.{user_event}
+use Rattle.dcsctp_transfer.specs.api.Events.{event_content}
+use Rattle.dcsctp_transfer.specs.api.declared.events.SocketEvent.{SocketEvent}
 use Rattle.dcsctp_core.specs.View.{View, Drawn, Moves, CutTurn}
 use Rattle.dcsctp_core.proofs.Moving.{Drawn-append}
 

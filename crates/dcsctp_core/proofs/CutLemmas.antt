@@ -1,22 +1,22 @@
 -- What an ask comes to where an allocation failed.
 use Rattle.dcsctp_core.proofs.FillLemmas.{may_not, idle_parts, told_user}
-use Rattle.dcsctp_machine.specs.transfer.Filling.{none as no_step, more as one_more_step, Stage, Steps}
-use Rattle.dcsctp_machine.specs.transfer.NextItem.{is_due}
-use Rattle.dcsctp_machine.proofs.FilledAnswers.{Completes}
+use Rattle.dcsctp_transfer.specs.spec.queues.Filling.{none as no_step, more as one_more_step, Stage, Steps}
+use Rattle.dcsctp_transfer.specs.spec.queues.NextItem.{is_due}
+use Rattle.dcsctp_transfer.proofs.spec_lemmas.FilledAnswers.{Completes}
 use Rattle.std.proofs.lemmas.Bool.Decides.{nat_tests}
 use Rattle.std.proofs.Common.{arith, ◌≡◌, Bool, List, None, Option, Some, [], ap, append_assoc, false, length, map, nat_lt, refl, subst, sym, true, ℕ, ◌&&◌, ◌++◌, ◌∙◌, ◌∷◌}
-use Rattle.dcsctp_machine.specs.turns.FlushOutcomes.{Ask, GivesUpWhere, Told, answer_contents, filled, first_ask, goes_out, may_abandon, may_forward, stage_of, told_content, told_event}
+use Rattle.dcsctp_transfer.specs.spec.endpoint.FlushOutcomes.{Ask, GivesUpWhere, Told, answer_contents, filled, first_ask, goes_out, may_abandon, may_forward, stage_of, told_content, told_event}
 use Rattle.dcsctp_core.specs.Flushing.{AskCut, is_in_time}
-use Rattle.dcsctp_machine.specs.Packet.{Content, Emission, Plain}
-use Rattle.dcsctp_machine.specs.Endpoint.{Endpoint}
-use Rattle.dcsctp_machine.specs.Event.{Event}
-use Rattle.dcsctp_machine.specs.transfer.Abandoning.{GivesUpAll, GivesUpFirst, IsDueAt}
-use Rattle.dcsctp_machine.specs.transfer.Items.{Item}
-use Rattle.dcsctp_machine.specs.transfer.Transfer.{Transfer, is_idle}
+use Rattle.dcsctp_transfer.specs.spec.Packet.{Content, Emission, Plain}
+use Rattle.dcsctp_transfer.specs.spec.endpoint.Endpoint.{Endpoint}
+use Rattle.dcsctp_transfer.specs.spec.endpoint.Event.{Event}
+use Rattle.dcsctp_transfer.specs.spec.queues.Abandoning.{GivesUpAll, GivesUpFirst, IsDueAt}
+use Rattle.dcsctp_transfer.specs.spec.queues.Items.{Item}
+use Rattle.dcsctp_transfer.specs.spec.queues.Transfer.{Transfer, is_idle}
 use Rattle.dcsctp_core.specs.View.{View}
-use Rattle.dcsctp_machine.proofs.AnswerLemmas.{answer_giving_up, some_answer}
+use Rattle.dcsctp_transfer.proofs.spec_lemmas.AnswerLemmas.{answer_giving_up, some_answer}
 use Rattle.std.proofs.lemmas.List.{append-nil, map-append}
-use Rattle.dcsctp_machine.specs.Settings.{ports_of}
+use Rattle.dcsctp_transfer.specs.types.Settings.{ports_of}
 use Rattle.std.specs.List.{slice_get}
 
 -- ---- where an allocation failed

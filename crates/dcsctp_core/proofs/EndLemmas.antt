@@ -2,16 +2,16 @@
 use Rattle.std.proofs.Common.{◌≡◌, Bool, true, false, cond, List, [], ◌∷◌, ◌++◌, refl, sym, ap, ◌∙◌}
 use Rattle.std.proofs.lemmas.List.{append-nil}
 use Rattle.rand_core.specs.Stream.{Stream}
-use Rattle.dcsctp_machine.specs.control.Effect.{Effect, ends, drawn_in}
-use Rattle.dcsctp_machine.specs.declared.word.Word.{Word}
-use Rattle.dcsctp_machine.specs.Settings.{ports_of}
-use Rattle.dcsctp_machine.specs.Event.{Event}
-use Rattle.dcsctp_machine.specs.Packet.{Emission}
-use Rattle.dcsctp_machine.specs.Endpoint.{Endpoint, Core, closed, cookie_wait, cookie_echoed, open_in}
-use Rattle.dcsctp_machine.specs.Outcome.{Outcome, fits, quiet, sends, emits}
-use Rattle.dcsctp_machine.specs.Following.{dropped_rest}
-use Rattle.dcsctp_machine.specs.turns.EndOutcomes.{closed_after, ended_outcome, close_outcome}
-use Rattle.dcsctp_api.specs.Calls.{is_closed}
+use Rattle.dcsctp_transfer.specs.spec.association.Effect.{Effect, ends, drawn_in}
+use Rattle.dcsctp_transfer.specs.types.declared.word.Word.{Word}
+use Rattle.dcsctp_transfer.specs.types.Settings.{ports_of}
+use Rattle.dcsctp_transfer.specs.spec.endpoint.Event.{Event}
+use Rattle.dcsctp_transfer.specs.spec.Packet.{Emission}
+use Rattle.dcsctp_transfer.specs.spec.endpoint.Endpoint.{Endpoint, Core, closed, cookie_wait, cookie_echoed, open_in}
+use Rattle.dcsctp_transfer.specs.spec.endpoint.Outcome.{Outcome, fits, quiet, sends, emits}
+use Rattle.dcsctp_transfer.specs.spec.endpoint.Following.{dropped_rest}
+use Rattle.dcsctp_transfer.specs.spec.endpoint.EndOutcomes.{closed_after, ended_outcome, close_outcome}
+use Rattle.dcsctp_transfer.specs.api.Calls.{is_closed}
 use Rattle.dcsctp_core.specs.View.{View, Moves}
 use Rattle.dcsctp_core.proofs.Composing.{behind, moves_behind, moves_as}
 

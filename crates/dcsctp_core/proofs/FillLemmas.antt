@@ -1,38 +1,38 @@
 -- How a packet of a flush is filled, as an answer of the transfer layer.
-use Rattle.dcsctp_machine.specs.transfer.Chunks.{AreChunks}
+use Rattle.dcsctp_transfer.specs.spec.queues.Chunks.{AreChunks}
 use Rattle.std.proofs.Common.{◌≡◌, ◌==◌, ◌&&◌, ◌||◌, not, nat_le, ℕ, zero, suc, Bool, true, false, Option, None, Some, List, [], ◌∷◌, ◌++◌, length, map, take, refl, sym, ap, subst, ◌∙◌, append_assoc, arith, nat_lt}
 use Rattle.std.specs.Prelude.{if◌then◌else◌}
 use Rattle.std.specs.List.{AllByRecursion, flat_map}
 use Rattle.std.proofs.lemmas.List.{append-nil}
 use Rattle.std.proofs.lemmas.Bool.Decides.{nat_tests}
-use Rattle.dcsctp_wire.specs.Content.{ChunkContent}
-use Rattle.dcsctp_wire.specs.ReadsBack.{FitsChunk}
-use Rattle.dcsctp_wire.specs.Spelling.{chunk_bytes}
-use Rattle.dcsctp_wire_build.specs.Building.{Building, bytes_remaining}
-use Rattle.dcsctp_machine.specs.transfer.OwnResets.{ready_streams}
-use Rattle.dcsctp_machine.specs.declared.options.Options.{Options}
-use Rattle.dcsctp_machine.specs.Settings.{Ports, ports_of}
-use Rattle.dcsctp_machine.specs.Event.{Event}
-use Rattle.dcsctp_machine.specs.Packet.{Plain, plain, unworked, Content, Emission}
-use Rattle.dcsctp_machine.specs.transfer.Tracker.{TrackerState, is_acknowledgement_due, owes_acknowledgement}
-use Rattle.dcsctp_machine.specs.transfer.SendQueue.{SendQueueState, has_data}
-use Rattle.dcsctp_machine.specs.transfer.Transfer.{Transfer, is_none_ready, is_idle, may_give}
-use Rattle.dcsctp_machine.specs.transfer.Retransmission.{can_send, outstanding_count, RetransmissionState}
-use Rattle.dcsctp_machine.specs.declared.association.Held.{Held}
-use Rattle.dcsctp_machine.specs.Endpoint.{Endpoint, Timers, held_in}
-use Rattle.dcsctp_machine.specs.control.Choices.{plain_contents}
-use Rattle.dcsctp_machine.specs.turns.BegunResets.{BegunReset, stream_field, streams_within, last_assigned_tsn, begun_where, begun_in, request_contents, queue_requesting, after_begun, retransmission_begun}
-use Rattle.dcsctp_machine.specs.turns.FlushOutcomes.{Told, amount_is_low, total_amount_is_low, message_is_sent, message_may_have_expired, message_has_expired, message_ends, told_event, Answer, answer_contents, filled, Ask, first_ask, later_ask, room_in, where_fits, begun_at, wants_sack, FitsPlain, Gives, GivesWhere, AnsweredBelow, timers_with, nothing_waits, told_content, FillsWhere, GivesUpWhere, forward_where, may_abandon, may_forward, stage_of}
-use Rattle.dcsctp_api.specs.Calls.{user_event}
+use Rattle.dcsctp_transfer.specs.wire.Content.{ChunkContent}
+use Rattle.dcsctp_transfer.specs.wire.ReadsBack.{FitsChunk}
+use Rattle.dcsctp_transfer.specs.wire.Spelling.{chunk_bytes}
+use Rattle.dcsctp_transfer.specs.wire_build.Building.{Building, bytes_remaining}
+use Rattle.dcsctp_transfer.specs.spec.queues.OwnResets.{ready_streams}
+use Rattle.dcsctp_transfer.specs.types.declared.options.Options.{Options}
+use Rattle.dcsctp_transfer.specs.types.Settings.{Ports, ports_of}
+use Rattle.dcsctp_transfer.specs.spec.endpoint.Event.{Event}
+use Rattle.dcsctp_transfer.specs.spec.Packet.{Plain, plain, unworked, Content, Emission}
+use Rattle.dcsctp_transfer.specs.spec.queues.Tracker.{TrackerState, is_acknowledgement_due, owes_acknowledgement}
+use Rattle.dcsctp_transfer.specs.spec.queues.SendQueue.{SendQueueState, has_data}
+use Rattle.dcsctp_transfer.specs.spec.queues.Transfer.{Transfer, is_none_ready, is_idle, may_give}
+use Rattle.dcsctp_transfer.specs.spec.queues.Retransmission.{can_send, outstanding_count, RetransmissionState}
+use Rattle.dcsctp_transfer.specs.types.declared.association.Held.{Held}
+use Rattle.dcsctp_transfer.specs.spec.endpoint.Endpoint.{Endpoint, Timers, held_in}
+use Rattle.dcsctp_transfer.specs.spec.association.Choices.{plain_contents}
+use Rattle.dcsctp_transfer.specs.spec.endpoint.BegunResets.{BegunReset, stream_field, streams_within, last_assigned_tsn, begun_where, begun_in, request_contents, queue_requesting, after_begun, retransmission_begun}
+use Rattle.dcsctp_transfer.specs.spec.endpoint.FlushOutcomes.{Told, amount_is_low, total_amount_is_low, message_is_sent, message_may_have_expired, message_has_expired, message_ends, told_event, Answer, answer_contents, filled, Ask, first_ask, later_ask, room_in, where_fits, begun_at, wants_sack, FitsPlain, Gives, GivesWhere, AnsweredBelow, timers_with, nothing_waits, told_content, FillsWhere, GivesUpWhere, forward_where, may_abandon, may_forward, stage_of}
+use Rattle.dcsctp_transfer.specs.api.Calls.{user_event}
 use Rattle.dcsctp_transfer.specs.Filling.{has_chunks, FillsPacket, with_chunk}
 use Rattle.dcsctp_core.specs.View.{View}
 use Rattle.dcsctp_core.specs.Flushing.{packet_for, timers_where, Fills, FillsData}
 use Rattle.dcsctp_core.proofs.SentLemmas.{body_of, body_append, body_of_chunks, room_is}
-use Rattle.dcsctp_machine.proofs.FilledAnswers.{GivesUntilFull}
-use Rattle.dcsctp_machine.specs.transfer.Outstanding.{OutstandingState}
-use Rattle.dcsctp_machine.specs.transfer.Filling.{Stage}
-use Rattle.dcsctp_machine.proofs.ToldLemmas.{behind_events, told_behind}
-use Rattle.dcsctp_machine.specs.turns.FlushOutcomes as asks
+use Rattle.dcsctp_transfer.proofs.spec_lemmas.FilledAnswers.{GivesUntilFull}
+use Rattle.dcsctp_transfer.specs.spec.queues.Outstanding.{OutstandingState}
+use Rattle.dcsctp_transfer.specs.spec.queues.Filling.{Stage}
+use Rattle.dcsctp_transfer.proofs.spec_lemmas.ToldLemmas.{behind_events, told_behind}
+use Rattle.dcsctp_transfer.specs.spec.endpoint.FlushOutcomes as asks
 
 -- ---- what the user is told
 

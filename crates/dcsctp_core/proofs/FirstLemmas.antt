@@ -2,21 +2,21 @@
 use Rattle.std.proofs.Common.{◌≡◌, ◌||◌, ℕ, Bool, true, false, Option, None, Some, List, [], ◌∷◌, ◌++◌, map, append_assoc, refl, sym, ap, subst, ◌∙◌, ◌&&◌}
 use Rattle.std.specs.List.{AllByRecursion, flat_map}
 use Rattle.std.proofs.lemmas.List.{append-nil, map-append}
-use Rattle.dcsctp_wire_build.specs.Building.{Building, bytes_remaining}
-use Rattle.dcsctp_machine.specs.Event.{Event}
-use Rattle.dcsctp_machine.specs.Packet.{Plain, plain, Content, chunk_out, Emission, plain_out}
-use Rattle.dcsctp_machine.specs.transfer.Reassembly.{remaining_bytes}
-use Rattle.dcsctp_machine.specs.transfer.Tracker.{sack_of, TrackerState, sacked}
-use Rattle.dcsctp_machine.specs.transfer.SendQueue.{SendQueueState, has_data}
-use Rattle.dcsctp_machine.specs.transfer.Transfer.{Transfer, may_give}
-use Rattle.dcsctp_machine.specs.transfer.Retransmission.{RetransmissionState}
-use Rattle.dcsctp_machine.specs.Endpoint.{Endpoint, Core, OutstandingRequest, held_in}
-use Rattle.dcsctp_machine.specs.Timers.{RunningTimer, started}
-use Rattle.dcsctp_machine.specs.control.Choices.{plain_contents}
-use Rattle.dcsctp_machine.specs.turns.BegunResets.{BegunReset, streams_within, last_assigned_tsn, begun_in, request_contents, reconfiguration_settings, transfer_begun, rto_of, core_asking, after_begun, queue_requesting, retransmission_begun}
-use Rattle.dcsctp_machine.specs.turns.FlushOutcomes.{own_sack, filled, first_ask, room_in, where_fits, wants_sack, FitsPlain, FillsWhere, ForwardsWhere, GivesUpWhere, forward_where, Told, begun_at, may_abandon, may_forward, stage_of, told_content}
-use Rattle.dcsctp_wire.specs.Content.{ChunkContent, sack_chunk}
-use Rattle.dcsctp_wire.specs.Spelling.{chunk_bytes}
+use Rattle.dcsctp_transfer.specs.wire_build.Building.{Building, bytes_remaining}
+use Rattle.dcsctp_transfer.specs.spec.endpoint.Event.{Event}
+use Rattle.dcsctp_transfer.specs.spec.Packet.{Plain, plain, Content, chunk_out, Emission, plain_out}
+use Rattle.dcsctp_transfer.specs.spec.queues.Reassembly.{remaining_bytes}
+use Rattle.dcsctp_transfer.specs.spec.queues.Tracker.{sack_of, TrackerState, sacked}
+use Rattle.dcsctp_transfer.specs.spec.queues.SendQueue.{SendQueueState, has_data}
+use Rattle.dcsctp_transfer.specs.spec.queues.Transfer.{Transfer, may_give}
+use Rattle.dcsctp_transfer.specs.spec.queues.Retransmission.{RetransmissionState}
+use Rattle.dcsctp_transfer.specs.spec.endpoint.Endpoint.{Endpoint, Core, OutstandingRequest, held_in}
+use Rattle.dcsctp_transfer.specs.spec.endpoint.Timers.{RunningTimer, started}
+use Rattle.dcsctp_transfer.specs.spec.association.Choices.{plain_contents}
+use Rattle.dcsctp_transfer.specs.spec.endpoint.BegunResets.{BegunReset, streams_within, last_assigned_tsn, begun_in, request_contents, reconfiguration_settings, transfer_begun, rto_of, core_asking, after_begun, queue_requesting, retransmission_begun}
+use Rattle.dcsctp_transfer.specs.spec.endpoint.FlushOutcomes.{own_sack, filled, first_ask, room_in, where_fits, wants_sack, FitsPlain, FillsWhere, ForwardsWhere, GivesUpWhere, forward_where, Told, begun_at, may_abandon, may_forward, stage_of, told_content}
+use Rattle.dcsctp_transfer.specs.wire.Content.{ChunkContent, sack_chunk}
+use Rattle.dcsctp_transfer.specs.wire.Spelling.{chunk_bytes}
 use Rattle.dcsctp_transfer.specs.Filling.{is_sack_wanted, with_chunk, Acknowledges, has_chunks}
 use Rattle.dcsctp_core.specs.declared.context.Context.{Context}
 use Rattle.dcsctp_core.specs.declared.state.State.{State}
@@ -25,11 +25,11 @@ use Rattle.dcsctp_core.specs.View.{View, core_of, tie_of, t1_of, t2_of, outstand
 use Rattle.dcsctp_core.specs.Flushing.{packet_for, state_with, AcknowledgesBelow, ForwardsAt, BeginsAt, FillsData, timers_where, Fills, can_send_below, ForwardsNow, is_in_time}
 use Rattle.dcsctp_core.proofs.FillLemmas.{fills_by, fills_nothing, chunk_packet, endpoint_given, room_is_left, same_draft, stays_behind, told_after, view_filled}
 use Rattle.dcsctp_core.proofs.SentLemmas.{body_append}
-use Rattle.dcsctp_machine.proofs.FilledAnswers.{GivesUntilFull}
-use Rattle.dcsctp_machine.specs.transfer.Filling.{Stage}
-use Rattle.dcsctp_machine.specs.transfer.Items.{is_first_abandoned}
-use Rattle.dcsctp_machine.proofs.ToldLemmas.{behind_events}
-use Rattle.dcsctp_machine.specs.turns.FlushOutcomes as asks
+use Rattle.dcsctp_transfer.proofs.spec_lemmas.FilledAnswers.{GivesUntilFull}
+use Rattle.dcsctp_transfer.specs.spec.queues.Filling.{Stage}
+use Rattle.dcsctp_transfer.specs.spec.queues.Items.{is_first_abandoned}
+use Rattle.dcsctp_transfer.proofs.spec_lemmas.ToldLemmas.{behind_events}
+use Rattle.dcsctp_transfer.specs.spec.endpoint.FlushOutcomes as asks
 
 -- ---- a state with something else below its association
 

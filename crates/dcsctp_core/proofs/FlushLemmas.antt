@@ -2,24 +2,24 @@
 use Rattle.std.proofs.Common.{◌≡◌, not, ℕ, suc, Bool, true, false, Option, None, Some, List, [], ◌∷◌, ◌++◌, length, map, refl, sym, ap, subst, ◌∙◌, append_assoc, inl, inr, arith}
 use Rattle.std.proofs.lemmas.List.{append-nil, map-append}
 use Rattle.rand_core.specs.Stream.{Stream}
-use Rattle.dcsctp_wire_build.specs.Building.{Building}
-use Rattle.dcsctp_wire.specs.Spelling.{header_bytes, packet_bytes_of}
-use Rattle.dcsctp_machine.specs.declared.options.Options.{Options}
-use Rattle.dcsctp_machine.specs.declared.association.Held.{Held}
-use Rattle.dcsctp_machine.specs.declared.association.Pair.{Pair}
-use Rattle.dcsctp_machine.specs.declared.word.Word.{Word}
-use Rattle.dcsctp_machine.specs.Settings.{ports_of, packet_size_limit}
-use Rattle.dcsctp_machine.specs.Event.{Event, sent}
-use Rattle.dcsctp_machine.specs.Packet.{Content, Emission, emission_bytes}
-use Rattle.dcsctp_machine.specs.Endpoint.{Endpoint, Core, closed, cookie_wait, cookie_echoed, open_in, held_in}
-use Rattle.dcsctp_machine.specs.Outcome.{Outcome, still, counted, contents_len, then_outcome, noting}
-use Rattle.dcsctp_machine.specs.control.Effect.{Effect, drawn_in}
-use Rattle.dcsctp_machine.specs.turns.BegunResets.{BegunReset, begun_effects}
-use Rattle.dcsctp_machine.specs.turns.FlushOutcomes.{told_event, Answer, answer_contents, filled, goes_out, asked, next_draft, draft_to, flush_of, Ask, later_ask, IsWithin, Answered, Answers, at_limit, at_empty, after_packet, is_none}
-use Rattle.dcsctp_machine.proofs.AnswerLemmas.{any_answers, answers_from}
-use Rattle.dcsctp_machine.proofs.FlushKeeps.{Keeps, asked_keeps}
-use Rattle.dcsctp_machine.proofs.TurnLemmas.{drawn_in-append}
-use Rattle.dcsctp_api.specs.Calls.{user_event}
+use Rattle.dcsctp_transfer.specs.wire_build.Building.{Building}
+use Rattle.dcsctp_transfer.specs.wire.Spelling.{header_bytes, packet_bytes_of}
+use Rattle.dcsctp_transfer.specs.types.declared.options.Options.{Options}
+use Rattle.dcsctp_transfer.specs.types.declared.association.Held.{Held}
+use Rattle.dcsctp_transfer.specs.types.declared.association.Pair.{Pair}
+use Rattle.dcsctp_transfer.specs.types.declared.word.Word.{Word}
+use Rattle.dcsctp_transfer.specs.types.Settings.{ports_of, packet_size_limit}
+use Rattle.dcsctp_transfer.specs.spec.endpoint.Event.{Event, sent}
+use Rattle.dcsctp_transfer.specs.spec.Packet.{Content, Emission, emission_bytes}
+use Rattle.dcsctp_transfer.specs.spec.endpoint.Endpoint.{Endpoint, Core, closed, cookie_wait, cookie_echoed, open_in, held_in}
+use Rattle.dcsctp_transfer.specs.spec.endpoint.Outcome.{Outcome, still, counted, contents_len, then_outcome, noting}
+use Rattle.dcsctp_transfer.specs.spec.association.Effect.{Effect, drawn_in}
+use Rattle.dcsctp_transfer.specs.spec.endpoint.BegunResets.{BegunReset, begun_effects}
+use Rattle.dcsctp_transfer.specs.spec.endpoint.FlushOutcomes.{told_event, Answer, answer_contents, filled, goes_out, asked, next_draft, draft_to, flush_of, Ask, later_ask, IsWithin, Answered, Answers, at_limit, at_empty, after_packet, is_none}
+use Rattle.dcsctp_transfer.proofs.spec_lemmas.AnswerLemmas.{any_answers, answers_from}
+use Rattle.dcsctp_transfer.proofs.spec_lemmas.FlushKeeps.{Keeps, asked_keeps}
+use Rattle.dcsctp_transfer.proofs.spec_lemmas.TurnLists.{drawn_in-append}
+use Rattle.dcsctp_transfer.specs.api.Calls.{user_event}
 use Rattle.dcsctp_core.specs.View.{View, Moves}
 use Rattle.dcsctp_core.specs.Flushing.{packet_for, Fills, AskCut, AsksFor, FlushesFor, FlushCut, sent_where, KeepsSize}
 use Rattle.dcsctp_core.proofs.Moving.{Drawn-append, moves_still}

@@ -1,16 +1,16 @@
 -- What gives messages up, as the view tells it.
 use Rattle.std.proofs.Common.{◌≡◌, ◌<◌, ℕ, Option, None, Some, List, sym, ap, subst, ◌∙◌, Bool, arith, false, nat_le, refl, true}
-use Rattle.dcsctp_wire_build.specs.Building.{Building}
-use Rattle.dcsctp_machine.specs.Event.{Event}
-use Rattle.dcsctp_machine.specs.transfer.Transfer.{Transfer}
-use Rattle.dcsctp_machine.specs.transfer.SendQueue.{SendQueueState}
-use Rattle.dcsctp_machine.specs.Endpoint.{Endpoint}
+use Rattle.dcsctp_transfer.specs.wire_build.Building.{Building}
+use Rattle.dcsctp_transfer.specs.spec.endpoint.Event.{Event}
+use Rattle.dcsctp_transfer.specs.spec.queues.Transfer.{Transfer}
+use Rattle.dcsctp_transfer.specs.spec.queues.SendQueue.{SendQueueState}
+use Rattle.dcsctp_transfer.specs.spec.endpoint.Endpoint.{Endpoint}
 use Rattle.dcsctp_transfer.specs.Forwarding.{Forwards}
 use Rattle.dcsctp_core.specs.declared.context.Context.{Context}
 use Rattle.dcsctp_core.specs.declared.state.State.{State}
 use Rattle.dcsctp_core.specs.View.{View, transfer_of, endpoint_of, view_of}
 use Rattle.dcsctp_core.specs.Flushing.{ForwardsBelow, ForwardsNow, ForwardsAt}
-use Rattle.dcsctp_machine.specs.turns.FlushOutcomes.{forward_where}
+use Rattle.dcsctp_transfer.specs.spec.endpoint.FlushOutcomes.{forward_where}
 use Rattle.dcsctp_core.proofs.FirstLemmas.{endpoint_with}
 use Rattle.std.proofs.lemmas.Bool.Decides.{nat_tests}
 

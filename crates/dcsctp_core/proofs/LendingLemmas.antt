@@ -1,6 +1,6 @@
 -- What has changed below an association that was lent.
 use Rattle.std.proofs.Common.{◌≡◌, Bool, true, false, Option, None, Some, refl, sym, ap, subst, ◌∙◌}
-use Rattle.dcsctp_machine.specs.transfer.Transfer.{Transfer}
+use Rattle.dcsctp_transfer.specs.spec.queues.Transfer.{Transfer}
 use Rattle.dcsctp_core.specs.declared.state.State.{State}
 use Rattle.dcsctp_core.specs.declared.state.State.TheVariants.{Closed, CookieWait, CookieEchoed, Open}
 use Rattle.dcsctp_core.specs.declared.transmission_control_block.TransmissionControlBlock.{TransmissionControlBlock}

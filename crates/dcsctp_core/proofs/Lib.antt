@@ -1,3 +1,5 @@
+pub use Rattle.dcsctp_transfer.proofs.wire_lemmas as wire_lemmas
+pub use Rattle.dcsctp_transfer.proofs.spec_lemmas as spec_lemmas
 pub mod AskLemmas
 pub mod AtOnceLemmas
 pub mod BelowLemmas

@@ -1,19 +1,19 @@
 -- The loop of a flush: what completes from where it stands completes the whole.
 use Rattle.std.proofs.Common.{◌≡◌, ◌==◌, ◌-◌, ◌<◌, ℕ, suc, Bool, true, false, Option, None, Some, Result, Ok, Err, List, [], refl, sym, ap, subst, ◌∙◌, arith}
 use Rattle.rand_core.specs.Stream.{Stream}
-use Rattle.dcsctp_wire_build.specs.Building.{Building}
-use Rattle.dcsctp_machine.specs.declared.association.Held.{Held}
-use Rattle.dcsctp_machine.specs.Event.{Event}
-use Rattle.dcsctp_machine.specs.Packet.{Emission}
-use Rattle.dcsctp_machine.specs.Endpoint.{Endpoint, Core, closed, cookie_wait, cookie_echoed, open_in, held_in}
-use Rattle.dcsctp_machine.specs.Outcome.{Outcome, still}
-use Rattle.dcsctp_machine.specs.turns.BegunResets.{BegunReset, held_asking, held_begun, core_asking, after_begun}
-use Rattle.dcsctp_machine.specs.turns.DataOutcomes.{flush_by, AnswersTo}
-use Rattle.dcsctp_machine.specs.turns.FlushOutcomes.{Answer, draft_to, next_draft, flush_of, packets_allowed, Ask, first_ask, later_ask}
-use Rattle.dcsctp_machine.proofs.AnswerLemmas.{any_answers}
-use Rattle.dcsctp_machine.proofs.FlushKeeps.{asked_keeps, later_begins}
+use Rattle.dcsctp_transfer.specs.wire_build.Building.{Building}
+use Rattle.dcsctp_transfer.specs.types.declared.association.Held.{Held}
+use Rattle.dcsctp_transfer.specs.spec.endpoint.Event.{Event}
+use Rattle.dcsctp_transfer.specs.spec.Packet.{Emission}
+use Rattle.dcsctp_transfer.specs.spec.endpoint.Endpoint.{Endpoint, Core, closed, cookie_wait, cookie_echoed, open_in, held_in}
+use Rattle.dcsctp_transfer.specs.spec.endpoint.Outcome.{Outcome, still}
+use Rattle.dcsctp_transfer.specs.spec.endpoint.BegunResets.{BegunReset, held_asking, held_begun, core_asking, after_begun}
+use Rattle.dcsctp_transfer.specs.spec.endpoint.DataOutcomes.{flush_by, AnswersTo}
+use Rattle.dcsctp_transfer.specs.spec.endpoint.FlushOutcomes.{Answer, draft_to, next_draft, flush_of, packets_allowed, Ask, first_ask, later_ask}
+use Rattle.dcsctp_transfer.proofs.spec_lemmas.AnswerLemmas.{any_answers}
+use Rattle.dcsctp_transfer.proofs.spec_lemmas.FlushKeeps.{asked_keeps, later_begins}
 use Rattle.dcsctp_core.specs.declared.context.Context.{Context}
-use Rattle.dcsctp_machine.specs.declared.options.Options.{Options}
+use Rattle.dcsctp_transfer.specs.types.declared.options.Options.{Options}
 use Rattle.dcsctp_core.specs.declared.state.State.{State}
 use Rattle.dcsctp_core.specs.declared.state.State.TheVariants.{Closed, CookieWait, CookieEchoed, Open}
 use Rattle.dcsctp_core.specs.declared.transmission_control_block.TransmissionControlBlock.{TransmissionControlBlock}

@@ -2,18 +2,18 @@
 use Rattle.std.proofs.Common.{◌≡◌, ℕ, List, [], ◌∷◌, ◌++◌, map, refl, sym, ap, subst, ◌∙◌, append_assoc}
 use Rattle.std.proofs.lemmas.List.{append-nil, map-append}
 use Rattle.rand_core.specs.Stream.{Stream, next_u32, next_u64}
-use Rattle.dcsctp_machine.specs.Settings.{Ports, ports_of}
-use Rattle.dcsctp_machine.specs.declared.association.Pair.{Pair}
-use Rattle.dcsctp_machine.specs.declared.word.Word.{Word}
-use Rattle.dcsctp_machine.specs.declared.word.Word.TheVariants.{U32, U64}
-use Rattle.dcsctp_machine.specs.Event.{Event}
-use Rattle.dcsctp_machine.specs.Packet.{Emission}
-use Rattle.dcsctp_machine.specs.Endpoint.{Endpoint}
-use Rattle.dcsctp_machine.specs.Outcome.{Outcome, still}
-use Rattle.dcsctp_machine.specs.control.Effect.{Effect, drawn_in}
-use Rattle.dcsctp_machine.specs.CallTurns.{Turned, after_all, words_of, pairs_of, events_of}
-use Rattle.dcsctp_machine.proofs.TurnLemmas.{after_all-append, words_of-append, pairs_of-append, events_of-append}
-use Rattle.dcsctp_api.specs.Calls.{user_event}
+use Rattle.dcsctp_transfer.specs.types.Settings.{Ports, ports_of}
+use Rattle.dcsctp_transfer.specs.types.declared.association.Pair.{Pair}
+use Rattle.dcsctp_transfer.specs.types.declared.word.Word.{Word}
+use Rattle.dcsctp_transfer.specs.types.declared.word.Word.TheVariants.{U32, U64}
+use Rattle.dcsctp_transfer.specs.spec.endpoint.Event.{Event}
+use Rattle.dcsctp_transfer.specs.spec.Packet.{Emission}
+use Rattle.dcsctp_transfer.specs.spec.endpoint.Endpoint.{Endpoint}
+use Rattle.dcsctp_transfer.specs.spec.endpoint.Outcome.{Outcome, still}
+use Rattle.dcsctp_transfer.specs.spec.association.Effect.{Effect, drawn_in}
+use Rattle.dcsctp_transfer.specs.spec.endpoint.CallTurns.{Turned, after_all, words_of, pairs_of, events_of}
+use Rattle.dcsctp_transfer.proofs.spec_lemmas.TurnLists.{after_all-append, words_of-append, pairs_of-append, events_of-append}
+use Rattle.dcsctp_transfer.specs.api.Calls.{user_event}
 use Rattle.dcsctp_core.specs.View.{View, Drawn, Moves, MovesAll}
 
 pub Drawn-append : (s t u : Stream) (xs ys : List Word) → Drawn s xs t → Drawn t ys u → Drawn s (xs ++ ys) u

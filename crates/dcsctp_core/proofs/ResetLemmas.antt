@@ -3,34 +3,34 @@ use Rattle.std.proofs.Common.{◌≡◌, ◌≤◌, ◌<◌, ◌+◌, ◌*◌, �
 use Rattle.std.specs.Int.{w16, to_be_bytes}
 use Rattle.std.proofs.lemmas.List.{append-nil, map-append, take_more}
 use Rattle.std.proofs.lemmas.List.Concat.{flat_map-append}
-use Rattle.dcsctp_machine.specs.declared.ids.StreamId.{StreamId}
-use Rattle.dcsctp_machine.specs.Ids.{stream_numbers}
-use Rattle.dcsctp_wire.specs.Spelling.{chunk_bytes}
-use Rattle.dcsctp_machine.specs.Packet.{chunk_out}
-use Rattle.dcsctp_machine.specs.Reconfiguration.{RequestedReset}
-use Rattle.dcsctp_machine.specs.control.FlushChanges.{reset_request}
-use Rattle.dcsctp_machine.specs.turns.BegunResets.{streams_within, stream_field, BegunReset, last_assigned_tsn, begun_in, begun_where, transfer_begun, rto_of, held_begun, core_asking, after_begun}
-use Rattle.dcsctp_machine.proofs.PacketLengths.{request_len}
+use Rattle.dcsctp_transfer.specs.types.declared.ids.StreamId.{StreamId}
+use Rattle.dcsctp_transfer.specs.types.Ids.{stream_numbers}
+use Rattle.dcsctp_transfer.specs.wire.Spelling.{chunk_bytes}
+use Rattle.dcsctp_transfer.specs.spec.Packet.{chunk_out}
+use Rattle.dcsctp_transfer.specs.spec.Reconfiguration.{RequestedReset}
+use Rattle.dcsctp_transfer.specs.spec.association.FlushChanges.{reset_request}
+use Rattle.dcsctp_transfer.specs.spec.endpoint.BegunResets.{streams_within, stream_field, BegunReset, last_assigned_tsn, begun_in, begun_where, transfer_begun, rto_of, held_begun, core_asking, after_begun}
+use Rattle.dcsctp_transfer.proofs.spec_lemmas.PacketLengths.{request_len}
 use Rattle.std.proofs.lemmas.Bool.Decides.{nat_tests}
 use Rattle.dcsctp_core.specs.Resetting.{IsStream, StartsReset, BeginsReset, request_begun, timer_begun, Begins, BeginsIn, BeginsBelow}
 use Rattle.std.specs.List.{AllByRecursion}
 use Rattle.std.specs.Prelude.{is_some}
 use Rattle.std.specs.Option.{option_map}
 use Rattle.std.specs.declared.alloc.AllocError.{AllocError}
-use Rattle.dcsctp_wire_build.specs.Building.{Building, bytes_remaining}
-use Rattle.dcsctp_machine.specs.transfer.SendQueue.{SendQueueState}
-use Rattle.dcsctp_machine.specs.transfer.Transfer.{is_none_ready, Transfer}
-use Rattle.dcsctp_machine.specs.transfer.OwnResets.{handing_out, ready_streams, queue_handing_out}
+use Rattle.dcsctp_transfer.specs.wire_build.Building.{Building, bytes_remaining}
+use Rattle.dcsctp_transfer.specs.spec.queues.SendQueue.{SendQueueState}
+use Rattle.dcsctp_transfer.specs.spec.queues.Transfer.{is_none_ready, Transfer}
+use Rattle.dcsctp_transfer.specs.spec.queues.OwnResets.{handing_out, ready_streams, queue_handing_out}
 use Rattle.dcsctp_core.specs.declared.transmission_control_block.ResetRequest.{ResetRequest}
 use Rattle.dcsctp_core.specs.declared.transmission_control_block.TransmissionControlBlock.{TransmissionControlBlock}
 use Rattle.dcsctp_core.specs.Reconfiguring.{tcb_changed}
 use Rattle.dcsctp_core.proofs.LendingLemmas.{within, found}
 use Rattle.dcsctp_core.proofs.LoopLemmas.{held_by_tcb}
 use Rattle.dcsctp_core.specs.View.{number_of, tcb_of, held_of, core_of, phase_in, tie_of, t1_of, t2_of, outstanding_of, reconfiguration_of, transfer_of, endpoint_of, view_of, View}
-use Rattle.dcsctp_machine.specs.declared.association.Pair.{Pair}
-use Rattle.dcsctp_machine.specs.declared.association.Held.{Held}
-use Rattle.dcsctp_machine.specs.Endpoint.{Endpoint, Core, cookie_echoed, open_in, OpenPhase, OutstandingRequest}
-use Rattle.dcsctp_machine.specs.Timers.{RunningTimer}
+use Rattle.dcsctp_transfer.specs.types.declared.association.Pair.{Pair}
+use Rattle.dcsctp_transfer.specs.types.declared.association.Held.{Held}
+use Rattle.dcsctp_transfer.specs.spec.endpoint.Endpoint.{Endpoint, Core, cookie_echoed, open_in, OpenPhase, OutstandingRequest}
+use Rattle.dcsctp_transfer.specs.spec.endpoint.Timers.{RunningTimer}
 use Rattle.dcsctp_core.specs.declared.state.State.{State}
 use Rattle.dcsctp_core.specs.declared.state.State.TheVariants.{Closed, CookieWait, CookieEchoed, Open}
 use Rattle.dcsctp_core.specs.declared.context.Context.{Context}

@@ -1,20 +1,20 @@
 -- A flush for which no packet is made: nothing has to go into one.
-use Rattle.dcsctp_machine.specs.transfer.Filling.{none as no_step}
-use Rattle.dcsctp_machine.proofs.MarkedItemLemmas.{fewer_marked}
+use Rattle.dcsctp_transfer.specs.spec.queues.Filling.{none as no_step}
+use Rattle.dcsctp_transfer.proofs.spec_lemmas.MarkedItemLemmas.{fewer_marked}
 use Rattle.std.proofs.lemmas.Bool.Decides.{nat_tests}
 use Rattle.std.proofs.Common.{◌≡◌, ◌&&◌, ◌||◌, ℕ, zero, suc, Bool, true, false, nat_lt, Option, None, Some, [], refl, sym, ap, subst, arith, inl, ◌+◌}
 use Rattle.rand_core.specs.Stream.{Stream}
-use Rattle.dcsctp_machine.specs.transfer.OwnResets.{ready_streams}
-use Rattle.dcsctp_machine.specs.declared.association.Held.{Held}
-use Rattle.dcsctp_machine.specs.Packet.{Emission}
-use Rattle.dcsctp_machine.specs.transfer.SendQueue.{SendQueueState, has_data}
-use Rattle.dcsctp_machine.specs.transfer.Transfer.{Transfer, is_none_ready, is_idle, may_give}
-use Rattle.dcsctp_machine.specs.transfer.Retransmission.{RetransmissionState, can_send}
-use Rattle.dcsctp_machine.specs.transfer.Items.{marked_items, is_first_abandoned}
-use Rattle.dcsctp_machine.specs.Endpoint.{Endpoint, held_in}
-use Rattle.dcsctp_machine.specs.turns.BegunResets.{last_assigned_tsn}
-use Rattle.dcsctp_machine.specs.turns.DataOutcomes.{flush_by, AnswersTo}
-use Rattle.dcsctp_machine.specs.turns.FlushOutcomes.{draft_to, flush_of, packets_allowed, Ask, first_ask, later_ask, room_in, begun_at, Acknowledges, Gives, GivesWhere, AnsweredBelow, nothing_waits, FillsWhere, ForwardsWhere, GivesUpWhere, filled, may_forward, stage_of}
+use Rattle.dcsctp_transfer.specs.spec.queues.OwnResets.{ready_streams}
+use Rattle.dcsctp_transfer.specs.types.declared.association.Held.{Held}
+use Rattle.dcsctp_transfer.specs.spec.Packet.{Emission}
+use Rattle.dcsctp_transfer.specs.spec.queues.SendQueue.{SendQueueState, has_data}
+use Rattle.dcsctp_transfer.specs.spec.queues.Transfer.{Transfer, is_none_ready, is_idle, may_give}
+use Rattle.dcsctp_transfer.specs.spec.queues.Retransmission.{RetransmissionState, can_send}
+use Rattle.dcsctp_transfer.specs.spec.queues.Items.{marked_items, is_first_abandoned}
+use Rattle.dcsctp_transfer.specs.spec.endpoint.Endpoint.{Endpoint, held_in}
+use Rattle.dcsctp_transfer.specs.spec.endpoint.BegunResets.{last_assigned_tsn}
+use Rattle.dcsctp_transfer.specs.spec.endpoint.DataOutcomes.{flush_by, AnswersTo}
+use Rattle.dcsctp_transfer.specs.spec.endpoint.FlushOutcomes.{draft_to, flush_of, packets_allowed, Ask, first_ask, later_ask, room_in, begun_at, Acknowledges, Gives, GivesWhere, AnsweredBelow, nothing_waits, FillsWhere, ForwardsWhere, GivesUpWhere, filled, may_forward, stage_of}
 use Rattle.dcsctp_core.specs.declared.context.Context.{Context}
 use Rattle.dcsctp_core.specs.declared.transmission_control_block.TransmissionControlBlock.{TransmissionControlBlock}
 use Rattle.dcsctp_core.specs.View.{View, core_of, tcb_of, transfer_of, held_of, endpoint_of, view_of}
@@ -24,10 +24,10 @@ use Rattle.dcsctp_core.proofs.Moving.{moves_still}
 use Rattle.dcsctp_core.proofs.FillLemmas.{none_begun}
 use Rattle.dcsctp_core.proofs.FlushLemmas.{flushes_none, flushes_last}
 use Rattle.dcsctp_core.proofs.LoopLemmas.{held_by_tcb, flush_no_peer}
-use Rattle.dcsctp_machine.specs.transfer.Abandoning.{NoneDue}
-use Rattle.dcsctp_machine.specs.declared.progress.Change.TheVariants.{Abandon}
-use Rattle.dcsctp_machine.specs.transfer.Filling.{Stage}
-use Rattle.dcsctp_machine.proofs.DueItemLemmas.{due_marked}
+use Rattle.dcsctp_transfer.specs.spec.queues.Abandoning.{NoneDue}
+use Rattle.dcsctp_transfer.specs.types.declared.progress.Change.TheVariants.{Abandon}
+use Rattle.dcsctp_transfer.specs.spec.queues.Filling.{Stage}
+use Rattle.dcsctp_transfer.proofs.spec_lemmas.DueItemLemmas.{due_marked}
 
 -- ---- nothing has to be given
 

@@ -3,18 +3,18 @@ use Rattle.std.proofs.Common.{◌≡◌, ◌+◌, ◌-◌, ℕ, Bool, true, fals
 use Rattle.std.specs.Prelude.{nat_le}
 use Rattle.std.proofs.lemmas.List.{append-nil}
 use Rattle.std.specs.List.{flat_map}
-use Rattle.dcsctp_wire.specs.Content.{ChunkContent}
-use Rattle.dcsctp_wire.specs.Spelling.{Spelled, by_value, by_list, spelled, other_bytes, list_bytes, spelled_bytes, chunk_bytes, header_bytes, packet_bytes_of}
-use Rattle.dcsctp_wire_build.specs.Building.{Building, bytes_remaining}
+use Rattle.dcsctp_transfer.specs.wire.Content.{ChunkContent}
+use Rattle.dcsctp_transfer.specs.wire.Spelling.{Spelled, by_value, by_list, spelled, other_bytes, list_bytes, spelled_bytes, chunk_bytes, header_bytes, packet_bytes_of}
+use Rattle.dcsctp_transfer.specs.wire_build.Building.{Building, bytes_remaining}
 use Rattle.rand_core.specs.Stream.{Stream}
-use Rattle.dcsctp_machine.specs.declared.options.Options.{Options}
-use Rattle.dcsctp_machine.specs.Settings.{ports_of, packet_size_limit}
-use Rattle.dcsctp_machine.specs.Event.{sent}
-use Rattle.dcsctp_machine.specs.Packet.{Content, Emission, unworked, chunk_out, emission_bytes}
-use Rattle.dcsctp_machine.specs.Endpoint.{Endpoint}
-use Rattle.dcsctp_machine.specs.Outcome.{counted, sends, contents_len}
-use Rattle.dcsctp_machine.specs.control.Choices.{plain_contents}
-use Rattle.dcsctp_machine.specs.turns.FlushOutcomes.{is_none, room_in}
+use Rattle.dcsctp_transfer.specs.types.declared.options.Options.{Options}
+use Rattle.dcsctp_transfer.specs.types.Settings.{ports_of, packet_size_limit}
+use Rattle.dcsctp_transfer.specs.spec.endpoint.Event.{sent}
+use Rattle.dcsctp_transfer.specs.spec.Packet.{Content, Emission, unworked, chunk_out, emission_bytes}
+use Rattle.dcsctp_transfer.specs.spec.endpoint.Endpoint.{Endpoint}
+use Rattle.dcsctp_transfer.specs.spec.endpoint.Outcome.{counted, sends, contents_len}
+use Rattle.dcsctp_transfer.specs.spec.association.Choices.{plain_contents}
+use Rattle.dcsctp_transfer.specs.spec.endpoint.FlushOutcomes.{is_none, room_in}
 use Rattle.dcsctp_core.specs.View.{View, Moves}
 use Rattle.dcsctp_core.specs.Handling.{emitted}
 use Rattle.dcsctp_core.specs.Flushing.{packet_of, packet_for}

@@ -1,8 +1,8 @@
 -- What becomes of our own request to reset streams if the peer answers it (RFC 6525, section 5.2.7).
 use Rattle.std.specs.Prelude.{◌≡◌, ℕ, true, None}
 use Rattle.std.specs.Option.{option_map}
-use Rattle.dcsctp_machine.specs.Timers.{started, TimerModel}
-use Rattle.dcsctp_machine.specs.turns.BegunResets.{reconfiguration_settings}
+use Rattle.dcsctp_transfer.specs.spec.endpoint.Timers.{started, TimerModel}
+use Rattle.dcsctp_transfer.specs.spec.endpoint.BegunResets.{reconfiguration_settings}
 use Rattle.dcsctp_core.specs.declared.transmission_control_block.ResetRequest.{ResetRequest}
 use Rattle.dcsctp_core.specs.declared.transmission_control_block.TransmissionControlBlock.{TransmissionControlBlock}
 

@@ -1,22 +1,22 @@
 -- What changes below an association.
 use Rattle.std.specs.Prelude.{◌≡◌, ℕ, Bool, true, false, Option, None, Some, Result, List, [], ◌∷◌}
 use Rattle.std.specs.declared.alloc.AllocError.{AllocError}
-use Rattle.dcsctp_wire.specs.Content.{SackContent}
-use Rattle.dcsctp_wire_build.specs.Building.{Building}
-use Rattle.dcsctp_machine.specs.declared.association.Held.{Held}
-use Rattle.dcsctp_machine.specs.declared.message.Message.{Message}
-use Rattle.dcsctp_machine.specs.Event.{Event}
-use Rattle.dcsctp_machine.specs.Endpoint.{Endpoint, held_in}
-use Rattle.dcsctp_machine.specs.Outcome.{Outcome, still}
-use Rattle.dcsctp_machine.specs.turns.DataOutcomes.{FastRetransmits}
-use Rattle.dcsctp_machine.specs.turns.TransferMoves.{lost_all}
+use Rattle.dcsctp_transfer.specs.wire.Content.{SackContent}
+use Rattle.dcsctp_transfer.specs.wire_build.Building.{Building}
+use Rattle.dcsctp_transfer.specs.types.declared.association.Held.{Held}
+use Rattle.dcsctp_transfer.specs.types.declared.message.Message.{Message}
+use Rattle.dcsctp_transfer.specs.spec.endpoint.Event.{Event}
+use Rattle.dcsctp_transfer.specs.spec.endpoint.Endpoint.{Endpoint, held_in}
+use Rattle.dcsctp_transfer.specs.spec.endpoint.Outcome.{Outcome, still}
+use Rattle.dcsctp_transfer.specs.spec.endpoint.DataOutcomes.{FastRetransmits}
+use Rattle.dcsctp_transfer.specs.spec.endpoint.TransferMoves.{lost_all}
 use Rattle.dcsctp_transfer.specs.Sacks.{HandlesSack, FillsAtOnce}
 use Rattle.dcsctp_transfer.specs.declared.sacks.HandledSack.{HandledSack}
-use Rattle.dcsctp_machine.specs.transfer.Transfer.{Transfer}
-use Rattle.dcsctp_machine.specs.transfer.Messages.{message_content}
-use Rattle.dcsctp_machine.specs.transfer.Reassembly.{with_ready}
-use Rattle.dcsctp_machine.specs.transfer.Retransmission.{has_fast_retransmit}
-use Rattle.dcsctp_machine.specs.transfer.Tracker.{after_packet_end, is_acknowledgement_due}
+use Rattle.dcsctp_transfer.specs.spec.queues.Transfer.{Transfer}
+use Rattle.dcsctp_transfer.specs.types.queues.Messages.{message_content}
+use Rattle.dcsctp_transfer.specs.spec.queues.Reassembly.{with_ready}
+use Rattle.dcsctp_transfer.specs.spec.queues.Retransmission.{has_fast_retransmit}
+use Rattle.dcsctp_transfer.specs.spec.queues.Tracker.{after_packet_end, is_acknowledgement_due}
 use Rattle.dcsctp_core.specs.declared.state.State.{State}
 use Rattle.dcsctp_core.specs.View.{View}
 use Rattle.dcsctp_core.specs.Flushing.{state_with}

@@ -1,8 +1,8 @@
 -- Random words of a call, and the pairs that are made of them.
 use Rattle.std.specs.Prelude.{◌≡◌, ℕ, Result, Ok, Err, [], ◌∷◌, ◌++◌}
 use Rattle.rand_core.specs.Stream.{Stream, next_u32, next_u64}
-use Rattle.dcsctp_machine.specs.declared.association.Pair.{Pair}
-use Rattle.dcsctp_machine.specs.declared.word.Word.{Word}
+use Rattle.dcsctp_transfer.specs.types.declared.association.Pair.{Pair}
+use Rattle.dcsctp_transfer.specs.types.declared.word.Word.{Word}
 use Rattle.dcsctp_core.specs.declared.context.Context.{Context}
 
 -- the next word, the one after it, and the next word of 64 bits

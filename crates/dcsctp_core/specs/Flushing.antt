@@ -2,23 +2,23 @@
 use Rattle.std.specs.Prelude.{◌≡◌, ◌⊎◌, ◌≤◌, ◌+◌, nat_le, ℕ, length, Bool, true, false, not, Option, None, Some, Result, Ok, Err, List, [], ◌∷◌, ◌++◌, map}
 use Rattle.std.specs.List.{flat_map}
 use Rattle.rand_core.specs.Stream.{Stream}
-use Rattle.dcsctp_wire_build.specs.Building.{Building, bytes_remaining}
-use Rattle.dcsctp_wire.specs.Spelling.{chunk_bytes, header_bytes, packet_bytes_of}
-use Rattle.dcsctp_machine.specs.transfer.OwnResets.{ready_streams}
-use Rattle.dcsctp_machine.specs.declared.options.Options.{Options}
-use Rattle.dcsctp_machine.specs.Settings.{ports_of, packet_size_limit}
-use Rattle.dcsctp_machine.specs.Event.{Event, sent}
-use Rattle.dcsctp_machine.specs.Packet.{Content, chunk_out, Emission}
-use Rattle.dcsctp_machine.specs.transfer.SendQueue.{SendQueueState, has_data}
-use Rattle.dcsctp_machine.specs.transfer.Transfer.{Transfer, is_none_ready, may_give}
-use Rattle.dcsctp_machine.specs.transfer.Items.{is_first_abandoned}
-use Rattle.dcsctp_machine.specs.transfer.Retransmission.{can_send, outstanding_count}
-use Rattle.dcsctp_machine.specs.Endpoint.{Endpoint, Timers, heartbeats_begun, held_in}
-use Rattle.dcsctp_machine.specs.declared.association.Held.{Held}
-use Rattle.dcsctp_machine.specs.Outcome.{counted}
-use Rattle.dcsctp_machine.specs.turns.BegunResets.{BegunReset, last_assigned_tsn, begun_in, request_contents, after_begun, streams_within, queue_requesting, transfer_begun}
-use Rattle.dcsctp_machine.specs.turns.FlushOutcomes.{told_event, Answer, answer_contents, filled, asked, flush_of, packets_allowed, Ask, first_ask, wants_sack, AnsweredBelow, timers_with, Answered, Answers, is_none, later_ask, draft_to, forward_where}
-use Rattle.dcsctp_api.specs.Calls.{user_event}
+use Rattle.dcsctp_transfer.specs.wire_build.Building.{Building, bytes_remaining}
+use Rattle.dcsctp_transfer.specs.wire.Spelling.{chunk_bytes, header_bytes, packet_bytes_of}
+use Rattle.dcsctp_transfer.specs.spec.queues.OwnResets.{ready_streams}
+use Rattle.dcsctp_transfer.specs.types.declared.options.Options.{Options}
+use Rattle.dcsctp_transfer.specs.types.Settings.{ports_of, packet_size_limit}
+use Rattle.dcsctp_transfer.specs.spec.endpoint.Event.{Event, sent}
+use Rattle.dcsctp_transfer.specs.spec.Packet.{Content, chunk_out, Emission}
+use Rattle.dcsctp_transfer.specs.spec.queues.SendQueue.{SendQueueState, has_data}
+use Rattle.dcsctp_transfer.specs.spec.queues.Transfer.{Transfer, is_none_ready, may_give}
+use Rattle.dcsctp_transfer.specs.spec.queues.Items.{is_first_abandoned}
+use Rattle.dcsctp_transfer.specs.spec.queues.Retransmission.{can_send, outstanding_count}
+use Rattle.dcsctp_transfer.specs.spec.endpoint.Endpoint.{Endpoint, Timers, heartbeats_begun, held_in}
+use Rattle.dcsctp_transfer.specs.types.declared.association.Held.{Held}
+use Rattle.dcsctp_transfer.specs.spec.endpoint.Outcome.{counted}
+use Rattle.dcsctp_transfer.specs.spec.endpoint.BegunResets.{BegunReset, last_assigned_tsn, begun_in, request_contents, after_begun, streams_within, queue_requesting, transfer_begun}
+use Rattle.dcsctp_transfer.specs.spec.endpoint.FlushOutcomes.{told_event, Answer, answer_contents, filled, asked, flush_of, packets_allowed, Ask, first_ask, wants_sack, AnsweredBelow, timers_with, Answered, Answers, is_none, later_ask, draft_to, forward_where}
+use Rattle.dcsctp_transfer.specs.api.Calls.{user_event}
 use Rattle.dcsctp_transfer.specs.Filling.{FillsPacket, TellsFilling, Acknowledges, is_sack_wanted}
 use Rattle.dcsctp_transfer.specs.Forwarding.{Forwards, TellsAbandoning}
 use Rattle.dcsctp_core.specs.declared.context.Context.{Context}

@@ -1,20 +1,20 @@
 -- What all handlers have in common: how a turn stands in a contract, and the turns of what all handlers share.
 use Rattle.std.specs.Prelude.{◌≡◌, ℕ, ◌+◌, Bool, Result, Ok, Err, List, [], ◌∷◌, ◌++◌, length, nat_le, if◌then◌else◌}
 use Rattle.rand_core.specs.Stream.{Stream}
-use Rattle.dcsctp_wire.specs.Content.{ChunkContent}
-use Rattle.dcsctp_wire.specs.Spelling.{chunk_bytes, header_bytes, packet_bytes_of}
-use Rattle.dcsctp_machine.specs.declared.kinds.ErrorKind.{ErrorKind}
-use Rattle.dcsctp_machine.specs.declared.kinds.ErrorKind.TheVariants.{NoError}
-use Rattle.dcsctp_machine.specs.Settings.{packet_size_limit}
-use Rattle.dcsctp_machine.specs.Packet.{Emission}
-use Rattle.dcsctp_machine.specs.Event.{Event, sent, aborted}
-use Rattle.dcsctp_machine.specs.Event as events
-use Rattle.dcsctp_machine.specs.Outcome.{Outcome, counted, reports}
-use Rattle.dcsctp_machine.specs.Following.{next_chunk, packet_end, dropped_rest}
-use Rattle.dcsctp_machine.specs.Following as machine
-use Rattle.dcsctp_machine.specs.Turn.{arrival_outcome}
-use Rattle.dcsctp_machine.specs.turns.DataOutcomes.{FlushTurn}
-use Rattle.dcsctp_machine.specs.turns.EndOutcomes.{close_outcome}
+use Rattle.dcsctp_transfer.specs.wire.Content.{ChunkContent}
+use Rattle.dcsctp_transfer.specs.wire.Spelling.{chunk_bytes, header_bytes, packet_bytes_of}
+use Rattle.dcsctp_transfer.specs.types.declared.kinds.ErrorKind.{ErrorKind}
+use Rattle.dcsctp_transfer.specs.types.declared.kinds.ErrorKind.TheVariants.{NoError}
+use Rattle.dcsctp_transfer.specs.types.Settings.{packet_size_limit}
+use Rattle.dcsctp_transfer.specs.spec.Packet.{Emission}
+use Rattle.dcsctp_transfer.specs.spec.endpoint.Event.{Event, sent, aborted}
+use Rattle.dcsctp_transfer.specs.spec.endpoint.Event as events
+use Rattle.dcsctp_transfer.specs.spec.endpoint.Outcome.{Outcome, counted, reports}
+use Rattle.dcsctp_transfer.specs.spec.endpoint.Following.{next_chunk, packet_end, dropped_rest}
+use Rattle.dcsctp_transfer.specs.spec.endpoint.Following as machine
+use Rattle.dcsctp_transfer.specs.spec.endpoint.Turn.{arrival_outcome}
+use Rattle.dcsctp_transfer.specs.spec.endpoint.DataOutcomes.{FlushTurn}
+use Rattle.dcsctp_transfer.specs.spec.endpoint.EndOutcomes.{close_outcome}
 use Rattle.dcsctp_core.specs.declared.following.Following.{Following}
 use Rattle.dcsctp_core.specs.declared.following.Following.TheVariants.{NextChunk, PacketEnd, DroppedRest}
 use Rattle.dcsctp_core.specs.declared.context.Context.{Context}

@@ -1,8 +1,8 @@
 -- Our own request to reset streams when the timer expires by which it is sent again.
 use Rattle.std.specs.Prelude.{ℕ, Bool, false, not, Option, None, Some}
 use Rattle.std.specs.Option.{option_map}
-use Rattle.dcsctp_machine.specs.Endpoint.{Endpoint, OutstandingRequest}
-use Rattle.dcsctp_machine.specs.turns.ReconfigurationOutcomes.{reconfiguration_expired, request_expired}
+use Rattle.dcsctp_transfer.specs.spec.endpoint.Endpoint.{Endpoint, OutstandingRequest}
+use Rattle.dcsctp_transfer.specs.spec.endpoint.ReconfigurationOutcomes.{reconfiguration_expired, request_expired}
 use Rattle.dcsctp_core.specs.declared.state.State.{State}
 use Rattle.dcsctp_core.specs.declared.state.State.TheVariants.{Closed, CookieWait, CookieEchoed, Open}
 use Rattle.dcsctp_core.specs.declared.transmission_control_block.ResetRequest.{ResetRequest}

@@ -1,17 +1,17 @@
 -- Our own reset of streams is begun (RFC 6525, section 5.1.2).
 use Rattle.std.specs.Prelude.{◌≡◌, ◌≤◌, ◌<◌, ◌^◌, ℕ, false, Option, None, Some, List, ◌++◌, length, map}
 use Rattle.std.specs.List.{flat_map, AllByRecursion}
-use Rattle.dcsctp_wire.specs.Spelling.{chunk_bytes}
-use Rattle.dcsctp_wire_build.specs.Building.{Building, bytes_remaining}
-use Rattle.dcsctp_machine.specs.Ids.{stream_numbers}
-use Rattle.dcsctp_machine.specs.Packet.{chunk_out}
-use Rattle.dcsctp_machine.specs.control.FlushChanges.{reset_request}
-use Rattle.dcsctp_machine.specs.Reconfiguration.{RequestedReset}
-use Rattle.dcsctp_machine.specs.transfer.SendQueue.{SendQueueState}
-use Rattle.dcsctp_machine.specs.transfer.Transfer.{Transfer}
-use Rattle.dcsctp_machine.specs.Endpoint.{OutstandingRequest, held_in}
-use Rattle.dcsctp_machine.specs.Timers.{RunningTimer, started}
-use Rattle.dcsctp_machine.specs.turns.BegunResets.{BegunReset, streams_within, last_assigned_tsn, begun_in, request_contents, queue_requesting, transfer_begun, held_begun, reconfiguration_settings}
+use Rattle.dcsctp_transfer.specs.wire.Spelling.{chunk_bytes}
+use Rattle.dcsctp_transfer.specs.wire_build.Building.{Building, bytes_remaining}
+use Rattle.dcsctp_transfer.specs.types.Ids.{stream_numbers}
+use Rattle.dcsctp_transfer.specs.spec.Packet.{chunk_out}
+use Rattle.dcsctp_transfer.specs.spec.association.FlushChanges.{reset_request}
+use Rattle.dcsctp_transfer.specs.spec.Reconfiguration.{RequestedReset}
+use Rattle.dcsctp_transfer.specs.spec.queues.SendQueue.{SendQueueState}
+use Rattle.dcsctp_transfer.specs.spec.queues.Transfer.{Transfer}
+use Rattle.dcsctp_transfer.specs.spec.endpoint.Endpoint.{OutstandingRequest, held_in}
+use Rattle.dcsctp_transfer.specs.spec.endpoint.Timers.{RunningTimer, started}
+use Rattle.dcsctp_transfer.specs.spec.endpoint.BegunResets.{BegunReset, streams_within, last_assigned_tsn, begun_in, request_contents, queue_requesting, transfer_begun, held_begun, reconfiguration_settings}
 use Rattle.dcsctp_core.specs.declared.state.State.{State}
 use Rattle.dcsctp_core.specs.declared.state.State.TheVariants.{Closed, CookieWait, CookieEchoed, Open}
 use Rattle.dcsctp_core.specs.declared.transmission_control_block.ResetRequest.{ResetRequest}

@@ -1,11 +1,11 @@
 -- What becomes of timers when a moment has come.
 use Rattle.std.specs.Prelude.{◌≡◌, ℕ, Bool, true, false, Option, None, Some, Result, Ok, Err}
 use Rattle.rand_core.specs.Stream.{Stream}
-use Rattle.dcsctp_machine.specs.Endpoint.{Endpoint}
-use Rattle.dcsctp_machine.specs.Timers.{RunningTimer, is_due, is_restarted, TimerModel, running_after}
-use Rattle.dcsctp_machine.specs.Outcome.{Outcome}
-use Rattle.dcsctp_machine.specs.TimeTurns.{Timer, deadline, has_come, expiry_input}
-use Rattle.dcsctp_machine.specs.Turn.{Turn}
+use Rattle.dcsctp_transfer.specs.spec.endpoint.Endpoint.{Endpoint}
+use Rattle.dcsctp_transfer.specs.spec.endpoint.Timers.{RunningTimer, is_due, is_restarted, TimerModel, running_after}
+use Rattle.dcsctp_transfer.specs.spec.endpoint.Outcome.{Outcome}
+use Rattle.dcsctp_transfer.specs.spec.endpoint.TimeTurns.{Timer, deadline, has_come, expiry_input}
+use Rattle.dcsctp_transfer.specs.spec.endpoint.Turn.{Turn}
 use Rattle.dcsctp_core.specs.declared.context.Context.{Context}
 use Rattle.dcsctp_core.specs.View.{View, view_of}
 use Rattle.dcsctp_core.specs.Handling.{TakesIn, CutIn}

@@ -1,24 +1,24 @@
 -- What a socket's parts are in the machine, and how a turn moves them.
 use Rattle.std.specs.Prelude.{◌≡◌, ℕ, Option, None, Some, List, [], ◌∷◌, ◌++◌, map, take}
 use Rattle.rand_core.specs.Stream.{Stream, next_u32, next_u64}
-use Rattle.dcsctp_machine.specs.declared.options.Options.{Options}
-use Rattle.dcsctp_machine.specs.declared.association.Pair.{Pair}
-use Rattle.dcsctp_machine.specs.declared.word.Word.{Word}
-use Rattle.dcsctp_machine.specs.declared.word.Word.TheVariants.{U32, U64}
-use Rattle.dcsctp_machine.specs.Event.{Event}
-use Rattle.dcsctp_machine.specs.declared.association.Held.{Held}
-use Rattle.dcsctp_machine.specs.transfer.Transfer.{Transfer, new_transfer}
-use Rattle.dcsctp_machine.specs.Endpoint.{Endpoint, Core, closed, cookie_wait, cookie_echoed, open_in, OpenPhase, established, shutdown_pending, shutdown_sent, shutdown_received, shutdown_ack_sent, OutstandingRequest, stopped_timers, heartbeats_begun, fresh_endpoint}
-use Rattle.dcsctp_machine.specs.Timers.{RunningTimer}
-use Rattle.dcsctp_machine.specs.Ids.{stream_numbers}
-use Rattle.dcsctp_machine.specs.Outcome.{Outcome, count_up}
-use Rattle.dcsctp_machine.specs.Following.{next_chunk}
-use Rattle.dcsctp_machine.specs.control.HandshakeChanges.{new_held}
-use Rattle.dcsctp_machine.specs.control.Effect.{drawn_in}
-use Rattle.dcsctp_machine.specs.CallTurns.{Turned, after_all, words_of, effects_of, events_of}
-use Rattle.dcsctp_machine.specs.Settings.{ports_of}
-use Rattle.dcsctp_api.specs.Events.{event_content}
-use Rattle.dcsctp_api.specs.Calls.{user_event}
+use Rattle.dcsctp_transfer.specs.types.declared.options.Options.{Options}
+use Rattle.dcsctp_transfer.specs.types.declared.association.Pair.{Pair}
+use Rattle.dcsctp_transfer.specs.types.declared.word.Word.{Word}
+use Rattle.dcsctp_transfer.specs.types.declared.word.Word.TheVariants.{U32, U64}
+use Rattle.dcsctp_transfer.specs.spec.endpoint.Event.{Event}
+use Rattle.dcsctp_transfer.specs.types.declared.association.Held.{Held}
+use Rattle.dcsctp_transfer.specs.spec.queues.Transfer.{Transfer, new_transfer}
+use Rattle.dcsctp_transfer.specs.spec.endpoint.Endpoint.{Endpoint, Core, closed, cookie_wait, cookie_echoed, open_in, OpenPhase, established, shutdown_pending, shutdown_sent, shutdown_received, shutdown_ack_sent, OutstandingRequest, stopped_timers, heartbeats_begun, fresh_endpoint}
+use Rattle.dcsctp_transfer.specs.spec.endpoint.Timers.{RunningTimer}
+use Rattle.dcsctp_transfer.specs.types.Ids.{stream_numbers}
+use Rattle.dcsctp_transfer.specs.spec.endpoint.Outcome.{Outcome, count_up}
+use Rattle.dcsctp_transfer.specs.spec.endpoint.Following.{next_chunk}
+use Rattle.dcsctp_transfer.specs.spec.association.HandshakeChanges.{new_held}
+use Rattle.dcsctp_transfer.specs.spec.association.Effect.{drawn_in}
+use Rattle.dcsctp_transfer.specs.spec.endpoint.CallTurns.{Turned, after_all, words_of, effects_of, events_of}
+use Rattle.dcsctp_transfer.specs.types.Settings.{ports_of}
+use Rattle.dcsctp_transfer.specs.api.Events.{event_content}
+use Rattle.dcsctp_transfer.specs.api.Calls.{user_event}
 use Rattle.dcsctp_core.specs.declared.state.State.{State}
 use Rattle.dcsctp_core.specs.declared.state.State.TheVariants.{Closed, CookieWait, CookieEchoed, Open}
 use Rattle.dcsctp_core.specs.declared.state.OpenPhase as phase_types

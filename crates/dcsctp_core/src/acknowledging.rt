@@ -5,7 +5,7 @@ ghost use Rattle.dcsctp_core.specs.View.{transfer_of};
 ghost use Rattle.dcsctp_core.specs.Flushing.{AcknowledgesBelow, WantsNone};
 
 use crate::state::State;
-use dcsctp_wire_build::SctpPacketBuilder;
+use dcsctp_transfer::wire_build::SctpPacketBuilder;
 use std::alloc::AllocError;
 
 impl State {

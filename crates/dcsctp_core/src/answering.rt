@@ -5,7 +5,7 @@ ghost use Rattle.dcsctp_core.specs.Answering.{Retries, request_ended};
 
 use crate::resetting::reconfiguration_timer;
 use crate::transmission_control_block::{ResetRequest, TransmissionControlBlock};
-use dcsctp_api::SocketTime;
+use dcsctp_transfer::api::SocketTime;
 
 impl TransmissionControlBlock {
     /// Our outstanding request is in progress: it waits to be sent again, and its timer starts anew (RFC

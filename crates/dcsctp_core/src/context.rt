@@ -1,20 +1,20 @@
 //! The parts of a socket in one value. One function shows or draws each thing that handlers need.
 
 ghost use Rattle.std.specs.Prelude.{◌≡◌};
-ghost use Rattle.dcsctp_machine.specs.Endpoint.{heartbeat_settings};
-ghost use Rattle.dcsctp_machine.specs.turns.HeartbeatOutcomes.{heartbeat_timeout_settings};
-ghost use Rattle.dcsctp_machine.specs.Settings.{IsValid};
+ghost use Rattle.dcsctp_transfer.specs.spec.endpoint.Endpoint.{heartbeat_settings};
+ghost use Rattle.dcsctp_transfer.specs.spec.endpoint.HeartbeatOutcomes.{heartbeat_timeout_settings};
+ghost use Rattle.dcsctp_transfer.specs.types.Settings.{IsValid};
 
 use crate::ending::end_event;
 use crate::state::State;
 use crate::tx_error_counter::TxErrorCounter;
-use dcsctp_api::{
+use dcsctp_transfer::SendQueue;
+use dcsctp_transfer::api::{
     ErrorKind, Events, Options, Pair, SctpImplementation, SocketEvent, SocketTime, Word,
 };
-use dcsctp_send_timer::{BackoffAlgorithm, Timer};
-use dcsctp_transfer::QueuedMessages;
-use dcsctp_wire::{Chunk, sizes};
-use dcsctp_wire_build::SctpPacketBuilder;
+use dcsctp_transfer::send_timer::{BackoffAlgorithm, Timer};
+use dcsctp_transfer::wire::{Chunk, sizes};
+use dcsctp_transfer::wire_build::SctpPacketBuilder;
 use rand_core::Rng;
 use std::alloc::{AllocError, Global};
 
@@ -38,7 +38,7 @@ pub struct Context<R> {
     pub events: Events,
 
     /// What waits to be sent.
-    pub send_queue: QueuedMessages,
+    pub send_queue: SendQueue,
 
     /// What the peer is, by its state cookie.
     pub peer_implementation: SctpImplementation,
@@ -88,13 +88,13 @@ pub struct Context<R> {
 impl<R: Rng> Context<R> {
     ghost use Rattle.std.specs.Prelude.{◌≡◌, Bool, ℕ, List, string_bytes};
     ghost use Rattle.rand_core.specs.Stream.{next_u32, next_u64};
-    ghost use Rattle.dcsctp_machine.specs.declared.word.Word.TheVariants.{U32, U64};
-    ghost use Rattle.dcsctp_machine.specs.Outcome.{counted};
-    ghost use Rattle.dcsctp_wire.specs.Content.{chunk_content};
-    ghost use Rattle.dcsctp_machine.specs.TimeTurns.{own_timer};
-    ghost use Rattle.dcsctp_machine.specs.turns.OwnTimers.{heartbeat_interval, heartbeat_timeout, reconfiguration, retransmission};
-    ghost use Rattle.dcsctp_machine.specs.turns.HeartbeatOutcomes.{interval_expired, beating, timeout_outcome, answered, is_exhausted};
-    ghost use Rattle.dcsctp_machine.specs.Timers.{running_deadline};
+    ghost use Rattle.dcsctp_transfer.specs.types.declared.word.Word.TheVariants.{U32, U64};
+    ghost use Rattle.dcsctp_transfer.specs.spec.endpoint.Outcome.{counted};
+    ghost use Rattle.dcsctp_transfer.specs.wire.Content.{chunk_content};
+    ghost use Rattle.dcsctp_transfer.specs.spec.endpoint.TimeTurns.{own_timer};
+    ghost use Rattle.dcsctp_transfer.specs.spec.endpoint.OwnTimers.{heartbeat_interval, heartbeat_timeout, reconfiguration, retransmission};
+    ghost use Rattle.dcsctp_transfer.specs.spec.endpoint.HeartbeatOutcomes.{interval_expired, beating, timeout_outcome, answered, is_exhausted};
+    ghost use Rattle.dcsctp_transfer.specs.spec.endpoint.Timers.{running_deadline};
     ghost use Rattle.dcsctp_core.specs.Timing.{where_expired, is_timer_due, ExpiresAlways};
     ghost use Rattle.dcsctp_core.specs.Reconfiguring.{request_over};
     ghost use Rattle.dcsctp_core.specs.View.{Moves, view_of, endpoint_of, outstanding_of, begun_heartbeats, message_counted, fresh_view, call_start};
@@ -112,7 +112,7 @@ impl<R: Rng> Context<R> {
             options,
             state: State::Closed,
             events: Events::new(alloc),
-            send_queue: QueuedMessages::new(alloc, &options),
+            send_queue: SendQueue::new(alloc, &options),
             peer_implementation: SctpImplementation::Unknown,
             generator,
             words: Vec::new(alloc),

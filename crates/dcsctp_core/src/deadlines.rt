@@ -4,7 +4,7 @@
 ghost use Rattle.std.specs.Prelude.{◌≡◌, ◌≤◌, ◌<◌, ◌+◌, ◌-◌, nat_lt, length, take, drop};
 ghost use Rattle.dcsctp_core.specs.Listing.{is_before, is_same, besides, place_of, placed, rank, AllBelow, BeginsAfter, EndsBefore, IsAbsent, IsListing, RelistTells, SetTells};
 
-use dcsctp_api::SocketTime;
+use dcsctp_transfer::api::SocketTime;
 use std::marker::Model;
 
 /// The timer that a deadline belongs to. Of deadlines at the same moment the one of an earlier kind is first.

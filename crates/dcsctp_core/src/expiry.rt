@@ -3,8 +3,8 @@
 ghost use Rattle.std.specs.Prelude.{◌≡◌};
 ghost use Rattle.dcsctp_core.specs.Timing.{expiry_of, timer_after};
 
-use dcsctp_api::SocketTime;
-use dcsctp_send_timer::Timer;
+use dcsctp_transfer::api::SocketTime;
+use dcsctp_transfer::send_timer::Timer;
 
 /// What happened to a timer when the clock moved.
 #[derive(Clone, Copy, Debug, PartialEq, Eq)]

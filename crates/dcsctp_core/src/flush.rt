@@ -1,8 +1,8 @@
 //! A flush: what waits is sent, in as many packets as are allowed (RFC 9260, section 6.1).
 
 ghost use Rattle.std.specs.Prelude.{◌≡◌, ◌||◌, false, Some, IsOk};
-ghost use Rattle.dcsctp_machine.specs.transfer.SendQueue.{has_data};
-ghost use Rattle.dcsctp_machine.specs.turns.FlushOutcomes.{packets_allowed, first_ask, later_ask, forward_where};
+ghost use Rattle.dcsctp_transfer.specs.spec.queues.SendQueue.{has_data};
+ghost use Rattle.dcsctp_transfer.specs.spec.endpoint.FlushOutcomes.{packets_allowed, first_ask, later_ask, forward_where};
 ghost use Rattle.dcsctp_core.specs.View.{core_of, transfer_of, endpoint_of, view_of};
 ghost use Rattle.dcsctp_core.specs.Below.{AtOnceAt};
 ghost use Rattle.dcsctp_core.specs.Flushing.{Flushes, FurtherAt, AsksWith, FillsWith, TriesForward, TriesReset, TriesData, HasNoData, HasNoReset, NeedsNone, can_send_below, SendsUnlessEmpty, KeepsSize};
@@ -10,9 +10,9 @@ ghost use Rattle.dcsctp_core.specs.Handling.{TakesOne, FlushAt};
 
 use crate::context::Context;
 use crate::state::State;
-use dcsctp_api::{Options, SocketEvent, SocketTime};
-use dcsctp_transfer::{QueuedMessages, Transfer};
-use dcsctp_wire_build::SctpPacketBuilder;
+use dcsctp_transfer::api::{Options, SocketEvent, SocketTime};
+use dcsctp_transfer::wire_build::SctpPacketBuilder;
+use dcsctp_transfer::{SendQueue, Transfer};
 use rand_core::Rng;
 use std::alloc::AllocError;
 
@@ -34,7 +34,7 @@ fn packets_allowed(options: &Options, state: &State) -> u32
 // May anything go into the first packet of a flush: a SACK, a FORWARD-TSN, the request of a reset, or data? A
 // delayed SACK is sent along if data may follow.
 #[inline(always)]
-fn may_fill_first(transfer: &Transfer, queue: &QueuedMessages) -> bool
+fn may_fill_first(transfer: &Transfer, queue: &SendQueue) -> bool
     ensures { result ≡ false → NeedsNone first_ask queue.now (Some transfer.now) }
 {
     let may_follow = queue.has_data_to_send() || transfer.can_send_data();

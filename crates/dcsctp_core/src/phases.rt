@@ -2,16 +2,16 @@
 
 ghost use Rattle.std.specs.Prelude.{◌≡◌, not};
 ghost use Rattle.std.specs.Duration.{as_nanos};
-ghost use Rattle.dcsctp_machine.specs.turns.BegunResets.{rto_of};
-ghost use Rattle.dcsctp_machine.specs.turns.ShutdownOutcomes.{is_all_acknowledged};
-ghost use Rattle.dcsctp_machine.specs.Timers.{running_deadline};
+ghost use Rattle.dcsctp_transfer.specs.spec.endpoint.BegunResets.{rto_of};
+ghost use Rattle.dcsctp_transfer.specs.spec.endpoint.ShutdownOutcomes.{is_all_acknowledged};
+ghost use Rattle.dcsctp_transfer.specs.spec.endpoint.Timers.{running_deadline};
 ghost use Rattle.dcsctp_core.specs.Phases.{pending_from, phase_set, t2_told, t2_told_in};
 ghost use Rattle.dcsctp_core.specs.Timing.{expiry_of};
 ghost use Rattle.dcsctp_core.specs.View.{t2_in, t2_of, transfer_of};
 
 use crate::expiry::{Expiry, expire};
 use crate::state::{OpenPhase, OpenState, State};
-use dcsctp_api::SocketTime;
+use dcsctp_transfer::api::SocketTime;
 use std::time::Duration;
 
 impl OpenPhase {

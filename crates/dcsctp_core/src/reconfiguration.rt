@@ -2,12 +2,12 @@
 //! 5.1.1).
 
 ghost use Rattle.std.specs.Prelude.{◌≡◌};
-ghost use Rattle.dcsctp_machine.specs.Timers.{running_deadline, expires_at};
+ghost use Rattle.dcsctp_transfer.specs.spec.endpoint.Timers.{running_deadline, expires_at};
 ghost use Rattle.dcsctp_core.specs.Reconfiguring.{is_unanswered, without_retry, reconfiguration_told};
 ghost use Rattle.dcsctp_core.specs.View.{timer_of};
 
 use crate::transmission_control_block::TransmissionControlBlock;
-use dcsctp_api::SocketTime;
+use dcsctp_transfer::api::SocketTime;
 
 impl TransmissionControlBlock {
     // Advances the timer of the outstanding request to the present moment, and returns whether it expires. It

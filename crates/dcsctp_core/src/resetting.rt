@@ -4,23 +4,23 @@ ghost use Rattle.std.specs.Prelude.{◌≡◌, ◌≤◌, ◌+◌, ◌-◌, ◌*
 ghost use Rattle.std.specs.List.{flat_map, AllByRecursion};
 ghost use Rattle.std.specs.Int.{w16, to_be_bytes};
 ghost use Rattle.std.specs.Duration.{as_nanos};
-ghost use Rattle.dcsctp_wire.specs.Spelling.{chunk_bytes};
-ghost use Rattle.dcsctp_wire_build.specs.Building.{bytes_remaining};
-ghost use Rattle.dcsctp_machine.specs.transfer.OwnResets.{ready_streams};
-ghost use Rattle.dcsctp_machine.specs.Timers.{started};
-ghost use Rattle.dcsctp_machine.specs.Ids.{stream_numbers};
-ghost use Rattle.dcsctp_machine.specs.Packet.{chunk_out};
-ghost use Rattle.dcsctp_machine.specs.transfer.Transfer.{is_none_ready};
-ghost use Rattle.dcsctp_machine.specs.control.FlushChanges.{reset_request};
-ghost use Rattle.dcsctp_machine.specs.turns.BegunResets.{streams_within, reconfiguration_settings};
+ghost use Rattle.dcsctp_transfer.specs.wire.Spelling.{chunk_bytes};
+ghost use Rattle.dcsctp_transfer.specs.wire_build.Building.{bytes_remaining};
+ghost use Rattle.dcsctp_transfer.specs.spec.queues.OwnResets.{ready_streams};
+ghost use Rattle.dcsctp_transfer.specs.spec.endpoint.Timers.{started};
+ghost use Rattle.dcsctp_transfer.specs.types.Ids.{stream_numbers};
+ghost use Rattle.dcsctp_transfer.specs.spec.Packet.{chunk_out};
+ghost use Rattle.dcsctp_transfer.specs.spec.queues.Transfer.{is_none_ready};
+ghost use Rattle.dcsctp_transfer.specs.spec.association.FlushChanges.{reset_request};
+ghost use Rattle.dcsctp_transfer.specs.spec.endpoint.BegunResets.{streams_within, reconfiguration_settings};
 ghost use Rattle.dcsctp_core.specs.Resetting.{AddsRequest, HasRoom, IsStream, StartsReset, BeginsReset, reset_of};
 
 use crate::transmission_control_block::{ResetRequest, TransmissionControlBlock};
-use dcsctp_api::{SocketTime, StreamId};
-use dcsctp_send_timer::{BackoffAlgorithm, Timer};
-use dcsctp_transfer::QueuedMessages;
-use dcsctp_wire::{Chunk, OutgoingSsnResetRequestParameter, Parameter, ReConfigChunk};
-use dcsctp_wire_build::SctpPacketBuilder;
+use dcsctp_transfer::SendQueue;
+use dcsctp_transfer::api::{SocketTime, StreamId};
+use dcsctp_transfer::send_timer::{BackoffAlgorithm, Timer};
+use dcsctp_transfer::wire::{Chunk, OutgoingSsnResetRequestParameter, Parameter, ReConfigChunk};
+use dcsctp_transfer::wire_build::SctpPacketBuilder;
 use std::alloc::{AllocError, Global};
 use std::time::Duration;
 
@@ -142,7 +142,7 @@ impl TransmissionControlBlock {
         &mut self,
         alloc: Global,
         now: SocketTime,
-        queue: &mut QueuedMessages,
+        queue: &mut SendQueue,
         packet: &mut SctpPacketBuilder,
     ) -> Result<(), AllocError>
         ensures ok { OnOk result (BeginsReset now queue.old self.old packet.old queue.new self.new packet.new) }

@@ -1,19 +1,19 @@
 //! What a user is shown of a socket's work, and why it can't be handed over.
 
 ghost use Rattle.std.specs.Prelude.{◌≡◌, Some};
-ghost use Rattle.dcsctp_machine.specs.declared.association.Held.{Held};
-ghost use Rattle.dcsctp_machine.specs.Endpoint.{established, held_in};
-ghost use Rattle.dcsctp_machine.specs.Handover.{readiness_of, readiness_open};
-ghost use Rattle.dcsctp_machine.specs.Soundness.{IsSoundBelow};
-ghost use Rattle.dcsctp_machine.specs.transfer.Incoming.{AreInOrder};
-ghost use Rattle.dcsctp_api.specs.Messages.{incoming_streams};
-ghost use Rattle.dcsctp_api.specs.Metrics.{ShowsMetrics};
+ghost use Rattle.dcsctp_transfer.specs.types.declared.association.Held.{Held};
+ghost use Rattle.dcsctp_transfer.specs.spec.endpoint.Endpoint.{established, held_in};
+ghost use Rattle.dcsctp_transfer.specs.spec.Handover.{readiness_of, readiness_open};
+ghost use Rattle.dcsctp_transfer.specs.spec.Soundness.{IsSoundBelow};
+ghost use Rattle.dcsctp_transfer.specs.spec.queues.Incoming.{AreInOrder};
+ghost use Rattle.dcsctp_transfer.specs.api.Messages.{incoming_streams};
+ghost use Rattle.dcsctp_transfer.specs.api.Metrics.{ShowsMetrics};
 ghost use Rattle.dcsctp_core.specs.View.{endpoint_of};
 
 use crate::context::Context;
 use crate::state::{OpenPhase, State};
-use dcsctp_api::Metrics;
-use dcsctp_machine::HandoverReadiness;
+use dcsctp_transfer::api::Metrics;
+use dcsctp_transfer::types::HandoverReadiness;
 
 impl<R> Context<R> {
     /// What was counted over the socket's life, and how its association is; `None` where the peer isn't known.

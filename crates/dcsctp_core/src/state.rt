@@ -2,8 +2,8 @@
 
 use crate::expiry::{Expiry, expire};
 use crate::transmission_control_block::TransmissionControlBlock;
-use dcsctp_api::{Association, Pair, Phase, SocketState, SocketTime};
-use dcsctp_send_timer::Timer;
+use dcsctp_transfer::api::{Association, Pair, Phase, SocketState, SocketTime};
+use dcsctp_transfer::send_timer::Timer;
 
 /// An INIT ACK is awaited.
 #[derive(Debug, Drop)]
@@ -109,9 +109,9 @@ pub enum State {
 
 impl OpenPhase {
     ghost use Rattle.std.specs.Prelude.{◌≡◌};
-    ghost use Rattle.dcsctp_machine.specs.Endpoint.{phase_of};
-    ghost use Rattle.dcsctp_machine.specs.turns.MessageOutcomes.{is_shutting_in};
-    ghost use Rattle.dcsctp_api.specs.Calls.{open_state};
+    ghost use Rattle.dcsctp_transfer.specs.spec.endpoint.Endpoint.{phase_of};
+    ghost use Rattle.dcsctp_transfer.specs.spec.endpoint.MessageOutcomes.{is_shutting_in};
+    ghost use Rattle.dcsctp_transfer.specs.api.Calls.{open_state};
     ghost use Rattle.dcsctp_core.specs.View.{phase_in};
 
     /// The phase as a user sees it.
@@ -153,12 +153,12 @@ impl OpenPhase {
 }
 
 impl State {
-    ghost use Rattle.dcsctp_machine.specs.turns.MessageOutcomes.{is_shutting_down};
+    ghost use Rattle.dcsctp_transfer.specs.spec.endpoint.MessageOutcomes.{is_shutting_down};
     ghost use Rattle.std.specs.Prelude.{◌≡◌};
-    ghost use Rattle.dcsctp_machine.specs.Endpoint.{own_tag, association_of};
-    ghost use Rattle.dcsctp_api.specs.Calls.{socket_state_of, is_closed};
+    ghost use Rattle.dcsctp_transfer.specs.spec.endpoint.Endpoint.{own_tag, association_of};
+    ghost use Rattle.dcsctp_transfer.specs.api.Calls.{socket_state_of, is_closed};
     ghost use Rattle.std.specs.Option.{option_map};
-    ghost use Rattle.dcsctp_machine.specs.Timers.{running_deadline};
+    ghost use Rattle.dcsctp_transfer.specs.spec.endpoint.Timers.{running_deadline};
     ghost use Rattle.std.specs.Borrow.{sem};
     ghost use Rattle.dcsctp_core.specs.View.{core_of, tcb_of, t1_of, established_from};
     ghost use Rattle.dcsctp_core.specs.Lending.{LendsTcb};

@@ -1,16 +1,16 @@
 //! The deadlines of a socket by its timers, and what its list of them tells.
 
 ghost use Rattle.std.specs.Prelude.{◌≡◌, [], true};
-ghost use Rattle.dcsctp_machine.specs.Turn.{clock_at};
-ghost use Rattle.dcsctp_machine.specs.TimeTurns.{deadline, next_moment, own_timer, t1_timer, t2_timer, timers_in, NoneIsDue};
-ghost use Rattle.dcsctp_machine.specs.turns.OwnTimers.{acknowledgement_delay, reconfiguration, retransmission};
+ghost use Rattle.dcsctp_transfer.specs.spec.endpoint.Turn.{clock_at};
+ghost use Rattle.dcsctp_transfer.specs.spec.endpoint.TimeTurns.{deadline, next_moment, own_timer, t1_timer, t2_timer, timers_in, NoneIsDue};
+ghost use Rattle.dcsctp_transfer.specs.spec.endpoint.OwnTimers.{acknowledgement_delay, reconfiguration, retransmission};
 ghost use Rattle.dcsctp_core.specs.View.{core_of, endpoint_of};
 ghost use Rattle.dcsctp_core.specs.Timeout.{is_later, is_quiet, listed_open, next_by, IsTold};
 
 use crate::context::Context;
 use crate::deadlines::{DeadlineKind, Deadlines};
 use crate::state::State;
-use dcsctp_api::SocketTime;
+use dcsctp_transfer::api::SocketTime;
 use rand_core::Rng;
 
 // When a delayed acknowledgement is due, if one is delayed.

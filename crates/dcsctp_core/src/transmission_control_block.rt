@@ -1,24 +1,24 @@
 //! An association with a peer (RFC 9260, section 14.2).
 
 ghost use Rattle.std.specs.Prelude.{◌≡◌, ◌==◌, ◌+◌, ◌<◌, ◌^◌, Some, bit_or, is_some, length, IfOk};
-ghost use Rattle.dcsctp_machine.specs.Readiness.{reason_where, pending_stream_reset_request};
-ghost use Rattle.dcsctp_machine.specs.Settings.{IsValid};
-ghost use Rattle.dcsctp_machine.specs.Soundness.{IsSoundTransfer};
-ghost use Rattle.dcsctp_machine.specs.transfer.Chunks.{chunk_said};
-ghost use Rattle.dcsctp_machine.specs.transfer.Outstanding.{header_of};
-ghost use Rattle.dcsctp_machine.specs.transfer.Readiness.{transfer_readiness};
-ghost use Rattle.dcsctp_wire.specs.Content.{chunk_content};
+ghost use Rattle.dcsctp_transfer.specs.types.Readiness.{reason_where, pending_stream_reset_request};
+ghost use Rattle.dcsctp_transfer.specs.types.Settings.{IsValid};
+ghost use Rattle.dcsctp_transfer.specs.spec.Soundness.{IsSoundTransfer};
+ghost use Rattle.dcsctp_transfer.specs.spec.queues.Chunks.{chunk_said};
+ghost use Rattle.dcsctp_transfer.specs.spec.queues.Outstanding.{header_of};
+ghost use Rattle.dcsctp_transfer.specs.spec.queues.Readiness.{transfer_readiness};
+ghost use Rattle.dcsctp_transfer.specs.wire.Content.{chunk_content};
 ghost use Rattle.dcsctp_core.specs.View.{held_of, number_of, IsNew};
 ghost use Rattle.dcsctp_core.specs.Flushing.{empty_packet};
 
-use dcsctp_api::{
+use dcsctp_transfer::api::{
     Association, Capabilities, Held, Options, Pair, Phase, ReconfigurationResponseResult, StreamId,
 };
-use dcsctp_machine::HandoverReadiness;
-use dcsctp_send_timer::Timer;
+use dcsctp_transfer::send_timer::Timer;
+use dcsctp_transfer::types::HandoverReadiness;
+use dcsctp_transfer::wire::Chunk;
+use dcsctp_transfer::wire_build::SctpPacketBuilder;
 use dcsctp_transfer::{DataToSend, Transfer, make_data_chunk};
-use dcsctp_wire::Chunk;
-use dcsctp_wire_build::SctpPacketBuilder;
 use std::alloc::{AllocError, Global};
 
 /// What an INIT ACK or a cookie says about the peer.

@@ -25,7 +25,7 @@ impl Model for TxErrorCounter {
 
 impl TxErrorCounter {
     ghost use Rattle.std.specs.Prelude.{◌≡◌};
-    ghost use Rattle.dcsctp_machine.specs.turns.HeartbeatOutcomes.{error_counted, is_exhausted};
+    ghost use Rattle.dcsctp_transfer.specs.spec.endpoint.HeartbeatOutcomes.{error_counted, is_exhausted};
 
     /// No error was counted yet. `None` is no limit.
     pub fn new(limit: Option<u32>) -> TxErrorCounter

@@ -5,17 +5,17 @@ use Rattle.std.proofs.lemmas.Bool.Decides.{nat_tests}
 use Rattle.std.specs.Prelude.{OnOk}
 use Rattle.std.specs.declared.alloc.AllocError.{AllocError}
 use Rattle.rand_core.specs.Stream.{Stream}
-use Rattle.dcsctp_machine.specs.declared.kinds.ErrorKind.TheVariants.{NotConnected}
-use Rattle.dcsctp_machine.specs.transfer.Tracker.{is_valid_tsn, is_new_tsn, observed, is_forward, after_forward}
-use Rattle.dcsctp_machine.specs.transfer.Reassembly.{ReassemblyState, is_above_watermark}
-use Rattle.dcsctp_machine.specs.declared.arrivals.SkippedTo.{SkippedTo}
-use Rattle.dcsctp_machine.specs.transfer.Arrivals.{Arrival}
-use Rattle.dcsctp_machine.proofs.ReassemblyLemmas.{any_added, any_skipped}
-use Rattle.dcsctp_machine.specs.transfer.Transfer.{Transfer}
-use Rattle.dcsctp_machine.specs.Endpoint.{Endpoint, held_in}
-use Rattle.dcsctp_machine.specs.Outcome.{Outcome, still, reports}
-use Rattle.dcsctp_machine.specs.turns.TransferMoves.{AddsWhere, ReceivesWhere, ReceivesData, SkipsWhere, MovesWhere, MovesForward}
-use Rattle.dcsctp_machine.specs.turns.DataOutcomes.{with_transfer, no_user_data_outcome, not_connected_text, ReceiveTurn, DataWhere, ForwardTurn}
+use Rattle.dcsctp_core.specs.types.declared.kinds.ErrorKind.TheVariants.{NotConnected}
+use Rattle.dcsctp_core.specs.spec.queues.Tracker.{is_valid_tsn, is_new_tsn, observed, is_forward, after_forward}
+use Rattle.dcsctp_core.specs.spec.queues.Reassembly.{ReassemblyState, is_above_watermark}
+use Rattle.dcsctp_core.specs.types.declared.arrivals.SkippedTo.{SkippedTo}
+use Rattle.dcsctp_core.specs.spec.queues.Arrivals.{Arrival}
+use Rattle.dcsctp_core.proofs.spec_lemmas.ReassemblyLemmas.{any_added, any_skipped}
+use Rattle.dcsctp_core.specs.spec.queues.Transfer.{Transfer}
+use Rattle.dcsctp_core.specs.spec.endpoint.Endpoint.{Endpoint, held_in}
+use Rattle.dcsctp_core.specs.spec.endpoint.Outcome.{Outcome, still, reports}
+use Rattle.dcsctp_core.specs.spec.endpoint.TransferMoves.{AddsWhere, ReceivesWhere, ReceivesData, SkipsWhere, MovesWhere, MovesForward}
+use Rattle.dcsctp_core.specs.spec.endpoint.DataOutcomes.{with_transfer, no_user_data_outcome, not_connected_text, ReceiveTurn, DataWhere, ForwardTurn}
 use Rattle.dcsctp_core.specs.declared.context.Context.{Context}
 use Rattle.dcsctp_core.specs.View.{View, tcb_of, transfer_of, endpoint_of, view_of}
 use Rattle.dcsctp_core.specs.Handling.{Tries, Takes, report_turn, TakesIn, CutIn, TakesOne}

@@ -1,24 +1,24 @@
 -- The end of a packet: what came with it is acknowledged.
 use Rattle.std.proofs.Common.{◌≡◌, ◌==◌, if◌then◌else◌, ◌&&◌, ◌||◌, Bool, true, false, Option, None, Some, Result, Ok, Err, refl, sym, ap, subst, ◌∙◌}
 use Rattle.rand_core.specs.Stream.{Stream}
-use Rattle.dcsctp_wire_build.specs.Building.{Building}
-use Rattle.dcsctp_wire.specs.Content.{sack_chunk}
-use Rattle.dcsctp_machine.specs.declared.association.Held.{Held}
-use Rattle.dcsctp_machine.specs.transfer.Reassembly.{remaining_bytes}
-use Rattle.dcsctp_machine.specs.transfer.Tracker.{TrackerState, after_packet_end, is_acknowledgement_due, owes_acknowledgement, delayed_acknowledgement, delay_over, sack_of, sacked}
-use Rattle.dcsctp_machine.specs.transfer.Transfer.{Transfer}
-use Rattle.dcsctp_machine.specs.Endpoint.{Endpoint, held_in}
-use Rattle.dcsctp_machine.specs.Outcome.{Outcome, still}
-use Rattle.dcsctp_machine.specs.turns.FlushOutcomes.{own_sack, draft_to, flush_of, first_ask, packets_allowed}
-use Rattle.dcsctp_machine.specs.turns.DataOutcomes.{with_transfer, with_tracker, delay_outcome, acknowledging, AnswersPacket, EndWhere, EndsBy}
-use Rattle.dcsctp_machine.proofs.AnswerLemmas.{any_answers}
-use Rattle.dcsctp_transfer.specs.Filling.{with_chunk, is_sack_wanted, Acknowledges}
+use Rattle.dcsctp_core.specs.wire_build.Building.{Building}
+use Rattle.dcsctp_core.specs.wire.Content.{sack_chunk}
+use Rattle.dcsctp_core.specs.types.declared.association.Held.{Held}
+use Rattle.dcsctp_core.specs.spec.queues.Reassembly.{remaining_bytes}
+use Rattle.dcsctp_core.specs.spec.queues.Tracker.{TrackerState, after_packet_end, is_acknowledgement_due, owes_acknowledgement, delayed_acknowledgement, delay_over, sack_of, sacked}
+use Rattle.dcsctp_core.specs.spec.queues.Transfer.{Transfer}
+use Rattle.dcsctp_core.specs.spec.endpoint.Endpoint.{Endpoint, held_in}
+use Rattle.dcsctp_core.specs.spec.endpoint.Outcome.{Outcome, still}
+use Rattle.dcsctp_core.specs.spec.endpoint.FlushOutcomes.{own_sack, draft_to, flush_of, first_ask, packets_allowed}
+use Rattle.dcsctp_core.specs.spec.endpoint.DataOutcomes.{with_transfer, with_tracker, delay_outcome, acknowledging, AnswersPacket, EndWhere, EndsBy}
+use Rattle.dcsctp_core.proofs.spec_lemmas.AnswerLemmas.{any_answers}
+use Rattle.dcsctp_core.specs.transfer.Filling.{with_chunk, is_sack_wanted, Acknowledges}
 use Rattle.dcsctp_core.specs.declared.context.Context.{Context}
 use Rattle.dcsctp_core.specs.declared.state.State.{State}
 use Rattle.dcsctp_core.specs.declared.transmission_control_block.TransmissionControlBlock.{TransmissionControlBlock}
 use Rattle.dcsctp_core.specs.View.{View, core_of, tcb_of, held_of, transfer_of, endpoint_of, view_of, Moves}
-use Rattle.dcsctp_machine.specs.TimeTurns.{own_timer, has_come, delay_deadline}
-use Rattle.dcsctp_machine.specs.turns.OwnTimers.{acknowledgement_delay}
+use Rattle.dcsctp_core.specs.spec.endpoint.TimeTurns.{own_timer, has_come, delay_deadline}
+use Rattle.dcsctp_core.specs.spec.endpoint.OwnTimers.{acknowledgement_delay}
 use Rattle.dcsctp_core.specs.Timing.{ExpiryTurn, ExpiresAlways}
 use Rattle.dcsctp_core.proofs.LendingLemmas.{found, nobody, lent, kept, left_with}
 use Rattle.dcsctp_core.specs.Handling.{TakesIn, CutIn, TakesOne}

@@ -2,21 +2,21 @@
 use Rattle.std.proofs.Common.{◌≡◌, ℕ, Bool, true, false, Option, Some, List, [], refl, sym, ap, subst, ◌∙◌}
 use Rattle.std.specs.Prelude.{is_some}
 use Rattle.rand_core.specs.Stream.{Stream}
-use Rattle.dcsctp_machine.specs.declared.association.Pair.{Pair}
-use Rattle.dcsctp_machine.specs.declared.association.Held.{Held}
-use Rattle.dcsctp_machine.specs.Event.{Event}
-use Rattle.dcsctp_machine.specs.transfer.Transfer.{Transfer}
-use Rattle.dcsctp_machine.specs.Endpoint.{Endpoint, Core, closed, cookie_wait, cookie_echoed, open_in, OpenPhase, established, shutdown_pending, shutdown_sent, shutdown_received, shutdown_ack_sent, held_in}
-use Rattle.dcsctp_machine.specs.Outcome.{Outcome, behind}
-use Rattle.dcsctp_machine.specs.turns.FlushOutcomes.{draft_to, flush_of, first_ask, packets_allowed}
-use Rattle.dcsctp_machine.specs.turns.ShutdownOutcomes.{is_all_acknowledged, step_by, step_outcome}
-use Rattle.dcsctp_machine.proofs.AnswerLemmas.{any_answers}
+use Rattle.dcsctp_core.specs.types.declared.association.Pair.{Pair}
+use Rattle.dcsctp_core.specs.types.declared.association.Held.{Held}
+use Rattle.dcsctp_core.specs.spec.endpoint.Event.{Event}
+use Rattle.dcsctp_core.specs.spec.queues.Transfer.{Transfer}
+use Rattle.dcsctp_core.specs.spec.endpoint.Endpoint.{Endpoint, Core, closed, cookie_wait, cookie_echoed, open_in, OpenPhase, established, shutdown_pending, shutdown_sent, shutdown_received, shutdown_ack_sent, held_in}
+use Rattle.dcsctp_core.specs.spec.endpoint.Outcome.{Outcome, behind}
+use Rattle.dcsctp_core.specs.spec.endpoint.FlushOutcomes.{draft_to, flush_of, first_ask, packets_allowed}
+use Rattle.dcsctp_core.specs.spec.endpoint.ShutdownOutcomes.{is_all_acknowledged, step_by, step_outcome}
+use Rattle.dcsctp_core.proofs.spec_lemmas.AnswerLemmas.{any_answers}
 use Rattle.dcsctp_core.specs.declared.context.Context.{Context}
 use Rattle.dcsctp_core.specs.View.{View, core_of, transfer_of, endpoint_of, view_of, Moves}
 use Rattle.dcsctp_core.specs.Handling.{TakesIn, CutIn}
 use Rattle.dcsctp_core.proofs.AtOnceLemmas.{any_fast}
 use Rattle.dcsctp_core.proofs.Composing.{moves_behind, cut_behind, cut_first}
-use Rattle.dcsctp_core_shutdown.specs.Shutdown.{step_turn}
+use Rattle.dcsctp_core_ends.specs.Shutdown.{step_turn}
 use Rattle.dcsctp_core_data.specs.Sacks.{ResendsBy, Resends, ResendsAt, ProceedsBy, Proceeds, ProceedsAt}
 use Rattle.dcsctp_core_data.proofs.ResendLemmas.{Below, below_of, fast_adds, fast_draws}
 

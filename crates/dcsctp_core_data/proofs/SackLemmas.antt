@@ -4,28 +4,28 @@ use Rattle.std.specs.Prelude.{is_some}
 use Rattle.std.proofs.lemmas.List.{append-nil, map-append}
 use Rattle.std.specs.declared.alloc.AllocError.{AllocError}
 use Rattle.rand_core.specs.Stream.{Stream}
-use Rattle.dcsctp_wire.specs.Content.{SackContent}
-use Rattle.dcsctp_machine.specs.declared.association.Held.{Held}
-use Rattle.dcsctp_machine.specs.declared.kinds.ErrorKind.TheVariants.{NotConnected}
-use Rattle.dcsctp_machine.specs.Settings.{Ports, ports_of}
-use Rattle.dcsctp_machine.specs.Event.{Event}
-use Rattle.dcsctp_machine.specs.Packet.{Emission}
-use Rattle.dcsctp_machine.specs.transfer.Transfer.{Transfer}
-use Rattle.dcsctp_machine.specs.Endpoint.{Endpoint, held_in}
-use Rattle.dcsctp_machine.specs.Outcome.{Outcome, still, reports}
-use Rattle.dcsctp_machine.specs.turns.FlushOutcomes.{draft_to, flush_of}
-use Rattle.dcsctp_machine.specs.turns.TransferMoves.{TakesSack}
-use Rattle.dcsctp_machine.specs.turns.DataOutcomes.{with_transfer, no_tcb_text, sack_taken, AcknowledgesBy, SackWhere, SackBy, SackTurn}
-use Rattle.dcsctp_machine.specs.transfer.Acknowledging.{is_sack_valid, ends_delivery, told_by, delivered, delivered_by}
-use Rattle.dcsctp_machine.specs.transfer.Items.{Item}
-use Rattle.dcsctp_machine.specs.transfer.Outstanding.{acknowledged_by}
-use Rattle.dcsctp_machine.specs.transfer.Retransmission.{RetransmissionState}
-use Rattle.dcsctp_machine.proofs.SackOutcomeLemmas.{some_taken}
-use Rattle.dcsctp_machine.specs.turns.ShutdownOutcomes.{step_outcome}
-use Rattle.dcsctp_api.specs.Calls.{user_event}
-use Rattle.dcsctp_api.specs.Events.{event_content}
-use Rattle.dcsctp_api.specs.declared.events.SocketEvent.{SocketEvent}
-use Rattle.dcsctp_transfer.specs.declared.sacks.HandledSack.TheVariants.{Invalid, Valid}
+use Rattle.dcsctp_core.specs.wire.Content.{SackContent}
+use Rattle.dcsctp_core.specs.types.declared.association.Held.{Held}
+use Rattle.dcsctp_core.specs.types.declared.kinds.ErrorKind.TheVariants.{NotConnected}
+use Rattle.dcsctp_core.specs.types.Settings.{Ports, ports_of}
+use Rattle.dcsctp_core.specs.spec.endpoint.Event.{Event}
+use Rattle.dcsctp_core.specs.spec.Packet.{Emission}
+use Rattle.dcsctp_core.specs.spec.queues.Transfer.{Transfer}
+use Rattle.dcsctp_core.specs.spec.endpoint.Endpoint.{Endpoint, held_in}
+use Rattle.dcsctp_core.specs.spec.endpoint.Outcome.{Outcome, still, reports}
+use Rattle.dcsctp_core.specs.spec.endpoint.FlushOutcomes.{draft_to, flush_of}
+use Rattle.dcsctp_core.specs.spec.endpoint.TransferMoves.{TakesSack}
+use Rattle.dcsctp_core.specs.spec.endpoint.DataOutcomes.{with_transfer, no_tcb_text, sack_taken, AcknowledgesBy, SackWhere, SackBy, SackTurn}
+use Rattle.dcsctp_core.specs.spec.queues.Acknowledging.{is_sack_valid, ends_delivery, told_by, delivered, delivered_by}
+use Rattle.dcsctp_core.specs.spec.queues.Items.{Item}
+use Rattle.dcsctp_core.specs.spec.queues.Outstanding.{acknowledged_by}
+use Rattle.dcsctp_core.specs.spec.queues.Retransmission.{RetransmissionState}
+use Rattle.dcsctp_core.proofs.spec_lemmas.SackOutcomeLemmas.{some_taken}
+use Rattle.dcsctp_core.specs.spec.endpoint.ShutdownOutcomes.{step_outcome}
+use Rattle.dcsctp_core.specs.api.Calls.{user_event}
+use Rattle.dcsctp_core.specs.api.Events.{event_content}
+use Rattle.dcsctp_core.specs.api.declared.events.SocketEvent.{SocketEvent}
+use Rattle.dcsctp_core.specs.transfer.declared.sacks.HandledSack.TheVariants.{Invalid, Valid}
 use Rattle.dcsctp_core.specs.declared.context.Context.{Context}
 use Rattle.dcsctp_core.specs.declared.state.State.{State}
 use Rattle.dcsctp_core.specs.View.{View, tcb_of, transfer_of, endpoint_of, view_of, Moves, CutTurn}

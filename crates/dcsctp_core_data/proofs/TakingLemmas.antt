@@ -1,7 +1,7 @@
 -- Turns that take place, or are cut, from one kind to another.
 use Rattle.std.proofs.Common.{Result, Ok, Err, refl, ap}
 use Rattle.rand_core.specs.Stream.{Stream}
-use Rattle.dcsctp_machine.specs.Outcome.{Outcome}
+use Rattle.dcsctp_core.specs.spec.endpoint.Outcome.{Outcome}
 use Rattle.dcsctp_core.specs.declared.context.Context.{Context}
 use Rattle.dcsctp_core.specs.View.{View, view_of}
 use Rattle.dcsctp_core.specs.Handling.{Tries, Takes, CutIn, TakesOne}

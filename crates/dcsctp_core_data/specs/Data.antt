@@ -1,15 +1,15 @@
 -- What the handlers of data do, as turns of a socket's view (RFC 9260, section 6; RFC 3758; RFC 8260).
 use Rattle.std.specs.Prelude.{◌≡◌, ℕ, true, Option, Some, Result, List, [], ◌∷◌}
 use Rattle.rand_core.specs.Stream.{Stream}
-use Rattle.dcsctp_wire.specs.Content.{no_user_data}
-use Rattle.dcsctp_machine.specs.declared.association.Held.{Held}
-use Rattle.dcsctp_machine.specs.Packet.{error_of, plain}
-use Rattle.dcsctp_machine.specs.transfer.Transfer.{Transfer}
-use Rattle.dcsctp_machine.specs.Endpoint.{Endpoint, Core, cookie_echoed, open_in, held_in}
-use Rattle.dcsctp_machine.specs.Outcome.{Outcome, still, emits, to_peer}
-use Rattle.dcsctp_machine.specs.turns.DataOutcomes.{DataTurn, no_user_data_outcome, ForwardTurn, AnswersPacket, EndsBy}
-use Rattle.dcsctp_machine.specs.declared.arrivals.SkippedTo.{SkippedTo}
-use Rattle.dcsctp_machine.specs.transfer.Arrivals.{Arrival}
+use Rattle.dcsctp_core.specs.wire.Content.{no_user_data}
+use Rattle.dcsctp_core.specs.types.declared.association.Held.{Held}
+use Rattle.dcsctp_core.specs.spec.Packet.{error_of, plain}
+use Rattle.dcsctp_core.specs.spec.queues.Transfer.{Transfer}
+use Rattle.dcsctp_core.specs.spec.endpoint.Endpoint.{Endpoint, Core, cookie_echoed, open_in, held_in}
+use Rattle.dcsctp_core.specs.spec.endpoint.Outcome.{Outcome, still, emits, to_peer}
+use Rattle.dcsctp_core.specs.spec.endpoint.DataOutcomes.{DataTurn, no_user_data_outcome, ForwardTurn, AnswersPacket, EndsBy}
+use Rattle.dcsctp_core.specs.types.declared.arrivals.SkippedTo.{SkippedTo}
+use Rattle.dcsctp_core.specs.spec.queues.Arrivals.{Arrival}
 use Rattle.dcsctp_core_data.specs.declared.arrival.DataPart.{DataPart}
 use Rattle.dcsctp_core.specs.declared.context.Context.{Context}
 use Rattle.dcsctp_core.specs.View.{View, transfer_of}

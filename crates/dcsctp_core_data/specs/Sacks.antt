@@ -1,15 +1,15 @@
 -- What the handler of SACK does, as turns of a socket's view (RFC 9260, sections 6.2.1 and 7.2.4).
 use Rattle.std.specs.Prelude.{◌≡◌, true, Option, Some, Result, List, [], is_some}
 use Rattle.rand_core.specs.Stream.{Stream}
-use Rattle.dcsctp_wire.specs.Content.{SackContent}
-use Rattle.dcsctp_machine.specs.declared.association.Held.{Held}
-use Rattle.dcsctp_machine.specs.transfer.Transfer.{Transfer}
-use Rattle.dcsctp_machine.specs.transfer.Retransmission.{has_fast_retransmit}
-use Rattle.dcsctp_machine.specs.Endpoint.{Endpoint, held_in}
-use Rattle.dcsctp_machine.specs.Outcome.{Outcome, still, behind}
-use Rattle.dcsctp_machine.specs.turns.FlushOutcomes.{Answer, draft_to, flush_of, FlushAnswers}
-use Rattle.dcsctp_machine.specs.turns.DataOutcomes.{SackTurn, FastRetransmits}
-use Rattle.dcsctp_machine.specs.turns.ShutdownOutcomes.{step_outcome}
+use Rattle.dcsctp_core.specs.wire.Content.{SackContent}
+use Rattle.dcsctp_core.specs.types.declared.association.Held.{Held}
+use Rattle.dcsctp_core.specs.spec.queues.Transfer.{Transfer}
+use Rattle.dcsctp_core.specs.spec.queues.Retransmission.{has_fast_retransmit}
+use Rattle.dcsctp_core.specs.spec.endpoint.Endpoint.{Endpoint, held_in}
+use Rattle.dcsctp_core.specs.spec.endpoint.Outcome.{Outcome, still, behind}
+use Rattle.dcsctp_core.specs.spec.endpoint.FlushOutcomes.{Answer, draft_to, flush_of, FlushAnswers}
+use Rattle.dcsctp_core.specs.spec.endpoint.DataOutcomes.{SackTurn, FastRetransmits}
+use Rattle.dcsctp_core.specs.spec.endpoint.ShutdownOutcomes.{step_outcome}
 use Rattle.dcsctp_core.specs.declared.context.Context.{Context}
 use Rattle.dcsctp_core.specs.View.{View, transfer_of}
 use Rattle.dcsctp_core.specs.Handling.{TakesOne}

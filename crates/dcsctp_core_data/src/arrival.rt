@@ -1,17 +1,17 @@
 //! DATA (RFC 9260, section 3.3.1) and I-DATA (RFC 8260, section 2.1) that are received.
 
 ghost use Rattle.std.specs.Prelude.{◌≡◌, IfOk};
-ghost use Rattle.dcsctp_wire.specs.Content.{data_content, i_data_content};
-ghost use Rattle.dcsctp_machine.specs.transfer.Arrivals.{data_arrival, i_data_arrival};
-ghost use Rattle.dcsctp_receive_reassembly.specs.Streams.{chunk_of};
+ghost use Rattle.dcsctp_core.specs.wire.Content.{data_content, i_data_content};
+ghost use Rattle.dcsctp_core.specs.spec.queues.Arrivals.{data_arrival, i_data_arrival};
+ghost use Rattle.dcsctp_core.specs.receive_reassembly.Streams.{chunk_of};
 ghost use Rattle.dcsctp_core.specs.Handling.{TakesOne};
 ghost use Rattle.dcsctp_core_data.specs.Data.{part_arrival, DataAt};
 
 use crate::refusal::{refuse_empty, report_not_connected};
-use dcsctp_api::{PpId, StreamId};
 use dcsctp_core::Context;
-use dcsctp_transfer::{Data, Numbering};
-use dcsctp_wire::{DataChunk, IDataChunk};
+use dcsctp_core::api::{PpId, StreamId};
+use dcsctp_core::transfer::{Data, Numbering};
+use dcsctp_core::wire::{DataChunk, IDataChunk};
 use rand_core::Rng;
 use std::alloc::{AllocError, Global};
 

@@ -1,14 +1,14 @@
 //! FORWARD-TSN (RFC 3758, section 3.6) and I-FORWARD-TSN (RFC 8260, section 2.3.1) that are received.
 
 ghost use Rattle.std.specs.Prelude.{◌≡◌, IfOk};
-ghost use Rattle.dcsctp_machine.specs.transfer.Arrivals.{skipped_in, messages_skipped_in};
+ghost use Rattle.dcsctp_core.specs.spec.queues.Arrivals.{skipped_in, messages_skipped_in};
 ghost use Rattle.dcsctp_core.specs.Handling.{TakesOne};
 ghost use Rattle.dcsctp_core_data.specs.Data.{ForwardAt};
 
-use dcsctp_api::StreamId;
 use dcsctp_core::Context;
-use dcsctp_transfer::SkippedTo;
-use dcsctp_wire::{ForwardTsnChunk, IForwardTsnChunk};
+use dcsctp_core::api::StreamId;
+use dcsctp_core::transfer::SkippedTo;
+use dcsctp_core::wire::{ForwardTsnChunk, IForwardTsnChunk};
 use rand_core::Rng;
 use std::alloc::{AllocError, Global};
 

@@ -1,14 +1,14 @@
 //! Data that is refused: without a payload, and without an association.
 
 ghost use Rattle.std.specs.Prelude.{[], ◌∷◌};
-ghost use Rattle.dcsctp_wire.specs.Content.{error_chunk, no_user_data};
-ghost use Rattle.dcsctp_machine.specs.turns.DataOutcomes.{not_connected_text, no_user_data_text};
+ghost use Rattle.dcsctp_core.specs.wire.Content.{error_chunk, no_user_data};
+ghost use Rattle.dcsctp_core.specs.spec.endpoint.DataOutcomes.{not_connected_text, no_user_data_text};
 ghost use Rattle.dcsctp_core.specs.Handling.{Emits, Takes, Tries, report_turn};
 ghost use Rattle.dcsctp_core_data.specs.Data.{no_user_data_told, no_user_data_turn};
 
-use dcsctp_api::ErrorKind;
 use dcsctp_core::Context;
-use dcsctp_wire::{Chunk, ErrorCause, ErrorChunk};
+use dcsctp_core::api::ErrorKind;
+use dcsctp_core::wire::{Chunk, ErrorCause, ErrorChunk};
 use rand_core::Rng;
 use std::alloc::AllocError;
 

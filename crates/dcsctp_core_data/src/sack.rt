@@ -1,17 +1,17 @@
 //! SACK (RFC 9260, sections 3.3.4 and 6.2.1) that is received.
 
 ghost use Rattle.std.specs.Prelude.{◌≡◌, if◌then◌else◌};
-ghost use Rattle.dcsctp_wire.specs.Content.{sack_content};
-ghost use Rattle.dcsctp_machine.specs.turns.DataOutcomes.{no_tcb_text};
+ghost use Rattle.dcsctp_core.specs.wire.Content.{sack_content};
+ghost use Rattle.dcsctp_core.specs.spec.endpoint.DataOutcomes.{no_tcb_text};
 ghost use Rattle.dcsctp_core.specs.View.{view_of, endpoint_of};
 ghost use Rattle.dcsctp_core.specs.Handling.{TakesOne, Tries, report_turn};
 ghost use Rattle.dcsctp_core_data.specs.Sacks.{SackAt, ProceedsWhereHeld, ResendsWhereHeld};
 
-use dcsctp_api::ErrorKind;
 use dcsctp_core::Context;
-use dcsctp_core_shutdown::step_shutdown;
-use dcsctp_transfer::HandledSack;
-use dcsctp_wire::SackChunk;
+use dcsctp_core::api::ErrorKind;
+use dcsctp_core::transfer::HandledSack;
+use dcsctp_core::wire::SackChunk;
+use dcsctp_core_ends::step_shutdown;
 use rand_core::Rng;
 use std::alloc::AllocError;
 

@@ -1,8 +1,8 @@
 //! The delay of an acknowledgement (RFC 9260, section 6.2) and the retransmission timer (RFC 9260, section
 //! 6.3). Called by `advance_time`.
 
-ghost use Rattle.dcsctp_machine.specs.TimeTurns.{own_timer};
-ghost use Rattle.dcsctp_machine.specs.turns.OwnTimers.{acknowledgement_delay, retransmission};
+ghost use Rattle.dcsctp_core.specs.spec.endpoint.TimeTurns.{own_timer};
+ghost use Rattle.dcsctp_core.specs.spec.endpoint.OwnTimers.{acknowledgement_delay, retransmission};
 ghost use Rattle.dcsctp_core.specs.Timing.{ExpiresAlways};
 
 use dcsctp_core::Context;

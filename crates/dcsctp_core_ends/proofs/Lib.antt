@@ -1,0 +1,3 @@
+pub mod EndLemmas
+pub mod FitLemmas
+pub mod T2Lemmas

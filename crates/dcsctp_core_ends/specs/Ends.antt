@@ -1,13 +1,13 @@
 -- What the handlers of ends and of ERROR do, as turns of a socket's view (RFC 9260, sections 3.3.10 and 9.1).
 use Rattle.std.specs.Prelude.{Option, None, List}
-use Rattle.dcsctp_machine.specs.declared.ends.Violation.{Violation}
-use Rattle.dcsctp_machine.specs.declared.ends.AbortReason.{AbortReason}
-use Rattle.dcsctp_machine.specs.Cause.{Cause}
-use Rattle.dcsctp_machine.specs.Outcome.{Outcome}
-use Rattle.dcsctp_machine.specs.turns.EndOutcomes.{abort_outcome, abort_sent, aborting_outcome}
-use Rattle.dcsctp_machine.specs.turns.PlainOutcomes.{violation_at, error_outcome}
-use Rattle.dcsctp_machine.specs.Packet.{Content, plain}
-use Rattle.dcsctp_machine.specs.Endpoint.{Core}
+use Rattle.dcsctp_core.specs.types.declared.ends.Violation.{Violation}
+use Rattle.dcsctp_core.specs.types.declared.ends.AbortReason.{AbortReason}
+use Rattle.dcsctp_core.specs.spec.endpoint.Cause.{Cause}
+use Rattle.dcsctp_core.specs.spec.endpoint.Outcome.{Outcome}
+use Rattle.dcsctp_core.specs.spec.endpoint.EndOutcomes.{abort_outcome, abort_sent, aborting_outcome}
+use Rattle.dcsctp_core.specs.spec.endpoint.PlainOutcomes.{violation_at, error_outcome}
+use Rattle.dcsctp_core.specs.spec.Packet.{Content, plain}
+use Rattle.dcsctp_core.specs.spec.endpoint.Endpoint.{Core}
 use Rattle.dcsctp_core.specs.View.{View}
 
 -- An ABORT with these causes came.

@@ -1,13 +1,13 @@
 //! ABORT (RFC 9260, section 9.1).
 
 ghost use Rattle.std.specs.Prelude.{map};
-ghost use Rattle.dcsctp_wire.specs.Content.{cause_content};
+ghost use Rattle.dcsctp_core.specs.wire.Content.{cause_content};
 ghost use Rattle.dcsctp_core.specs.Handling.{WorksWhole};
 ghost use Rattle.dcsctp_core_ends.specs.Ends.{abort_turn};
 
-use dcsctp_api::ErrorKind;
+use dcsctp_core::api::ErrorKind;
+use dcsctp_core::wire::{AbortChunk, causes_text};
 use dcsctp_core::{Context, Following, State};
-use dcsctp_wire::{AbortChunk, causes_text};
 use rand_core::Rng;
 use std::alloc::AllocError;
 

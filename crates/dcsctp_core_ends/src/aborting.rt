@@ -1,18 +1,18 @@
 //! Our own abort (RFC 9260, section 9.1).
 
 ghost use Rattle.std.specs.Prelude.{◌≡◌, true, false, IsOk, [], ◌∷◌};
-ghost use Rattle.dcsctp_wire.specs.Content.{cause_content, abort_chunk};
-ghost use Rattle.dcsctp_machine.specs.Cause.{reason_text, causes_of};
-ghost use Rattle.dcsctp_machine.specs.turns.EndOutcomes.{end_of};
-ghost use Rattle.dcsctp_api.specs.Calls.{is_closed};
+ghost use Rattle.dcsctp_core.specs.wire.Content.{cause_content, abort_chunk};
+ghost use Rattle.dcsctp_core.specs.spec.endpoint.Cause.{reason_text, causes_of};
+ghost use Rattle.dcsctp_core.specs.spec.endpoint.EndOutcomes.{end_of};
+ghost use Rattle.dcsctp_core.specs.api.Calls.{is_closed};
 ghost use Rattle.dcsctp_core.specs.View.{core_of};
 ghost use Rattle.dcsctp_core.specs.Handling.{Tries, Takes, Emits, close_turn};
 ghost use Rattle.dcsctp_core_ends.specs.Ends.{abort_sent_turn, aborting_turn};
 
-use dcsctp_api::ErrorKind;
+use dcsctp_core::api::ErrorKind;
+use dcsctp_core::types::{AbortReason, Violation};
+use dcsctp_core::wire::{AbortChunk, Chunk, ErrorCause};
 use dcsctp_core::{Context, State};
-use dcsctp_machine::{AbortReason, Violation};
-use dcsctp_wire::{AbortChunk, Chunk, ErrorCause};
 use rand_core::Rng;
 use std::alloc::AllocError;
 

@@ -1,13 +1,13 @@
 //! ERROR (RFC 9260, section 3.3.10).
 
 ghost use Rattle.std.specs.Prelude.{map};
-ghost use Rattle.dcsctp_wire.specs.Content.{cause_content};
+ghost use Rattle.dcsctp_core.specs.wire.Content.{cause_content};
 ghost use Rattle.dcsctp_core.specs.Handling.{Tries};
 ghost use Rattle.dcsctp_core_ends.specs.Ends.{error_turn};
 
-use dcsctp_api::ErrorKind;
+use dcsctp_core::api::ErrorKind;
+use dcsctp_core::wire::{ErrorChunk, causes_text};
 use dcsctp_core::{Context, State};
-use dcsctp_wire::{ErrorChunk, causes_text};
 use rand_core::Rng;
 use std::alloc::AllocError;
 

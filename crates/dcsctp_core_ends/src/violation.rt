@@ -1,15 +1,15 @@
 //! What breaks the negotiated protocol (RFC 8260, section 2.2.1; RFC 3758, section 3.3.1).
 
 ghost use Rattle.std.specs.Prelude.{◌≡◌};
-ghost use Rattle.dcsctp_wire.specs.Content.{chunk_content};
-ghost use Rattle.dcsctp_machine.specs.Packet.{content_in};
-ghost use Rattle.dcsctp_machine.specs.turns.PlainOutcomes.{data_violation, i_data_violation, forward_tsn_violation, i_forward_tsn_violation};
+ghost use Rattle.dcsctp_core.specs.wire.Content.{chunk_content};
+ghost use Rattle.dcsctp_core.specs.spec.Packet.{content_in};
+ghost use Rattle.dcsctp_core.specs.spec.endpoint.PlainOutcomes.{data_violation, i_data_violation, forward_tsn_violation, i_forward_tsn_violation};
 ghost use Rattle.dcsctp_core.specs.View.{core_of};
 ghost use Rattle.dcsctp_core_ends.specs.Ends.{violation_in};
 
 use dcsctp_core::State;
-use dcsctp_machine::{Capabilities, Violation};
-use dcsctp_wire::Chunk;
+use dcsctp_core::types::{Capabilities, Violation};
+use dcsctp_core::wire::Chunk;
 
 // How a DATA breaks it, if it does.
 fn data_violation(capabilities: &Capabilities) -> Option<Violation>

@@ -2,15 +2,15 @@
 use Rattle.std.proofs.Common.{◌≡◌, ℕ, None, Some, List, [], ◌∷◌, ◌++◌, map, refl, sym, subst}
 use Rattle.std.proofs.lemmas.List.{append-nil}
 use Rattle.rand_core.specs.Stream.{Stream}
-use Rattle.dcsctp_machine.specs.Endpoint.{Endpoint, Core, closed, open_in, established}
-use Rattle.dcsctp_machine.specs.Event as events
-use Rattle.dcsctp_machine.specs.Outcome.{Outcome}
-use Rattle.dcsctp_machine.specs.Snapshot.{Snapshot}
-use Rattle.dcsctp_machine.specs.transfer.QueuedParts.{queue_restored}
-use Rattle.dcsctp_machine.specs.transfer.SendQueue.{SendQueueState, numbered_for}
-use Rattle.dcsctp_machine.specs.turns.RestoreOutcomes.{restored_endpoint, restored_outcome, RestoreTurn}
-use Rattle.dcsctp_api.specs.declared.events.SocketEvent.{SocketEvent}
-use Rattle.dcsctp_api.specs.Events.{event_content}
+use Rattle.dcsctp_core.specs.spec.endpoint.Endpoint.{Endpoint, Core, closed, open_in, established}
+use Rattle.dcsctp_core.specs.spec.endpoint.Event as events
+use Rattle.dcsctp_core.specs.spec.endpoint.Outcome.{Outcome}
+use Rattle.dcsctp_core.specs.types.Snapshot.{Snapshot}
+use Rattle.dcsctp_core.specs.spec.queues.QueuedParts.{queue_restored}
+use Rattle.dcsctp_core.specs.spec.queues.SendQueue.{SendQueueState, numbered_for}
+use Rattle.dcsctp_core.specs.spec.endpoint.RestoreOutcomes.{restored_endpoint, restored_outcome, RestoreTurn}
+use Rattle.dcsctp_core.specs.api.declared.events.SocketEvent.{SocketEvent}
+use Rattle.dcsctp_core.specs.api.Events.{event_content}
 use Rattle.dcsctp_core.specs.declared.context.Context.{Context}
 use Rattle.dcsctp_core.specs.declared.state.OpenPhase.TheVariants as phases
 use Rattle.dcsctp_core.specs.declared.state.State.{State}

@@ -3,7 +3,7 @@
 ghost use Rattle.dcsctp_core.specs.Handling.{Tries};
 ghost use Rattle.dcsctp_core_handover.specs.Handover.{hand_over_turn};
 
-use dcsctp_api::ErrorKind;
+use dcsctp_core::api::ErrorKind;
 use dcsctp_core::{Context, OpenPhase, State};
 use rand_core::Rng;
 use std::alloc::AllocError;

@@ -1,14 +1,14 @@
 //! How a socket goes on from a snapshot.
 
 ghost use Rattle.std.specs.Prelude.{◌≡◌, true, IfOk};
-ghost use Rattle.dcsctp_machine.specs.Endpoint.{closed};
-ghost use Rattle.dcsctp_machine.specs.Snapshot.{snapshot, is_valid_send_part};
-ghost use Rattle.dcsctp_machine.specs.turns.RestoreOutcomes.{capabilities_restored, own_pair, peer_pair, was_reset};
+ghost use Rattle.dcsctp_core.specs.spec.endpoint.Endpoint.{closed};
+ghost use Rattle.dcsctp_core.specs.types.Snapshot.{snapshot, is_valid_send_part};
+ghost use Rattle.dcsctp_core.specs.spec.endpoint.RestoreOutcomes.{capabilities_restored, own_pair, peer_pair, was_reset};
 ghost use Rattle.dcsctp_core.specs.View.{core_of};
 ghost use Rattle.dcsctp_core_handover.specs.Handover.{IsRestored, Restores};
 
-use dcsctp_api::handover::{HandoverCapabilities, SocketHandoverState};
-use dcsctp_api::{
+use dcsctp_core::api::handover::{HandoverCapabilities, SocketHandoverState};
+use dcsctp_core::api::{
     Capabilities, Options, Pair, SocketEvent, SocketTime,
     ZERO_CHECKSUM_ALTERNATE_ERROR_DETECTION_METHOD_NONE,
 };

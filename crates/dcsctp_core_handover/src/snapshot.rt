@@ -1,13 +1,13 @@
 //! What a socket's snapshot has.
 
 ghost use Rattle.std.specs.Prelude.{◌≡◌, IfOk};
-ghost use Rattle.dcsctp_machine.specs.Snapshot.{snapshot};
-ghost use Rattle.dcsctp_machine.specs.SocketSnapshot.{capabilities_given, snapshot_of};
+ghost use Rattle.dcsctp_core.specs.types.Snapshot.{snapshot};
+ghost use Rattle.dcsctp_core.specs.spec.SocketSnapshot.{capabilities_given, snapshot_of};
 ghost use Rattle.dcsctp_core.specs.View.{endpoint_of};
 ghost use Rattle.dcsctp_core_handover.specs.Handover.{snapshot_with};
 
-use dcsctp_api::Capabilities;
-use dcsctp_api::handover::{
+use dcsctp_core::api::Capabilities;
+use dcsctp_core::api::handover::{
     HandoverCapabilities, HandoverReceive, HandoverSocketState, HandoverTransmission,
     SocketHandoverState,
 };

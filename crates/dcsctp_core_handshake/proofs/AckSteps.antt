@@ -2,17 +2,17 @@
 use Rattle.std.proofs.Common.{◌≡◌, ◌==◌, ◌≤◌, ℕ, Bool, Option, None, Some, List, [], ◌++◌, length, refl, sym, ap, subst, ◌∙◌, arith}
 use Rattle.std.proofs.lemmas.List.{append-nil}
 use Rattle.rand_core.specs.Stream.{Stream}
-use Rattle.dcsctp_wire.specs.Content.{cookie_ack_chunk}
-use Rattle.dcsctp_wire.specs.Spelling.{chunk_bytes, other_bytes}
-use Rattle.dcsctp_wire_build.specs.Building.{Building, bytes_remaining}
-use Rattle.dcsctp_machine.specs.declared.options.Options.{Options}
-use Rattle.dcsctp_machine.specs.declared.association.Held.{Held}
-use Rattle.dcsctp_machine.specs.Settings.{IsValid}
-use Rattle.dcsctp_machine.specs.Event.{Event}
-use Rattle.dcsctp_machine.specs.Endpoint.{Endpoint, held_in}
-use Rattle.dcsctp_machine.specs.Outcome.{Outcome, still}
-use Rattle.dcsctp_machine.specs.turns.FlushOutcomes.{Answer, first_ask, flush_of, flush_answered, packets_allowed}
-use Rattle.dcsctp_machine.proofs.AnswerLemmas.{any_answers}
+use Rattle.dcsctp_core.specs.wire.Content.{cookie_ack_chunk}
+use Rattle.dcsctp_core.specs.wire.Spelling.{chunk_bytes, other_bytes}
+use Rattle.dcsctp_core.specs.wire_build.Building.{Building, bytes_remaining}
+use Rattle.dcsctp_core.specs.types.declared.options.Options.{Options}
+use Rattle.dcsctp_core.specs.types.declared.association.Held.{Held}
+use Rattle.dcsctp_core.specs.types.Settings.{IsValid}
+use Rattle.dcsctp_core.specs.spec.endpoint.Event.{Event}
+use Rattle.dcsctp_core.specs.spec.endpoint.Endpoint.{Endpoint, held_in}
+use Rattle.dcsctp_core.specs.spec.endpoint.Outcome.{Outcome, still}
+use Rattle.dcsctp_core.specs.spec.endpoint.FlushOutcomes.{Answer, first_ask, flush_of, flush_answered, packets_allowed}
+use Rattle.dcsctp_core.proofs.spec_lemmas.AnswerLemmas.{any_answers}
 use Rattle.dcsctp_core.specs.declared.context.Context.{Context}
 use Rattle.dcsctp_core.specs.declared.state.CookieEchoState.{CookieEchoState}
 use Rattle.dcsctp_core.specs.declared.state.State.{State}

@@ -2,23 +2,23 @@
 use Rattle.std.proofs.Common.{◌≡◌, ℕ, Option, Some, List, [], ◌∷◌, ◌++◌, map, refl, sym, ap, subst, ◌∙◌}
 use Rattle.std.proofs.lemmas.List.{append-nil}
 use Rattle.rand_core.specs.Stream.{Stream, next_u64}
-use Rattle.dcsctp_machine.specs.declared.association.Held.{Held}
-use Rattle.dcsctp_machine.specs.declared.word.Word.TheVariants.{U64}
-use Rattle.dcsctp_machine.specs.Settings.{ports_of}
-use Rattle.dcsctp_machine.specs.Cookie.{Cookie}
-use Rattle.dcsctp_machine.specs.Event.{Event, connected, connection_restarted}
-use Rattle.dcsctp_machine.specs.Packet.{Emission, cookie_ack}
-use Rattle.dcsctp_machine.specs.transfer.SendQueue.{SendQueueState, restarted}
-use Rattle.dcsctp_machine.specs.Endpoint.{Endpoint, held_in}
-use Rattle.dcsctp_machine.specs.Outcome.{Outcome}
-use Rattle.dcsctp_machine.specs.control.Effect.{Effect, holds, connects, link_of}
-use Rattle.dcsctp_machine.specs.control.CookieEchoChanges.{held_by_cookie}
-use Rattle.dcsctp_machine.specs.turns.FlushOutcomes.{Answer, first_ask, flush_answered, packets_allowed}
-use Rattle.dcsctp_machine.specs.turns.CookieEchoOutcomes.{established_by, acknowledgement, establish_by, queue_kept, queue_begun, EstablishAnswers}
-use Rattle.dcsctp_machine.proofs.AnswerLemmas.{any_answers}
-use Rattle.dcsctp_api.specs.Calls.{user_event}
-use Rattle.dcsctp_api.specs.declared.events.SocketEvent.{SocketEvent}
-use Rattle.dcsctp_api.specs.declared.events.SocketEvent.TheVariants.{OnConnected}
+use Rattle.dcsctp_core.specs.types.declared.association.Held.{Held}
+use Rattle.dcsctp_core.specs.types.declared.word.Word.TheVariants.{U64}
+use Rattle.dcsctp_core.specs.types.Settings.{ports_of}
+use Rattle.dcsctp_core.specs.spec.Cookie.{Cookie}
+use Rattle.dcsctp_core.specs.spec.endpoint.Event.{Event, connected, connection_restarted}
+use Rattle.dcsctp_core.specs.spec.Packet.{Emission, cookie_ack}
+use Rattle.dcsctp_core.specs.spec.queues.SendQueue.{SendQueueState, restarted}
+use Rattle.dcsctp_core.specs.spec.endpoint.Endpoint.{Endpoint, held_in}
+use Rattle.dcsctp_core.specs.spec.endpoint.Outcome.{Outcome}
+use Rattle.dcsctp_core.specs.spec.association.Effect.{Effect, holds, connects, link_of}
+use Rattle.dcsctp_core.specs.spec.association.CookieEchoChanges.{held_by_cookie}
+use Rattle.dcsctp_core.specs.spec.endpoint.FlushOutcomes.{Answer, first_ask, flush_answered, packets_allowed}
+use Rattle.dcsctp_core.specs.spec.endpoint.CookieEchoOutcomes.{established_by, acknowledgement, establish_by, queue_kept, queue_begun, EstablishAnswers}
+use Rattle.dcsctp_core.proofs.spec_lemmas.AnswerLemmas.{any_answers}
+use Rattle.dcsctp_core.specs.api.Calls.{user_event}
+use Rattle.dcsctp_core.specs.api.declared.events.SocketEvent.{SocketEvent}
+use Rattle.dcsctp_core.specs.api.declared.events.SocketEvent.TheVariants.{OnConnected}
 use Rattle.dcsctp_core.specs.declared.context.Context.{Context}
 use Rattle.dcsctp_core.specs.View.{View, Moves, CutTurn, view_of, endpoint_of}
 use Rattle.dcsctp_core.specs.Drawing.{long_word, DrawsNext}

@@ -4,20 +4,20 @@ use Rattle.std.specs.Prelude.{Result, Ok, Err}
 use Rattle.std.specs.Duration.{as_nanos}
 use Rattle.std.proofs.lemmas.Bool.Decides.{nat_tests}
 use Rattle.rand_core.specs.Stream.{Stream}
-use Rattle.dcsctp_machine.specs.declared.association.Pair.{Pair}
-use Rattle.dcsctp_machine.specs.declared.association.Held.{Held}
-use Rattle.dcsctp_machine.specs.Cookie.{Cookie, cookie_at, is_stale}
-use Rattle.dcsctp_machine.specs.Event.{Event, connected}
-use Rattle.dcsctp_machine.specs.Packet.{Emission, cookie_ack}
-use Rattle.dcsctp_machine.specs.Endpoint.{Endpoint, Core, closed, cookie_wait, cookie_echoed, open_in}
-use Rattle.dcsctp_machine.specs.Outcome.{Outcome, noting}
-use Rattle.dcsctp_machine.specs.Following.{next_chunk}
-use Rattle.dcsctp_machine.specs.control.Effect.{connects, link_of}
-use Rattle.dcsctp_machine.specs.control.CookieEchoChanges.{Resolution, establish_new, restart, simultaneous_init, discard, maintain_existing, invalid_tag, stale, case_by, case_with_peer, resolve}
-use Rattle.dcsctp_machine.specs.turns.FlushOutcomes.{Answer, FlushAnswers, flush_answered}
-use Rattle.dcsctp_machine.specs.turns.HandshakeOutcomes.{connected_after}
-use Rattle.dcsctp_machine.specs.turns.CookieEchoOutcomes.{maintain_by, resolved_by, cookie_echo_by, discard_outcome, refused_echo_outcome, MaintainAnswers, ResolvedAnswers, EchoedAnswers, resolved_now, CookieEchoTurn}
-use Rattle.dcsctp_machine.proofs.ControlEcho.{kept_by_age}
+use Rattle.dcsctp_core.specs.types.declared.association.Pair.{Pair}
+use Rattle.dcsctp_core.specs.types.declared.association.Held.{Held}
+use Rattle.dcsctp_core.specs.spec.Cookie.{Cookie, cookie_at, is_stale}
+use Rattle.dcsctp_core.specs.spec.endpoint.Event.{Event, connected}
+use Rattle.dcsctp_core.specs.spec.Packet.{Emission, cookie_ack}
+use Rattle.dcsctp_core.specs.spec.endpoint.Endpoint.{Endpoint, Core, closed, cookie_wait, cookie_echoed, open_in}
+use Rattle.dcsctp_core.specs.spec.endpoint.Outcome.{Outcome, noting}
+use Rattle.dcsctp_core.specs.spec.endpoint.Following.{next_chunk}
+use Rattle.dcsctp_core.specs.spec.association.Effect.{connects, link_of}
+use Rattle.dcsctp_core.specs.spec.association.CookieEchoChanges.{Resolution, establish_new, restart, simultaneous_init, discard, maintain_existing, invalid_tag, stale, case_by, case_with_peer, resolve}
+use Rattle.dcsctp_core.specs.spec.endpoint.FlushOutcomes.{Answer, FlushAnswers, flush_answered}
+use Rattle.dcsctp_core.specs.spec.endpoint.HandshakeOutcomes.{connected_after}
+use Rattle.dcsctp_core.specs.spec.endpoint.CookieEchoOutcomes.{maintain_by, resolved_by, cookie_echo_by, discard_outcome, refused_echo_outcome, MaintainAnswers, ResolvedAnswers, EchoedAnswers, resolved_now, CookieEchoTurn}
+use Rattle.dcsctp_core.proofs.spec_lemmas.ControlEcho.{kept_by_age}
 use Rattle.dcsctp_core.specs.declared.context.Context.{Context}
 use Rattle.dcsctp_core.specs.declared.following.Following.{Following}
 use Rattle.dcsctp_core.specs.declared.following.Following.TheVariants.{NextChunk, DroppedRest}

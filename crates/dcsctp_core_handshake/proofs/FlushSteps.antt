@@ -1,11 +1,11 @@
 -- A flush as a part of a turn: behind the words and events of its handler.
 use Rattle.std.proofs.Common.{◌≡◌, List, [], ◌∷◌, refl}
 use Rattle.rand_core.specs.Stream.{Stream}
-use Rattle.dcsctp_machine.specs.Packet.{Emission}
-use Rattle.dcsctp_machine.specs.Endpoint.{Endpoint}
-use Rattle.dcsctp_machine.specs.Outcome.{Outcome, behind}
-use Rattle.dcsctp_machine.specs.Following.{next_chunk}
-use Rattle.dcsctp_machine.specs.turns.FlushOutcomes.{Answer, asked, next_draft, flush_of}
+use Rattle.dcsctp_core.specs.spec.Packet.{Emission}
+use Rattle.dcsctp_core.specs.spec.endpoint.Endpoint.{Endpoint}
+use Rattle.dcsctp_core.specs.spec.endpoint.Outcome.{Outcome, behind}
+use Rattle.dcsctp_core.specs.spec.endpoint.Following.{next_chunk}
+use Rattle.dcsctp_core.specs.spec.endpoint.FlushOutcomes.{Answer, asked, next_draft, flush_of}
 use Rattle.dcsctp_core.specs.View.{View, Moves}
 
 -- behind nothing

@@ -3,24 +3,24 @@ use Rattle.std.proofs.Common.{◌≡◌, ◌⊎◌, ◌≤◌, ◌<◌, ℕ, ◌
 use Rattle.std.proofs.lemmas.List.{append-nil}
 use Rattle.std.proofs.lemmas.Bool.Decides.{nat_tests}
 use Rattle.rand_core.specs.Stream.{Stream}
-use Rattle.dcsctp_wire.specs.Content.{cookie_echo_chunk}
-use Rattle.dcsctp_wire.specs.Spelling.{chunk_bytes}
-use Rattle.dcsctp_machine.specs.declared.association.Pair.{Pair}
-use Rattle.dcsctp_machine.specs.declared.association.Held.{Held}
-use Rattle.dcsctp_machine.specs.declared.word.Word.{Word}
-use Rattle.dcsctp_machine.specs.declared.word.Word.TheVariants.{U64}
-use Rattle.dcsctp_machine.specs.Settings.{ports_of, packet_size_limit}
-use Rattle.dcsctp_machine.specs.Event.{Event}
-use Rattle.dcsctp_machine.specs.Packet.{Introduction, cookie_echo}
-use Rattle.dcsctp_machine.specs.Endpoint.{Endpoint, Core, closed, cookie_wait, cookie_echoed, open_in}
-use Rattle.dcsctp_machine.specs.Outcome.{Outcome, quiet, contents_len, fits, still}
-use Rattle.dcsctp_machine.specs.Following.{next_chunk}
-use Rattle.dcsctp_machine.specs.control.Effect.{holds, link_of}
-use Rattle.dcsctp_machine.specs.control.HandshakeChanges.{held_by_init_ack}
-use Rattle.dcsctp_machine.specs.turns.FlushOutcomes.{Answer, first_ask, flush_of, flush_answered, packets_allowed}
-use Rattle.dcsctp_machine.specs.turns.HandshakeOutcomes.{awaits_cookie_ack, echo_emission, send_echo_by, accepted_init_ack_by, init_ack_by, EchoAnswers, InitAckAnswers}
-use Rattle.dcsctp_machine.specs.turns.TimerOutcomes.{AgainAnswers}
-use Rattle.dcsctp_machine.proofs.AnswerLemmas.{any_answers}
+use Rattle.dcsctp_core.specs.wire.Content.{cookie_echo_chunk}
+use Rattle.dcsctp_core.specs.wire.Spelling.{chunk_bytes}
+use Rattle.dcsctp_core.specs.types.declared.association.Pair.{Pair}
+use Rattle.dcsctp_core.specs.types.declared.association.Held.{Held}
+use Rattle.dcsctp_core.specs.types.declared.word.Word.{Word}
+use Rattle.dcsctp_core.specs.types.declared.word.Word.TheVariants.{U64}
+use Rattle.dcsctp_core.specs.types.Settings.{ports_of, packet_size_limit}
+use Rattle.dcsctp_core.specs.spec.endpoint.Event.{Event}
+use Rattle.dcsctp_core.specs.spec.Packet.{Introduction, cookie_echo}
+use Rattle.dcsctp_core.specs.spec.endpoint.Endpoint.{Endpoint, Core, closed, cookie_wait, cookie_echoed, open_in}
+use Rattle.dcsctp_core.specs.spec.endpoint.Outcome.{Outcome, quiet, contents_len, fits, still}
+use Rattle.dcsctp_core.specs.spec.endpoint.Following.{next_chunk}
+use Rattle.dcsctp_core.specs.spec.association.Effect.{holds, link_of}
+use Rattle.dcsctp_core.specs.spec.association.HandshakeChanges.{held_by_init_ack}
+use Rattle.dcsctp_core.specs.spec.endpoint.FlushOutcomes.{Answer, first_ask, flush_of, flush_answered, packets_allowed}
+use Rattle.dcsctp_core.specs.spec.endpoint.HandshakeOutcomes.{awaits_cookie_ack, echo_emission, send_echo_by, accepted_init_ack_by, init_ack_by, EchoAnswers, InitAckAnswers}
+use Rattle.dcsctp_core.specs.spec.endpoint.TimerOutcomes.{AgainAnswers}
+use Rattle.dcsctp_core.proofs.spec_lemmas.AnswerLemmas.{any_answers}
 use Rattle.dcsctp_core.specs.declared.following.Following.TheVariants.{NextChunk}
 use Rattle.dcsctp_core.specs.declared.context.Context.{Context}
 use Rattle.dcsctp_core.specs.declared.state.CookieEchoState.{CookieEchoState}

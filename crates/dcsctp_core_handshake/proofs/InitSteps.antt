@@ -3,16 +3,16 @@ use Rattle.std.proofs.Common.{◌≡◌, ◌≤◌, ◌+◌, ℕ, Bool, true, co
 use Rattle.std.specs.Prelude.{nat_le}
 use Rattle.std.proofs.lemmas.Bool.Decides.{nat_tests}
 use Rattle.rand_core.specs.Stream.{Stream}
-use Rattle.dcsctp_wire.specs.Spelling.{other_bytes}
-use Rattle.dcsctp_machine.specs.declared.association.Pair.{Pair}
-use Rattle.dcsctp_machine.specs.declared.association.Held.{Held}
-use Rattle.dcsctp_machine.specs.Settings.{packet_size_limit, IsValid}
-use Rattle.dcsctp_machine.specs.Packet.{Introduction, shutdown_ack}
-use Rattle.dcsctp_machine.specs.Endpoint.{Endpoint, Core, open_in, shutdown_ack_sent, held_in}
-use Rattle.dcsctp_machine.specs.Outcome.{Outcome, fits, sends, quiet, to_peer}
-use Rattle.dcsctp_machine.specs.turns.HandshakeOutcomes.{init_outcome}
-use Rattle.dcsctp_machine.specs.turns.ShutdownOutcomes.{sends_shutdown_ack}
-use Rattle.dcsctp_core_shutdown.specs.Shutdown.{to_held, send_shutdown_ack_turn}
+use Rattle.dcsctp_core.specs.wire.Spelling.{other_bytes}
+use Rattle.dcsctp_core.specs.types.declared.association.Pair.{Pair}
+use Rattle.dcsctp_core.specs.types.declared.association.Held.{Held}
+use Rattle.dcsctp_core.specs.types.Settings.{packet_size_limit, IsValid}
+use Rattle.dcsctp_core.specs.spec.Packet.{Introduction, shutdown_ack}
+use Rattle.dcsctp_core.specs.spec.endpoint.Endpoint.{Endpoint, Core, open_in, shutdown_ack_sent, held_in}
+use Rattle.dcsctp_core.specs.spec.endpoint.Outcome.{Outcome, fits, sends, quiet, to_peer}
+use Rattle.dcsctp_core.specs.spec.endpoint.HandshakeOutcomes.{init_outcome}
+use Rattle.dcsctp_core.specs.spec.endpoint.ShutdownOutcomes.{sends_shutdown_ack}
+use Rattle.dcsctp_core_ends.specs.Shutdown.{to_held, send_shutdown_ack_turn}
 use Rattle.dcsctp_core.specs.View.{View, Moves}
 use Rattle.dcsctp_core.specs.Drawing.{first_word, second_word}
 use Rattle.dcsctp_core_handshake.specs.Handshake.{init_turn}

@@ -2,20 +2,20 @@
 use Rattle.std.proofs.Common.{◌≡◌, ◌==◌, ◌≤◌, ℕ, Bool, true, false, not, Option, Some, List, [], ◌∷◌, ◌++◌, length, refl, sym, ap, subst, ◌∙◌, arith, append_assoc}
 use Rattle.std.proofs.lemmas.List.{append-nil}
 use Rattle.rand_core.specs.Stream.{Stream}
-use Rattle.dcsctp_wire.specs.Content.{CauseContent, shutdown_ack_chunk, error_chunk, cookie_received_while_shutting_down}
-use Rattle.dcsctp_wire.specs.Spelling.{chunk_bytes, other_bytes, list_bytes, parameter_bytes, parameters_len}
-use Rattle.dcsctp_wire_build.specs.Building.{Building, bytes_remaining}
-use Rattle.dcsctp_machine.specs.declared.association.Held.{Held}
-use Rattle.dcsctp_machine.specs.declared.kinds.ErrorKind.TheVariants.{WrongSequence}
-use Rattle.dcsctp_machine.specs.declared.options.Options.{Options}
-use Rattle.dcsctp_machine.specs.Settings.{IsValid, ports_of}
-use Rattle.dcsctp_machine.specs.Cookie.{Cookie}
-use Rattle.dcsctp_machine.specs.Event.{Event, sent, error}
-use Rattle.dcsctp_machine.specs.Packet.{emission_bytes}
-use Rattle.dcsctp_machine.specs.Endpoint.{Endpoint, Core, closed, cookie_wait, cookie_echoed, open_in, established, shutdown_pending, shutdown_sent, shutdown_received, shutdown_ack_sent, held_in}
-use Rattle.dcsctp_machine.specs.Outcome.{Outcome, counted, reports}
-use Rattle.dcsctp_machine.specs.turns.FlushOutcomes.{Answer, FlushKind, flush_answered, is_none}
-use Rattle.dcsctp_machine.specs.turns.CookieEchoOutcomes.{shutting_down_text, shutting_down_emission, refused_restart_outcome, restart_by, restart_by_where, queue_begun, EstablishAnswers, RestartAnswers}
+use Rattle.dcsctp_core.specs.wire.Content.{CauseContent, shutdown_ack_chunk, error_chunk, cookie_received_while_shutting_down}
+use Rattle.dcsctp_core.specs.wire.Spelling.{chunk_bytes, other_bytes, list_bytes, parameter_bytes, parameters_len}
+use Rattle.dcsctp_core.specs.wire_build.Building.{Building, bytes_remaining}
+use Rattle.dcsctp_core.specs.types.declared.association.Held.{Held}
+use Rattle.dcsctp_core.specs.types.declared.kinds.ErrorKind.TheVariants.{WrongSequence}
+use Rattle.dcsctp_core.specs.types.declared.options.Options.{Options}
+use Rattle.dcsctp_core.specs.types.Settings.{IsValid, ports_of}
+use Rattle.dcsctp_core.specs.spec.Cookie.{Cookie}
+use Rattle.dcsctp_core.specs.spec.endpoint.Event.{Event, sent, error}
+use Rattle.dcsctp_core.specs.spec.Packet.{emission_bytes}
+use Rattle.dcsctp_core.specs.spec.endpoint.Endpoint.{Endpoint, Core, closed, cookie_wait, cookie_echoed, open_in, established, shutdown_pending, shutdown_sent, shutdown_received, shutdown_ack_sent, held_in}
+use Rattle.dcsctp_core.specs.spec.endpoint.Outcome.{Outcome, counted, reports}
+use Rattle.dcsctp_core.specs.spec.endpoint.FlushOutcomes.{Answer, FlushKind, flush_answered, is_none}
+use Rattle.dcsctp_core.specs.spec.endpoint.CookieEchoOutcomes.{shutting_down_text, shutting_down_emission, refused_restart_outcome, restart_by, restart_by_where, queue_begun, EstablishAnswers, RestartAnswers}
 use Rattle.dcsctp_core.specs.declared.context.Context.{Context}
 use Rattle.dcsctp_core.specs.declared.following.Following.TheVariants.{NextChunk, DroppedRest}
 use Rattle.dcsctp_core.specs.declared.transmission_control_block.TransmissionControlBlock.{TransmissionControlBlock}

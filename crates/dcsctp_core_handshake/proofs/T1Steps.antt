@@ -2,19 +2,19 @@
 use Rattle.std.proofs.Common.{◌≡◌, ℕ, Bool, true, false, cond, Option, None, Some, List, [], refl, sym, ap, subst, ◌∙◌}
 use Rattle.std.specs.Option.{option_map}
 use Rattle.rand_core.specs.Stream.{Stream}
-use Rattle.dcsctp_machine.specs.declared.association.Pair.{Pair}
-use Rattle.dcsctp_machine.specs.declared.association.Held.{Held}
-use Rattle.dcsctp_machine.specs.Event.{Event}
-use Rattle.dcsctp_machine.specs.Endpoint.{Endpoint, Core, cookie_wait, cookie_echoed}
-use Rattle.dcsctp_machine.specs.Timers.{RunningTimer, is_due, is_restarted, going_on}
-use Rattle.dcsctp_machine.specs.Outcome.{Outcome, still, emits}
-use Rattle.dcsctp_machine.specs.TimeTurns.{deadline_of, has_come, has_restart, t1_timer}
-use Rattle.dcsctp_machine.specs.Turn.{ActTurn}
-use Rattle.dcsctp_machine.specs.control.Acts.{t1_expires}
-use Rattle.dcsctp_machine.specs.turns.FlushOutcomes.{Answer, flush_answered}
-use Rattle.dcsctp_machine.specs.turns.HandshakeOutcomes.{init_emission}
-use Rattle.dcsctp_machine.specs.turns.TimerOutcomes.{t1_goes_on, again_by, AgainAnswers, t1_gives_up_outcome}
-use Rattle.dcsctp_machine.specs.Timers.{running_after}
+use Rattle.dcsctp_core.specs.types.declared.association.Pair.{Pair}
+use Rattle.dcsctp_core.specs.types.declared.association.Held.{Held}
+use Rattle.dcsctp_core.specs.spec.endpoint.Event.{Event}
+use Rattle.dcsctp_core.specs.spec.endpoint.Endpoint.{Endpoint, Core, cookie_wait, cookie_echoed}
+use Rattle.dcsctp_core.specs.spec.endpoint.Timers.{RunningTimer, is_due, is_restarted, going_on}
+use Rattle.dcsctp_core.specs.spec.endpoint.Outcome.{Outcome, still, emits}
+use Rattle.dcsctp_core.specs.spec.endpoint.TimeTurns.{deadline_of, has_come, has_restart, t1_timer}
+use Rattle.dcsctp_core.specs.spec.endpoint.Turn.{ActTurn}
+use Rattle.dcsctp_core.specs.spec.association.Acts.{t1_expires}
+use Rattle.dcsctp_core.specs.spec.endpoint.FlushOutcomes.{Answer, flush_answered}
+use Rattle.dcsctp_core.specs.spec.endpoint.HandshakeOutcomes.{init_emission}
+use Rattle.dcsctp_core.specs.spec.endpoint.TimerOutcomes.{t1_goes_on, again_by, AgainAnswers, t1_gives_up_outcome}
+use Rattle.dcsctp_core.specs.spec.endpoint.Timers.{running_after}
 use Rattle.dcsctp_core.specs.declared.context.Context.{Context}
 use Rattle.dcsctp_core.specs.declared.expiry.Expiry.TheVariants.{Again, GaveUp}
 use Rattle.dcsctp_core.specs.declared.state.State.{State}

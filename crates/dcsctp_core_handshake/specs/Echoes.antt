@@ -1,17 +1,17 @@
 -- What a COOKIE ECHO brings, as turns of a socket's view.
 use Rattle.std.specs.Prelude.{◌≡◌, ◌==◌, ℕ, Bool, true, false, Option, None, Some, List, [], ◌∷◌}
 use Rattle.rand_core.specs.Stream.{Stream}
-use Rattle.dcsctp_machine.specs.declared.association.Held.{Held}
-use Rattle.dcsctp_machine.specs.Cookie.{Cookie}
-use Rattle.dcsctp_machine.specs.Event.{Event, connected, connection_restarted}
-use Rattle.dcsctp_machine.specs.Packet.{Emission, cookie_ack}
-use Rattle.dcsctp_machine.specs.transfer.SendQueue.{SendQueueState}
-use Rattle.dcsctp_machine.specs.Endpoint.{Endpoint, Core, closed, cookie_wait, cookie_echoed, open_in, shutdown_ack_sent, held_in}
-use Rattle.dcsctp_machine.specs.Outcome.{Outcome, still, noting}
-use Rattle.dcsctp_machine.specs.control.Effect.{connects, link_of}
-use Rattle.dcsctp_machine.specs.turns.FlushOutcomes.{Answer, FlushAnswers, FlushKind, flush_answered}
-use Rattle.dcsctp_machine.specs.turns.HandshakeOutcomes.{connected_after}
-use Rattle.dcsctp_machine.specs.turns.CookieEchoOutcomes.{refused_echo_outcome, refused_restart_outcome, restart_by_where, RestartAnswers, established_by, queue_kept, queue_begun, establish_by, EstablishAnswers}
+use Rattle.dcsctp_core.specs.types.declared.association.Held.{Held}
+use Rattle.dcsctp_core.specs.spec.Cookie.{Cookie}
+use Rattle.dcsctp_core.specs.spec.endpoint.Event.{Event, connected, connection_restarted}
+use Rattle.dcsctp_core.specs.spec.Packet.{Emission, cookie_ack}
+use Rattle.dcsctp_core.specs.spec.queues.SendQueue.{SendQueueState}
+use Rattle.dcsctp_core.specs.spec.endpoint.Endpoint.{Endpoint, Core, closed, cookie_wait, cookie_echoed, open_in, shutdown_ack_sent, held_in}
+use Rattle.dcsctp_core.specs.spec.endpoint.Outcome.{Outcome, still, noting}
+use Rattle.dcsctp_core.specs.spec.association.Effect.{connects, link_of}
+use Rattle.dcsctp_core.specs.spec.endpoint.FlushOutcomes.{Answer, FlushAnswers, FlushKind, flush_answered}
+use Rattle.dcsctp_core.specs.spec.endpoint.HandshakeOutcomes.{connected_after}
+use Rattle.dcsctp_core.specs.spec.endpoint.CookieEchoOutcomes.{refused_echo_outcome, refused_restart_outcome, restart_by_where, RestartAnswers, established_by, queue_kept, queue_begun, establish_by, EstablishAnswers}
 use Rattle.dcsctp_core.specs.View.{View}
 use Rattle.dcsctp_core.specs.Drawing.{long_word}
 

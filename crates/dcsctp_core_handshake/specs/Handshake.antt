@@ -1,18 +1,18 @@
 -- What the handlers of the handshake do, as turns of a socket's view.
 use Rattle.std.specs.Prelude.{◌≡◌, ℕ, Option, None, Some, Result, Ok, Err, List, [], ◌∷◌, ◌++◌, map}
 use Rattle.rand_core.specs.Stream.{Stream, next_u32}
-use Rattle.dcsctp_machine.specs.declared.association.Held.{Held}
-use Rattle.dcsctp_machine.specs.declared.association.Pair.{Pair}
-use Rattle.dcsctp_machine.specs.declared.options.Options.{Options}
-use Rattle.dcsctp_machine.specs.declared.word.Word.TheVariants.{U32}
-use Rattle.dcsctp_machine.specs.Offer.{offer_of, negotiated}
-use Rattle.dcsctp_machine.specs.Packet.{Introduction}
-use Rattle.dcsctp_machine.specs.Endpoint.{Endpoint, Core, closed, cookie_wait, cookie_echoed, open_in, held_in}
-use Rattle.dcsctp_machine.specs.Outcome.{Outcome, still, emits}
-use Rattle.dcsctp_machine.specs.turns.HandshakeOutcomes.{tag_from, pair_from, init_outcome, renewed_outcome, answer_outcome, awaits_init_ack, connect_outcome, init_emission, send_echo_by, accepted_init_ack_by, abort_emission, refused_init_ack_outcome, InitAckAnswers, InitAckTurn, CookieAckTurn}
-use Rattle.dcsctp_machine.specs.turns.CookieEchoOutcomes.{CookieEchoTurn}
-use Rattle.dcsctp_machine.specs.turns.FlushOutcomes.{Answer, FlushKind, flush_answered}
-use Rattle.dcsctp_machine.specs.turns.TimerOutcomes.{AgainAnswers}
+use Rattle.dcsctp_core.specs.types.declared.association.Held.{Held}
+use Rattle.dcsctp_core.specs.types.declared.association.Pair.{Pair}
+use Rattle.dcsctp_core.specs.types.declared.options.Options.{Options}
+use Rattle.dcsctp_core.specs.types.declared.word.Word.TheVariants.{U32}
+use Rattle.dcsctp_core.specs.types.Offer.{offer_of, negotiated}
+use Rattle.dcsctp_core.specs.spec.Packet.{Introduction}
+use Rattle.dcsctp_core.specs.spec.endpoint.Endpoint.{Endpoint, Core, closed, cookie_wait, cookie_echoed, open_in, held_in}
+use Rattle.dcsctp_core.specs.spec.endpoint.Outcome.{Outcome, still, emits}
+use Rattle.dcsctp_core.specs.spec.endpoint.HandshakeOutcomes.{tag_from, pair_from, init_outcome, renewed_outcome, answer_outcome, awaits_init_ack, connect_outcome, init_emission, send_echo_by, accepted_init_ack_by, abort_emission, refused_init_ack_outcome, InitAckAnswers, InitAckTurn, CookieAckTurn}
+use Rattle.dcsctp_core.specs.spec.endpoint.CookieEchoOutcomes.{CookieEchoTurn}
+use Rattle.dcsctp_core.specs.spec.endpoint.FlushOutcomes.{Answer, FlushKind, flush_answered}
+use Rattle.dcsctp_core.specs.spec.endpoint.TimerOutcomes.{AgainAnswers}
 use Rattle.dcsctp_core.specs.declared.context.Context.{Context}
 use Rattle.dcsctp_core.specs.declared.transmission_control_block.Peer.{Peer}
 use Rattle.dcsctp_core.specs.View.{View, view_of}

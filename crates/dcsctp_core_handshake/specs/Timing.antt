@@ -1,11 +1,11 @@
 -- What T1 brings, as turns of a socket's view.
 use Rattle.std.specs.Prelude.{◌≡◌, ℕ, List}
-use Rattle.dcsctp_machine.specs.declared.kinds.ErrorKind.TheVariants.{TooManyRetries}
-use Rattle.dcsctp_machine.specs.Event.{aborted}
-use Rattle.dcsctp_machine.specs.Outcome.{Outcome}
-use Rattle.dcsctp_machine.specs.turns.EndOutcomes.{close_outcome}
-use Rattle.dcsctp_machine.specs.turns.FlushOutcomes.{Answer, flush_answered}
-use Rattle.dcsctp_machine.specs.turns.TimerOutcomes.{again_by, AgainAnswers, t1_gives_up_outcome}
+use Rattle.dcsctp_core.specs.types.declared.kinds.ErrorKind.TheVariants.{TooManyRetries}
+use Rattle.dcsctp_core.specs.spec.endpoint.Event.{aborted}
+use Rattle.dcsctp_core.specs.spec.endpoint.Outcome.{Outcome}
+use Rattle.dcsctp_core.specs.spec.endpoint.EndOutcomes.{close_outcome}
+use Rattle.dcsctp_core.specs.spec.endpoint.FlushOutcomes.{Answer, flush_answered}
+use Rattle.dcsctp_core.specs.spec.endpoint.TimerOutcomes.{again_by, AgainAnswers, t1_gives_up_outcome}
 use Rattle.dcsctp_core.specs.View.{View}
 
 -- The packet that isn't answered is sent again.

@@ -2,12 +2,12 @@
 
 ghost use Rattle.std.specs.Prelude.{◌≡◌, false, None, IsOk};
 ghost use Rattle.std.specs.Duration.{as_nanos};
-ghost use Rattle.dcsctp_wire.specs.Content.{init_content};
-ghost use Rattle.dcsctp_machine.specs.Endpoint.{t1_settings};
-ghost use Rattle.dcsctp_machine.specs.Timers.{started};
-ghost use Rattle.dcsctp_machine.specs.Packet.{introduction_in, cookie_in};
-ghost use Rattle.dcsctp_machine.specs.turns.HandshakeOutcomes.{implementation_of};
-ghost use Rattle.dcsctp_api.specs.Calls.{is_closed};
+ghost use Rattle.dcsctp_core.specs.wire.Content.{init_content};
+ghost use Rattle.dcsctp_core.specs.spec.endpoint.Endpoint.{t1_settings};
+ghost use Rattle.dcsctp_core.specs.spec.endpoint.Timers.{started};
+ghost use Rattle.dcsctp_core.specs.spec.Packet.{introduction_in, cookie_in};
+ghost use Rattle.dcsctp_core.specs.spec.endpoint.HandshakeOutcomes.{implementation_of};
+ghost use Rattle.dcsctp_core.specs.api.Calls.{is_closed};
 ghost use Rattle.dcsctp_core.specs.View.{t2_of, core_of, view_of, endpoint_of};
 ghost use Rattle.dcsctp_core.specs.Handling.{Tries, TriesDrawing, Takes, TakesOne, WorksOne};
 ghost use Rattle.dcsctp_core_handshake.specs.Handshake.{send_init_turn, awaiting, connect_turn, missing_cookie_turn, refusal_turn, EchoAt, AcceptanceAt, InitAckAt, CookieAckAt, peer_by_init_ack};
@@ -15,14 +15,16 @@ ghost use Rattle.dcsctp_core_handshake.specs.Handshake.{send_init_turn, awaiting
 use crate::init::draw_pair;
 use crate::parameters::{introduction, state_cookie};
 use crate::texts::NO_COOKIE;
-use dcsctp_api::{
+use dcsctp_core::api::{
     Capabilities, ErrorKind, Options, Pair, SctpImplementation, SocketEvent, SocketTime,
+};
+use dcsctp_core::send_timer::{BackoffAlgorithm, Timer};
+use dcsctp_core::wire::{
+    AbortChunk, Chunk, CookieEchoChunk, ErrorCause, InitChunk, parameter_type,
 };
 use dcsctp_core::{
     Context, CookieEchoState, CookieWaitState, Following, Peer, State, TransmissionControlBlock,
 };
-use dcsctp_send_timer::{BackoffAlgorithm, Timer};
-use dcsctp_wire::{AbortChunk, Chunk, CookieEchoChunk, ErrorCause, InitChunk, parameter_type};
 use rand_core::Rng;
 use std::alloc::AllocError;
 use std::time::Duration;

@@ -1,18 +1,18 @@
 //! COOKIE ECHO (RFC 9260, sections 5.1, 5.1.5 and 5.2.4).
 
 ghost use Rattle.std.specs.Prelude.{◌≡◌, [], ◌∷◌, IfOk, map};
-ghost use Rattle.dcsctp_wire.specs.Content.{cause_content, cookie_received_while_shutting_down};
-ghost use Rattle.dcsctp_api.specs.Cookie.{cookie_of};
+ghost use Rattle.dcsctp_core.specs.wire.Content.{cause_content, cookie_received_while_shutting_down};
+ghost use Rattle.dcsctp_core.specs.api.Cookie.{cookie_of};
 ghost use Rattle.dcsctp_core.specs.View.{core_of, view_of, endpoint_of};
 ghost use Rattle.dcsctp_core.specs.Handling.{Tries, TakesOne, Works, WorksOne};
 ghost use Rattle.dcsctp_core_handshake.specs.Handshake.{CookieEchoAt};
 ghost use Rattle.dcsctp_core_handshake.specs.Echoes.{awaits_complete, established_with, AcknowledgementAt, EstablishAt, ReplaceAt, RestartAt, MaintainAt, RestartWhereAt, refuse_turn, refused_restart_turn};
 
+use crate::cookie_resolution::{CookieResolution, peer_by_cookie, resolve_now};
 use crate::texts::{INVALID_TAG, SHUTTING_DOWN, STALE};
-use dcsctp_api::{ErrorKind, Pair, SocketEvent, StateCookie};
+use dcsctp_core::api::{ErrorKind, Pair, SocketEvent, StateCookie};
+use dcsctp_core::wire::{Chunk, CookieEchoChunk, ErrorCause, ErrorChunk};
 use dcsctp_core::{Context, Following, OpenPhase, OpenState, State, TransmissionControlBlock};
-use dcsctp_core_decisions::{CookieResolution, peer_by_cookie, resolve_now};
-use dcsctp_wire::{Chunk, CookieEchoChunk, ErrorCause, ErrorChunk};
 use rand_core::Rng;
 use std::alloc::{AllocError, Global};
 

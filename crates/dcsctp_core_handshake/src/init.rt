@@ -1,15 +1,15 @@
 //! INIT (RFC 9260, sections 5.1, 5.2.1 and 5.2.2).
 
-ghost use Rattle.dcsctp_wire.specs.Content.{init_content};
-ghost use Rattle.dcsctp_machine.specs.Packet.{introduction_in};
+ghost use Rattle.dcsctp_core.specs.wire.Content.{init_content};
+ghost use Rattle.dcsctp_core.specs.spec.Packet.{introduction_in};
 ghost use Rattle.dcsctp_core.specs.Handling.{Tries, TriesDrawing};
 ghost use Rattle.dcsctp_core_handshake.specs.Handshake.{DrawsTag, DrawsPair, answer_turn, init_turn, renewed_turn};
 
 use crate::parameters::introduction;
-use dcsctp_api::{Capabilities, Pair, StateCookie};
+use dcsctp_core::api::{Capabilities, Pair, StateCookie};
+use dcsctp_core::wire::{Chunk, InitChunk};
 use dcsctp_core::{Context, OpenPhase, State};
-use dcsctp_core_shutdown::send_shutdown_ack;
-use dcsctp_wire::{Chunk, InitChunk};
+use dcsctp_core_ends::send_shutdown_ack;
 use rand_core::Rng;
 use std::alloc::AllocError;
 

@@ -4,6 +4,7 @@
 
 mod connect;
 mod cookie_echo;
+mod cookie_resolution;
 mod init;
 mod parameters;
 mod t1;

@@ -2,12 +2,12 @@
 
 ghost use Rattle.std.specs.Prelude.{◌≡◌, ◌<◌, ◌^◌, ◌++◌, map, IfOk};
 ghost use Rattle.std.specs.Option.{option_map};
-ghost use Rattle.dcsctp_wire.specs.Content.{parameter_content, init_content};
-ghost use Rattle.dcsctp_machine.specs.Offer.{offer_of, offer_parameters, announced_extensions};
-ghost use Rattle.dcsctp_machine.specs.Packet.{introduction_out, cookie_parameters, cookie_in};
+ghost use Rattle.dcsctp_core.specs.wire.Content.{parameter_content, init_content};
+ghost use Rattle.dcsctp_core.specs.types.Offer.{offer_of, offer_parameters, announced_extensions};
+ghost use Rattle.dcsctp_core.specs.spec.Packet.{introduction_out, cookie_parameters, cookie_in};
 
-use dcsctp_api::{Options, Pair};
-use dcsctp_wire::{InitChunk, Parameter, chunk_type};
+use dcsctp_core::api::{Options, Pair};
+use dcsctp_core::wire::{InitChunk, Parameter, chunk_type};
 use std::alloc::{AllocError, Global};
 
 /// The chunk types of the optional features that these options offer.

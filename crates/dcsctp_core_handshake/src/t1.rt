@@ -2,14 +2,14 @@
 //! restart the association ends. Called by `advance_time`.
 
 ghost use Rattle.std.specs.Prelude.{string_bytes};
-ghost use Rattle.dcsctp_machine.specs.TimeTurns.{t1_timer};
+ghost use Rattle.dcsctp_core.specs.spec.endpoint.TimeTurns.{t1_timer};
 ghost use Rattle.dcsctp_core.specs.Handling.{Tries, TakesOne};
 ghost use Rattle.dcsctp_core.specs.Timing.{Expires};
 ghost use Rattle.dcsctp_core_handshake.specs.Timing.{AgainAt, abandon_turn, give_up_turn};
 
 use crate::connect::{send_cookie_echo, send_init};
 use crate::texts::{NO_COOKIE_ACK, NO_INIT_ACK};
-use dcsctp_api::ErrorKind;
+use dcsctp_core::api::ErrorKind;
 use dcsctp_core::{Context, Expiry, State};
 use rand_core::Rng;
 use std::alloc::AllocError;

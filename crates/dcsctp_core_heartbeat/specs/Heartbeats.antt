@@ -1,9 +1,9 @@
 -- What the handlers of heartbeats do, as turns of a socket's view (RFC 9260, section 8.3).
 use Rattle.std.specs.Prelude.{List}
-use Rattle.dcsctp_wire.specs.Content.{ParameterContent}
-use Rattle.dcsctp_machine.specs.Endpoint.{Endpoint, Core, cookie_echoed, open_in}
-use Rattle.dcsctp_machine.specs.Outcome.{Outcome, still}
-use Rattle.dcsctp_machine.specs.turns.HeartbeatOutcomes.{heartbeat_outcome, info_in, counter_of, heartbeat_ack_outcome, beat}
+use Rattle.dcsctp_core.specs.wire.Content.{ParameterContent}
+use Rattle.dcsctp_core.specs.spec.endpoint.Endpoint.{Endpoint, Core, cookie_echoed, open_in}
+use Rattle.dcsctp_core.specs.spec.endpoint.Outcome.{Outcome, still}
+use Rattle.dcsctp_core.specs.spec.endpoint.HeartbeatOutcomes.{heartbeat_outcome, info_in, counter_of, heartbeat_ack_outcome, beat}
 use Rattle.dcsctp_core.specs.View.{View}
 
 -- A HEARTBEAT with these parameters came.

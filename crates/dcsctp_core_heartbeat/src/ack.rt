@@ -2,14 +2,14 @@
 
 ghost use Rattle.std.specs.Prelude.{◌≡◌, map};
 ghost use Rattle.std.specs.Option.{option_map};
-ghost use Rattle.dcsctp_wire.specs.Content.{parameter_content};
-ghost use Rattle.dcsctp_machine.specs.turns.HeartbeatOutcomes.{info_in, counter_of, invalid_info_text};
+ghost use Rattle.dcsctp_core.specs.wire.Content.{parameter_content};
+ghost use Rattle.dcsctp_core.specs.spec.endpoint.HeartbeatOutcomes.{info_in, counter_of, invalid_info_text};
 ghost use Rattle.dcsctp_core.specs.Handling.{Tries, report_turn};
 ghost use Rattle.dcsctp_core_heartbeat.specs.Heartbeats.{heartbeat_ack_turn};
 
-use dcsctp_api::ErrorKind;
 use dcsctp_core::Context;
-use dcsctp_wire::{HeartbeatAckChunk, Parameter, u32_at};
+use dcsctp_core::api::ErrorKind;
+use dcsctp_core::wire::{HeartbeatAckChunk, Parameter, u32_at};
 use rand_core::Rng;
 use std::alloc::AllocError;
 

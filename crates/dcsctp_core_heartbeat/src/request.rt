@@ -1,12 +1,12 @@
 //! HEARTBEAT (RFC 9260, section 3.3.5).
 
 ghost use Rattle.std.specs.Prelude.{map};
-ghost use Rattle.dcsctp_wire.specs.Content.{parameter_content, heartbeat_ack_chunk};
+ghost use Rattle.dcsctp_core.specs.wire.Content.{parameter_content, heartbeat_ack_chunk};
 ghost use Rattle.dcsctp_core.specs.Handling.{Tries, Emits};
 ghost use Rattle.dcsctp_core_heartbeat.specs.Heartbeats.{heartbeat_turn};
 
 use dcsctp_core::Context;
-use dcsctp_wire::{Chunk, HeartbeatAckChunk, HeartbeatRequestChunk, Parameter};
+use dcsctp_core::wire::{Chunk, HeartbeatAckChunk, HeartbeatRequestChunk, Parameter};
 use rand_core::Rng;
 use std::alloc::AllocError;
 

@@ -2,15 +2,15 @@
 
 ghost use Rattle.std.specs.Prelude.{[], ◌∷◌};
 ghost use Rattle.std.specs.Int.{w32, to_be_bytes};
-ghost use Rattle.dcsctp_wire.specs.Content.{heartbeat_chunk, heartbeat_info};
-ghost use Rattle.dcsctp_machine.specs.TimeTurns.{own_timer};
-ghost use Rattle.dcsctp_machine.specs.turns.OwnTimers.{heartbeat_interval, heartbeat_timeout};
+ghost use Rattle.dcsctp_core.specs.wire.Content.{heartbeat_chunk, heartbeat_info};
+ghost use Rattle.dcsctp_core.specs.spec.endpoint.TimeTurns.{own_timer};
+ghost use Rattle.dcsctp_core.specs.spec.endpoint.OwnTimers.{heartbeat_interval, heartbeat_timeout};
 ghost use Rattle.dcsctp_core.specs.Handling.{Takes, Emits};
 ghost use Rattle.dcsctp_core.specs.Timing.{Expires, ExpiresAlways};
 ghost use Rattle.dcsctp_core_heartbeat.specs.Heartbeats.{beat_turn};
 
 use dcsctp_core::Context;
-use dcsctp_wire::{Chunk, HeartbeatRequestChunk, Parameter};
+use dcsctp_core::wire::{Chunk, HeartbeatRequestChunk, Parameter};
 use rand_core::Rng;
 use std::alloc::AllocError;
 

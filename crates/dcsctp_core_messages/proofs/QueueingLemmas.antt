@@ -3,13 +3,13 @@ use Rattle.std.proofs.Common.{◌≡◌, ◌||◌, ◌+◌, ℕ, Bool, true, fal
 use Rattle.std.specs.Prelude.{is_none}
 use Rattle.std.proofs.lemmas.List.{append-nil}
 use Rattle.rand_core.specs.Stream.{Stream}
-use Rattle.dcsctp_machine.specs.Event.{Event}
-use Rattle.dcsctp_machine.specs.Settings.{ports_of}
-use Rattle.dcsctp_machine.specs.Endpoint.{Endpoint}
-use Rattle.dcsctp_machine.specs.Outcome.{Outcome, then_outcome}
-use Rattle.dcsctp_machine.specs.turns.MessageOutcomes.{MessageRefusal, sending_refusal, Sending, RefusedMessage, refused_where, refused_from, queue_by, queue_one, queue_all, takes_any}
-use Rattle.dcsctp_api.specs.declared.errors.SendError.{SendError}
-use Rattle.dcsctp_api.specs.Messages.{refused_in}
+use Rattle.dcsctp_core.specs.spec.endpoint.Event.{Event}
+use Rattle.dcsctp_core.specs.types.Settings.{ports_of}
+use Rattle.dcsctp_core.specs.spec.endpoint.Endpoint.{Endpoint}
+use Rattle.dcsctp_core.specs.spec.endpoint.Outcome.{Outcome, then_outcome}
+use Rattle.dcsctp_core.specs.spec.endpoint.MessageOutcomes.{MessageRefusal, sending_refusal, Sending, RefusedMessage, refused_where, refused_from, queue_by, queue_one, queue_all, takes_any}
+use Rattle.dcsctp_core.specs.api.declared.errors.SendError.{SendError}
+use Rattle.dcsctp_core.specs.api.Messages.{refused_in}
 use Rattle.dcsctp_core.specs.View.{View, Moves, CutTurn}
 use Rattle.dcsctp_core.proofs.Composing.{Adds, cut_behind, cut_after, cut_longer}
 use Rattle.dcsctp_core.proofs.FlushLemmas.{moves_next}

@@ -2,10 +2,10 @@
 use Rattle.std.proofs.Common.{◌≡◌, Option, None, Some, [], ◌∷◌, ◌++◌, refl, ap, ◌∙◌}
 use Rattle.std.specs.Option.{option_map}
 use Rattle.rand_core.specs.Stream.{Stream}
-use Rattle.dcsctp_machine.specs.declared.ids.LifecycleId.{LifecycleId}
-use Rattle.dcsctp_machine.specs.Ids.{lifecycle_number}
-use Rattle.dcsctp_machine.specs.Event.{error}
-use Rattle.dcsctp_machine.specs.turns.MessageOutcomes.{MessageRefusal, refusal_kind, refusal_text, refusal_events}
+use Rattle.dcsctp_core.specs.types.declared.ids.LifecycleId.{LifecycleId}
+use Rattle.dcsctp_core.specs.types.Ids.{lifecycle_number}
+use Rattle.dcsctp_core.specs.spec.endpoint.Event.{error}
+use Rattle.dcsctp_core.specs.spec.endpoint.MessageOutcomes.{MessageRefusal, refusal_kind, refusal_text, refusal_events}
 use Rattle.dcsctp_core.specs.View.{View, Moves, CutTurn}
 use Rattle.dcsctp_core.proofs.Composing.{cut_after}
 use Rattle.dcsctp_core_messages.specs.Sending.{end_events, end_turn, refusal_turn}

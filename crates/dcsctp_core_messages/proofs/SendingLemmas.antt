@@ -1,16 +1,16 @@
 -- Messages that are queued, and then a flush where one was taken.
 use Rattle.std.proofs.Common.{◌≡◌, ℕ, Bool, true, false, Option, None, Some, Result, Ok, Err, List, [], ◌∷◌, refl, sym, ap, subst}
 use Rattle.rand_core.specs.Stream.{Stream}
-use Rattle.dcsctp_machine.specs.declared.association.Held.{Held}
-use Rattle.dcsctp_machine.specs.Event.{Event}
-use Rattle.dcsctp_machine.specs.Endpoint.{Endpoint, held_in}
-use Rattle.dcsctp_machine.specs.Outcome.{Outcome, still, then_outcome}
-use Rattle.dcsctp_machine.specs.turns.FlushOutcomes.{Answer, draft_to, first_ask, packets_allowed}
-use Rattle.dcsctp_machine.specs.turns.DataOutcomes.{AnswersTo, FlushTurn}
-use Rattle.dcsctp_machine.specs.turns.MessageOutcomes.{RefusedMessage, refused_from, Sending, queue_one, queue_all, takes_any, SendAnswers, send_by, SendTurn}
-use Rattle.dcsctp_machine.proofs.AnswerLemmas.{any_answers}
-use Rattle.dcsctp_api.specs.declared.errors.BatchSendError.{BatchSendError}
-use Rattle.dcsctp_api.specs.Messages.{refused_in, IsBatchAnswer}
+use Rattle.dcsctp_core.specs.types.declared.association.Held.{Held}
+use Rattle.dcsctp_core.specs.spec.endpoint.Event.{Event}
+use Rattle.dcsctp_core.specs.spec.endpoint.Endpoint.{Endpoint, held_in}
+use Rattle.dcsctp_core.specs.spec.endpoint.Outcome.{Outcome, still, then_outcome}
+use Rattle.dcsctp_core.specs.spec.endpoint.FlushOutcomes.{Answer, draft_to, first_ask, packets_allowed}
+use Rattle.dcsctp_core.specs.spec.endpoint.DataOutcomes.{AnswersTo, FlushTurn}
+use Rattle.dcsctp_core.specs.spec.endpoint.MessageOutcomes.{RefusedMessage, refused_from, Sending, queue_one, queue_all, takes_any, SendAnswers, send_by, SendTurn}
+use Rattle.dcsctp_core.proofs.spec_lemmas.AnswerLemmas.{any_answers}
+use Rattle.dcsctp_core.specs.api.declared.errors.BatchSendError.{BatchSendError}
+use Rattle.dcsctp_core.specs.api.Messages.{refused_in, IsBatchAnswer}
 use Rattle.dcsctp_core.specs.declared.context.Context.{Context}
 use Rattle.dcsctp_core.specs.View.{View, view_of, Moves, CutTurn}
 use Rattle.dcsctp_core.specs.Handling.{TakesIn, CutIn, FlushAt}

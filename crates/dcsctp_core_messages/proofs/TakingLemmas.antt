@@ -1,12 +1,12 @@
 -- A message that is taken is a turn of the socket's view.
 use Rattle.std.proofs.Common.{◌≡◌, Option, None, Some, List, refl, sym, ap, subst, ◌∙◌}
-use Rattle.dcsctp_machine.specs.declared.message.Message.{Message}
-use Rattle.dcsctp_machine.specs.transfer.Messages.{MessageContent}
-use Rattle.dcsctp_machine.specs.transfer.Transfer.{Transfer}
-use Rattle.dcsctp_machine.specs.Endpoint.{Endpoint}
-use Rattle.dcsctp_machine.specs.Outcome.{Outcome, still}
-use Rattle.dcsctp_machine.specs.turns.DataOutcomes.{with_transfer, TakeWhere, TakeTurn}
-use Rattle.dcsctp_api.specs.Messages.{IsFirst, ready_below}
+use Rattle.dcsctp_core.specs.types.declared.message.Message.{Message}
+use Rattle.dcsctp_core.specs.types.queues.Messages.{MessageContent}
+use Rattle.dcsctp_core.specs.spec.queues.Transfer.{Transfer}
+use Rattle.dcsctp_core.specs.spec.endpoint.Endpoint.{Endpoint}
+use Rattle.dcsctp_core.specs.spec.endpoint.Outcome.{Outcome, still}
+use Rattle.dcsctp_core.specs.spec.endpoint.DataOutcomes.{with_transfer, TakeWhere, TakeTurn}
+use Rattle.dcsctp_core.specs.api.Messages.{IsFirst, ready_below}
 use Rattle.dcsctp_core.specs.declared.context.Context.{Context}
 use Rattle.dcsctp_core.specs.declared.state.State.{State}
 use Rattle.dcsctp_core.specs.View.{View, transfer_of, endpoint_of, view_of}

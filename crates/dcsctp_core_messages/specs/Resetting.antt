@@ -1,12 +1,12 @@
 -- What a reset of our own streams does, as turns of a socket's view.
 use Rattle.std.specs.Prelude.{◌≡◌, ℕ, Result, Ok, Err, List, []}
 use Rattle.rand_core.specs.Stream.{Stream}
-use Rattle.dcsctp_machine.specs.transfer.OwnResets.{prepared, prepared_all, prepare_events, prepare_all_events}
-use Rattle.dcsctp_machine.specs.Endpoint.{Endpoint}
-use Rattle.dcsctp_machine.specs.Outcome.{Outcome, quiet}
-use Rattle.dcsctp_machine.specs.turns.PreparedResets.{reset_refusal, with_queue, OwnResetsTurn}
-use Rattle.dcsctp_api.specs.declared.errors.ResetStreamsError.{ResetStreamsError}
-use Rattle.dcsctp_api.specs.Resets.{reset_refusal_in}
+use Rattle.dcsctp_core.specs.spec.queues.OwnResets.{prepared, prepared_all, prepare_events, prepare_all_events}
+use Rattle.dcsctp_core.specs.spec.endpoint.Endpoint.{Endpoint}
+use Rattle.dcsctp_core.specs.spec.endpoint.Outcome.{Outcome, quiet}
+use Rattle.dcsctp_core.specs.spec.endpoint.PreparedResets.{reset_refusal, with_queue, OwnResetsTurn}
+use Rattle.dcsctp_core.specs.api.declared.errors.ResetStreamsError.{ResetStreamsError}
+use Rattle.dcsctp_core.specs.api.Resets.{reset_refusal_in}
 use Rattle.dcsctp_core.specs.declared.context.Context.{Context}
 use Rattle.dcsctp_core.specs.View.{View, view_of}
 use Rattle.dcsctp_core.specs.Handling.{TakesIn, CutIn}

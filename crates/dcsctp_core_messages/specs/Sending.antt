@@ -2,15 +2,15 @@
 use Rattle.std.specs.Prelude.{◌≡◌, ℕ, Bool, true, false, Option, Some, None, Result, Ok, Err, List, [], ◌∷◌, ◌++◌}
 use Rattle.std.specs.Option.{option_map}
 use Rattle.rand_core.specs.Stream.{Stream}
-use Rattle.dcsctp_machine.specs.declared.ids.LifecycleId.{LifecycleId}
-use Rattle.dcsctp_machine.specs.Ids.{lifecycle_number}
-use Rattle.dcsctp_machine.specs.Event.{Event, lifecycle_end}
-use Rattle.dcsctp_machine.specs.Packet.{Emission}
-use Rattle.dcsctp_machine.specs.Outcome.{Outcome, still, quiet, reports}
-use Rattle.dcsctp_machine.specs.turns.MessageOutcomes.{MessageRefusal, sending_refusal, refusal_kind, refusal_text, refusal_events, Sending, message_queued, queue_one, queue_all, refused_from, takes_any, SendTurn}
-use Rattle.dcsctp_api.specs.declared.errors.BatchSendError.{BatchSendError}
-use Rattle.dcsctp_api.specs.declared.errors.SendError.{SendError}
-use Rattle.dcsctp_api.specs.Messages.{refusal_of, refusal_in, refused_in, IsBatchAnswer}
+use Rattle.dcsctp_core.specs.types.declared.ids.LifecycleId.{LifecycleId}
+use Rattle.dcsctp_core.specs.types.Ids.{lifecycle_number}
+use Rattle.dcsctp_core.specs.spec.endpoint.Event.{Event, lifecycle_end}
+use Rattle.dcsctp_core.specs.spec.Packet.{Emission}
+use Rattle.dcsctp_core.specs.spec.endpoint.Outcome.{Outcome, still, quiet, reports}
+use Rattle.dcsctp_core.specs.spec.endpoint.MessageOutcomes.{MessageRefusal, sending_refusal, refusal_kind, refusal_text, refusal_events, Sending, message_queued, queue_one, queue_all, refused_from, takes_any, SendTurn}
+use Rattle.dcsctp_core.specs.api.declared.errors.BatchSendError.{BatchSendError}
+use Rattle.dcsctp_core.specs.api.declared.errors.SendError.{SendError}
+use Rattle.dcsctp_core.specs.api.Messages.{refusal_of, refusal_in, refused_in, IsBatchAnswer}
 use Rattle.dcsctp_core.specs.declared.context.Context.{Context}
 use Rattle.dcsctp_core.specs.View.{View, view_of, Moves, CutTurn}
 use Rattle.dcsctp_core.specs.Handling.{Tries, TakesIn, CutIn, TakesOne, FlushAt}

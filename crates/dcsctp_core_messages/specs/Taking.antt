@@ -1,9 +1,9 @@
 -- What taking a message does, as a turn of a socket's view.
 use Rattle.std.specs.Prelude.{◌≡◌, Option}
-use Rattle.dcsctp_machine.specs.declared.message.Message.{Message}
-use Rattle.dcsctp_machine.specs.Outcome.{Outcome}
-use Rattle.dcsctp_machine.specs.turns.DataOutcomes.{TakeTurn}
-use Rattle.dcsctp_api.specs.Messages.{IsFirst, ready_messages}
+use Rattle.dcsctp_core.specs.types.declared.message.Message.{Message}
+use Rattle.dcsctp_core.specs.spec.endpoint.Outcome.{Outcome}
+use Rattle.dcsctp_core.specs.spec.endpoint.DataOutcomes.{TakeTurn}
+use Rattle.dcsctp_core.specs.api.Messages.{IsFirst, ready_messages}
 use Rattle.dcsctp_core.specs.View.{View}
 
 -- The first message that is ready is taken, if one is, and no event is added.

@@ -1,14 +1,14 @@
 //! Messages that enter the send queue, or are refused.
 
 ghost use Rattle.std.specs.Prelude.{◌<◌, vec_len, map};
-ghost use Rattle.dcsctp_machine.specs.transfer.Messages.{message_content};
-ghost use Rattle.dcsctp_machine.specs.turns.MessageOutcomes.{sending_of};
+ghost use Rattle.dcsctp_core.specs.types.queues.Messages.{message_content};
+ghost use Rattle.dcsctp_core.specs.spec.endpoint.MessageOutcomes.{sending_of};
 ghost use Rattle.dcsctp_core.specs.Handling.{Tries};
 ghost use Rattle.dcsctp_core_messages.specs.Sending.{queued_turn, Queues, QueuesAt, QueuesAll};
 
 use crate::refusal::{refusal, tell_refusal};
-use dcsctp_api::{Message, SendError, SendOptions};
 use dcsctp_core::Context;
+use dcsctp_core::api::{Message, SendError, SendOptions};
 use rand_core::Rng;
 use std::alloc::AllocError;
 

@@ -2,14 +2,14 @@
 
 ghost use Rattle.std.specs.Prelude.{◌≡◌};
 ghost use Rattle.std.specs.Option.{option_map};
-ghost use Rattle.dcsctp_machine.specs.turns.MessageOutcomes.{message_refusal, refusal_kind, refusal_text, is_full};
-ghost use Rattle.dcsctp_api.specs.Messages.{refusal_of};
+ghost use Rattle.dcsctp_core.specs.spec.endpoint.MessageOutcomes.{message_refusal, refusal_kind, refusal_text, is_full};
+ghost use Rattle.dcsctp_core.specs.api.Messages.{refusal_of};
 ghost use Rattle.dcsctp_core.specs.View.{endpoint_of};
 ghost use Rattle.dcsctp_core.specs.Handling.{Takes};
 ghost use Rattle.dcsctp_core_messages.specs.Sending.{refusal_turn, EndTold, ErrorTold};
 
-use dcsctp_api::{ErrorKind, LifecycleId, SendError, SocketEvent, StreamId};
 use dcsctp_core::Context;
+use dcsctp_core::api::{ErrorKind, LifecycleId, SendError, SocketEvent, StreamId};
 use rand_core::Rng;
 use std::alloc::AllocError;
 

@@ -2,15 +2,15 @@
 
 ghost use Rattle.std.specs.Prelude.{◌≡◌, ◌≢◌, None, IsOk};
 ghost use Rattle.std.specs.Option.{option_map};
-ghost use Rattle.dcsctp_machine.specs.Ids.{stream_numbers};
-ghost use Rattle.dcsctp_machine.specs.turns.PreparedResets.{reset_refusal};
-ghost use Rattle.dcsctp_api.specs.Resets.{reset_refusal_of};
+ghost use Rattle.dcsctp_core.specs.types.Ids.{stream_numbers};
+ghost use Rattle.dcsctp_core.specs.spec.endpoint.PreparedResets.{reset_refusal};
+ghost use Rattle.dcsctp_core.specs.api.Resets.{reset_refusal_of};
 ghost use Rattle.dcsctp_core.specs.View.{endpoint_of};
 ghost use Rattle.dcsctp_core.specs.Handling.{TakesOne};
 ghost use Rattle.dcsctp_core_messages.specs.Resetting.{OneAt, SomeAt, ResetsAll};
 
-use dcsctp_api::{ResetStreamsError, StreamId};
 use dcsctp_core::Context;
+use dcsctp_core::api::{ResetStreamsError, StreamId};
 use rand_core::Rng;
 use std::alloc::AllocError;
 

@@ -1,14 +1,14 @@
 //! `send` and `send_many` (RFC 9260, section 6.1).
 
 ghost use Rattle.std.specs.Prelude.{map};
-ghost use Rattle.dcsctp_machine.specs.transfer.Messages.{message_content};
-ghost use Rattle.dcsctp_machine.specs.turns.MessageOutcomes.{sending_of};
-ghost use Rattle.dcsctp_api.specs.Messages.{refused_in, IsBatchAnswer};
+ghost use Rattle.dcsctp_core.specs.types.queues.Messages.{message_content};
+ghost use Rattle.dcsctp_core.specs.spec.endpoint.MessageOutcomes.{sending_of};
+ghost use Rattle.dcsctp_core.specs.api.Messages.{refused_in, IsBatchAnswer};
 ghost use Rattle.dcsctp_core_messages.specs.Sending.{SendsOne, SendsAll, FlushesWhere};
 
 use crate::queueing::{QueuedAll, queue_message, queue_messages};
-use dcsctp_api::{BatchSendError, Message, SendError, SendOptions};
 use dcsctp_core::Context;
+use dcsctp_core::api::{BatchSendError, Message, SendError, SendOptions};
 use rand_core::Rng;
 use std::alloc::AllocError;
 

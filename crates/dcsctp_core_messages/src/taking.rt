@@ -3,8 +3,8 @@
 ghost use Rattle.dcsctp_core.specs.View.{view_of};
 ghost use Rattle.dcsctp_core_messages.specs.Taking.{TakesNextOf};
 
-use dcsctp_api::Message;
 use dcsctp_core::Context;
+use dcsctp_core::api::Message;
 use rand_core::Rng;
 
 /// Takes the message that became ready first, if one is ready, and gives its bytes back to the receive window

@@ -5,31 +5,31 @@ use Rattle.std.specs.Option.{option_map}
 use Rattle.std.proofs.lemmas.Bool.Decides.{nat_tests}
 use Rattle.std.proofs.lemmas.List.{append-nil, map-append}
 use Rattle.rand_core.specs.Stream.{Stream}
-use Rattle.dcsctp_wire.specs.declared.parameter.Parameter.{Parameter}
-use Rattle.dcsctp_wire.specs.Content.{re_config_chunk}
-use Rattle.dcsctp_wire.specs.Spelling.{chunk_bytes, header_bytes, packet_bytes_of}
-use Rattle.dcsctp_machine.specs.declared.association.Pair.{Pair}
-use Rattle.dcsctp_machine.specs.declared.association.Held.{Held}
-use Rattle.dcsctp_machine.specs.declared.kinds.ErrorKind.TheVariants.{ProtocolViolation}
-use Rattle.dcsctp_wire.specs.declared.reconfiguration.ReconfigurationResponseResult.{ReconfigurationResponseResult}
-use Rattle.dcsctp_wire.specs.declared.reconfiguration.ReconfigurationResponseResult.TheVariants.{SuccessNothingToDo, SuccessPerformed, Denied, ErrorWrongSSN, ErrorRequestAlreadyInProgress, ErrorBadSequenceNumber, InProgress}
-use Rattle.dcsctp_machine.specs.Settings.{Ports, ports_of, packet_size_limit}
-use Rattle.dcsctp_machine.specs.Event.{Event, sent, incoming_stream_reset}
-use Rattle.dcsctp_machine.specs.Packet.{Content, re_config, chunk_out, Emission, emission_bytes}
-use Rattle.dcsctp_machine.specs.Reconfiguration.{RequestedReset, ResetParameter, outgoing_reset_request, incoming_reset_request, reconfiguration_response, other_reset_parameter, reset_parameter_content}
-use Rattle.dcsctp_machine.specs.transfer.Transfer.{Transfer}
-use Rattle.dcsctp_machine.specs.Endpoint.{Endpoint, Core, cookie_echoed, open_in, OpenPhase, held_in}
+use Rattle.dcsctp_core.specs.wire.declared.parameter.Parameter.{Parameter}
+use Rattle.dcsctp_core.specs.wire.Content.{re_config_chunk}
+use Rattle.dcsctp_core.specs.wire.Spelling.{chunk_bytes, header_bytes, packet_bytes_of}
+use Rattle.dcsctp_core.specs.types.declared.association.Pair.{Pair}
+use Rattle.dcsctp_core.specs.types.declared.association.Held.{Held}
+use Rattle.dcsctp_core.specs.types.declared.kinds.ErrorKind.TheVariants.{ProtocolViolation}
+use Rattle.dcsctp_core.specs.wire.declared.reconfiguration.ReconfigurationResponseResult.{ReconfigurationResponseResult}
+use Rattle.dcsctp_core.specs.wire.declared.reconfiguration.ReconfigurationResponseResult.TheVariants.{SuccessNothingToDo, SuccessPerformed, Denied, ErrorWrongSSN, ErrorRequestAlreadyInProgress, ErrorBadSequenceNumber, InProgress}
+use Rattle.dcsctp_core.specs.types.Settings.{Ports, ports_of, packet_size_limit}
+use Rattle.dcsctp_core.specs.spec.endpoint.Event.{Event, sent, incoming_stream_reset}
+use Rattle.dcsctp_core.specs.spec.Packet.{Content, re_config, chunk_out, Emission, emission_bytes}
+use Rattle.dcsctp_core.specs.spec.Reconfiguration.{RequestedReset, ResetParameter, outgoing_reset_request, incoming_reset_request, reconfiguration_response, other_reset_parameter, reset_parameter_content}
+use Rattle.dcsctp_core.specs.spec.queues.Transfer.{Transfer}
+use Rattle.dcsctp_core.specs.spec.endpoint.Endpoint.{Endpoint, Core, cookie_echoed, open_in, OpenPhase, held_in}
 use Rattle.std.specs.Prelude.{if◌then◌else◌}
-use Rattle.dcsctp_machine.specs.Outcome.{Outcome, still, quiet, sends, emits, counted, fits, noting, to_peer}
-use Rattle.dcsctp_machine.specs.control.Effect.{Effect, drawn_in}
-use Rattle.dcsctp_machine.specs.control.ResetChanges.{Place, again, next, astray, place_of, Answered, incoming_by, Informed, informed_by, is_outstanding, informed_where, WorkedParameters, work_parameters, work_chunk}
-use Rattle.dcsctp_machine.specs.turns.FlushOutcomes.{is_none, Answer, draft_to, flush_of, first_ask, packets_allowed}
-use Rattle.dcsctp_machine.specs.turns.DataOutcomes.{flush_by, AnswersTo, FlushTurn}
-use Rattle.dcsctp_machine.specs.turns.ResetOutcomes.{requested_in, is_reached, worked_in, OwnAnswer, unanswered, retried, was_performed, has_failed, own_moved, own_answer, in_progress_among, answered_in, worked_part, own_streams, has_reset, answers_in_progress, ResetsBelow, ResetsStreams, defers_reset, their_streams, told_of, core_with, resets_worked, reset_refusal_text, responses_outcome, responses_by, ResponseAnswers, resets_by, WorksResets, ResetTurn}
-use Rattle.dcsctp_machine.proofs.AnswerLemmas.{any_answers}
-use Rattle.dcsctp_machine.proofs.ReassemblyLemmas.{any_left}
-use Rattle.dcsctp_machine.proofs.TurnLemmas.{drawn_in-append}
-use Rattle.dcsctp_api.specs.Calls.{user_event}
+use Rattle.dcsctp_core.specs.spec.endpoint.Outcome.{Outcome, still, quiet, sends, emits, counted, fits, noting, to_peer}
+use Rattle.dcsctp_core.specs.spec.association.Effect.{Effect, drawn_in}
+use Rattle.dcsctp_core.specs.spec.association.ResetChanges.{Place, again, next, astray, place_of, Answered, incoming_by, Informed, informed_by, is_outstanding, informed_where, WorkedParameters, work_parameters, work_chunk}
+use Rattle.dcsctp_core.specs.spec.endpoint.FlushOutcomes.{is_none, Answer, draft_to, flush_of, first_ask, packets_allowed}
+use Rattle.dcsctp_core.specs.spec.endpoint.DataOutcomes.{flush_by, AnswersTo, FlushTurn}
+use Rattle.dcsctp_core.specs.spec.endpoint.ResetOutcomes.{requested_in, is_reached, worked_in, OwnAnswer, unanswered, retried, was_performed, has_failed, own_moved, own_answer, in_progress_among, answered_in, worked_part, own_streams, has_reset, answers_in_progress, ResetsBelow, ResetsStreams, defers_reset, their_streams, told_of, core_with, resets_worked, reset_refusal_text, responses_outcome, responses_by, ResponseAnswers, resets_by, WorksResets, ResetTurn}
+use Rattle.dcsctp_core.proofs.spec_lemmas.AnswerLemmas.{any_answers}
+use Rattle.dcsctp_core.proofs.spec_lemmas.ReassemblyLemmas.{any_left}
+use Rattle.dcsctp_core.proofs.spec_lemmas.TurnLists.{drawn_in-append}
+use Rattle.dcsctp_core.specs.api.Calls.{user_event}
 use Rattle.dcsctp_core.specs.declared.context.Context.{Context}
 use Rattle.dcsctp_core.specs.declared.state.State.{State}
 use Rattle.dcsctp_core.specs.declared.transmission_control_block.TransmissionControlBlock.{TransmissionControlBlock}

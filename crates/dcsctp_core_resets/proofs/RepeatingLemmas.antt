@@ -3,18 +3,18 @@ use Rattle.std.proofs.Common.{◌≡◌, ◌==◌, ◌%◌, ◌^◌, ◌<◌, �
 use Rattle.std.specs.List.{AllByRecursion}
 use Rattle.std.specs.Int.{w16, to_be_bytes}
 use Rattle.rand_core.specs.Stream.{Stream}
-use Rattle.dcsctp_wire.specs.Content.{ChunkContent, re_config_chunk, outgoing_ssn_reset_request}
-use Rattle.dcsctp_machine.specs.declared.association.Held.{Held}
-use Rattle.dcsctp_machine.specs.Ids.{stream_numbers}
-use Rattle.dcsctp_machine.specs.Settings.{ports_of}
-use Rattle.dcsctp_machine.specs.Packet.{Content, chunk_out}
-use Rattle.dcsctp_machine.specs.Endpoint.{Endpoint, OutstandingRequest, held_in}
-use Rattle.dcsctp_machine.specs.Outcome.{still, emits, to_peer}
-use Rattle.dcsctp_machine.specs.TimeTurns.{own_timer}
-use Rattle.dcsctp_machine.specs.control.FlushChanges.{reset_request}
-use Rattle.dcsctp_machine.specs.turns.HeartbeatOutcomes.{is_exhausted}
-use Rattle.dcsctp_machine.specs.turns.OwnTimers.{reconfiguration}
-use Rattle.dcsctp_machine.specs.turns.ReconfigurationOutcomes.{reset_again, request_emitted, request_unless, reconfiguration_expired, request_expired, reconfiguration_outcome}
+use Rattle.dcsctp_core.specs.wire.Content.{ChunkContent, re_config_chunk, outgoing_ssn_reset_request}
+use Rattle.dcsctp_core.specs.types.declared.association.Held.{Held}
+use Rattle.dcsctp_core.specs.types.Ids.{stream_numbers}
+use Rattle.dcsctp_core.specs.types.Settings.{ports_of}
+use Rattle.dcsctp_core.specs.spec.Packet.{Content, chunk_out}
+use Rattle.dcsctp_core.specs.spec.endpoint.Endpoint.{Endpoint, OutstandingRequest, held_in}
+use Rattle.dcsctp_core.specs.spec.endpoint.Outcome.{still, emits, to_peer}
+use Rattle.dcsctp_core.specs.spec.endpoint.TimeTurns.{own_timer}
+use Rattle.dcsctp_core.specs.spec.association.FlushChanges.{reset_request}
+use Rattle.dcsctp_core.specs.spec.endpoint.HeartbeatOutcomes.{is_exhausted}
+use Rattle.dcsctp_core.specs.spec.endpoint.OwnTimers.{reconfiguration}
+use Rattle.dcsctp_core.specs.spec.endpoint.ReconfigurationOutcomes.{reset_again, request_emitted, request_unless, reconfiguration_expired, request_expired, reconfiguration_outcome}
 use Rattle.dcsctp_core.specs.declared.context.Context.{Context}
 use Rattle.dcsctp_core.specs.declared.state.State.{State}
 use Rattle.dcsctp_core.specs.declared.state.State.TheVariants.{Closed, CookieWait, CookieEchoed, Open}

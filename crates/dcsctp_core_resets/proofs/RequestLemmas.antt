@@ -2,20 +2,20 @@
 use Rattle.std.proofs.Common.{◌≡◌, ◌&&◌, ◌⊎◌, inl, inr, ℕ, ◌+◌, ◌<◌, nat_eq, Bool, true, false, Option, None, List, [], ◌∷◌, ◌++◌, map, length, take, drop, get_or, refl, sym, subst, ap, ◌∙◌, append_assoc, arith, ◌==◌, ◌||◌, not, Some}
 use Rattle.std.proofs.lemmas.List.{append-nil, map-append, take_more, take-append-drop}
 use Rattle.std.proofs.lemmas.Bool.Decides.{nat_tests}
-use Rattle.dcsctp_wire.specs.declared.parameter.Parameter.{Parameter}
-use Rattle.dcsctp_wire.specs.declared.parameter.Parameter.TheVariants as parameters
-use Rattle.dcsctp_wire.specs.declared.reconfiguration.OutgoingSsnResetRequestParameter.{OutgoingSsnResetRequestParameter}
-use Rattle.dcsctp_wire.specs.declared.reconfiguration.ReconfigurationResponseResult.{ReconfigurationResponseResult}
-use Rattle.dcsctp_wire.specs.Content.{ParameterContent, parameter_content}
-use Rattle.dcsctp_machine.specs.declared.association.Pair.{Pair}
-use Rattle.dcsctp_machine.specs.declared.association.Held.{Held}
-use Rattle.dcsctp_machine.specs.Event.{Event, streams_reset_performed}
-use Rattle.dcsctp_machine.specs.Packet.{Emission}
-use Rattle.dcsctp_machine.specs.Reconfiguration.{RequestedReset, ResetParameter, outgoing_reset_request, incoming_reset_request, reconfiguration_response, other_reset_parameter, reset_parameter_content, reset_parameter_in}
-use Rattle.dcsctp_machine.specs.control.Effect.{Effect, draws, sends, holds, connects, ends, begins, completes, fails, accepts, performs, resumes, drawn_in}
-use Rattle.dcsctp_machine.specs.control.ResetChanges.{Place, again, next, astray, place_of, Answered, accepted, outgoing_by, incoming_by, Informed, is_outstanding, informed_where, WorkedParameters, after_request, after_answer, work_parameters, work_chunk, informed_by}
-use Rattle.dcsctp_machine.specs.turns.FlushOutcomes.{is_none}
-use Rattle.dcsctp_machine.specs.turns.ResetOutcomes.{has_reset, answers_in_progress, reset_events, worked_part, is_in_progress, own_answer, in_progress_among, has_completed}
+use Rattle.dcsctp_core.specs.wire.declared.parameter.Parameter.{Parameter}
+use Rattle.dcsctp_core.specs.wire.declared.parameter.Parameter.TheVariants as parameters
+use Rattle.dcsctp_core.specs.wire.declared.reconfiguration.OutgoingSsnResetRequestParameter.{OutgoingSsnResetRequestParameter}
+use Rattle.dcsctp_core.specs.wire.declared.reconfiguration.ReconfigurationResponseResult.{ReconfigurationResponseResult}
+use Rattle.dcsctp_core.specs.wire.Content.{ParameterContent, parameter_content}
+use Rattle.dcsctp_core.specs.types.declared.association.Pair.{Pair}
+use Rattle.dcsctp_core.specs.types.declared.association.Held.{Held}
+use Rattle.dcsctp_core.specs.spec.endpoint.Event.{Event, streams_reset_performed}
+use Rattle.dcsctp_core.specs.spec.Packet.{Emission}
+use Rattle.dcsctp_core.specs.spec.Reconfiguration.{RequestedReset, ResetParameter, outgoing_reset_request, incoming_reset_request, reconfiguration_response, other_reset_parameter, reset_parameter_content, reset_parameter_in}
+use Rattle.dcsctp_core.specs.spec.association.Effect.{Effect, draws, sends, holds, connects, ends, begins, completes, fails, accepts, performs, resumes, drawn_in}
+use Rattle.dcsctp_core.specs.spec.association.ResetChanges.{Place, again, next, astray, place_of, Answered, accepted, outgoing_by, incoming_by, Informed, is_outstanding, informed_where, WorkedParameters, after_request, after_answer, work_parameters, work_chunk, informed_by}
+use Rattle.dcsctp_core.specs.spec.endpoint.FlushOutcomes.{is_none}
+use Rattle.dcsctp_core.specs.spec.endpoint.ResetOutcomes.{has_reset, answers_in_progress, reset_events, worked_part, is_in_progress, own_answer, in_progress_among, has_completed}
 use Rattle.dcsctp_core_resets.specs.declared.requests.Treatment.{Treatment}
 use Rattle.dcsctp_core_resets.specs.declared.requests.Treatment.TheVariants.{Nothing, Deferred, Performed}
 use Rattle.dcsctp_core_resets.specs.declared.requests.LastRequest.{LastRequest}
@@ -24,10 +24,10 @@ use Rattle.dcsctp_core_resets.specs.declared.requests.HandledRequests.{HandledRe
 use Rattle.dcsctp_core_resets.specs.Requests.{said_by, reset_parameters, is_outgoing, held_with, is_performed, is_deferred, treated_events, Treats, AnswersAs, Responds, behind_these, AreResponses, WorksOne, WorksChunk, held_out, own_events, own_kind, is_completed, own_ended, with_result, with_response, left_out, SameOwn, held_now, told_so, TreatsBoth, Brings, brings_nothing, brings_request, brings_answer}
 use Rattle.std.specs.List.{list_any}
 use Rattle.std.proofs.lemmas.List.Folds.{list_any-append}
-use Rattle.dcsctp_wire.specs.declared.reconfiguration.ReconfigurationResponseResult.TheVariants.{SuccessNothingToDo, SuccessPerformed, Denied, ErrorWrongSSN, ErrorRequestAlreadyInProgress, ErrorBadSequenceNumber, InProgress}
+use Rattle.dcsctp_core.specs.wire.declared.reconfiguration.ReconfigurationResponseResult.TheVariants.{SuccessNothingToDo, SuccessPerformed, Denied, ErrorWrongSSN, ErrorRequestAlreadyInProgress, ErrorBadSequenceNumber, InProgress}
 use Rattle.dcsctp_core_resets.specs.declared.requests.OwnAnswer.{OwnAnswer}
 use Rattle.dcsctp_core_resets.specs.declared.requests.OwnAnswer.TheVariants as own
-use Rattle.dcsctp_machine.specs.turns.ResetOutcomes as outcomes
+use Rattle.dcsctp_core.specs.spec.endpoint.ResetOutcomes as outcomes
 
 -- ---- effects
 

@@ -2,13 +2,13 @@
 use Rattle.std.proofs.Common.{◌≡◌, ℕ, Bool, true, false, Option, None, Some, Result, Ok, Err, List, [], ◌∷◌, ◌++◌, length, take, refl, sym, ap, subst, ◌∙◌, append_assoc}
 use Rattle.std.specs.Option.{option_map}
 use Rattle.std.proofs.lemmas.List.{append-nil}
-use Rattle.dcsctp_machine.specs.Event.{Event}
-use Rattle.dcsctp_machine.specs.Reconfiguration.{RequestedReset}
-use Rattle.dcsctp_machine.specs.transfer.Transfer.{Transfer}
-use Rattle.dcsctp_machine.specs.Endpoint.{OutstandingRequest, cookie_echoed, open_in}
-use Rattle.dcsctp_machine.specs.Timers.{RunningTimer}
-use Rattle.dcsctp_machine.specs.turns.ResetOutcomes.{OwnAnswer, unanswered, retried, was_performed, has_failed, waiting, own_streams}
-use Rattle.dcsctp_api.specs.declared.events.SocketEvent.{SocketEvent}
+use Rattle.dcsctp_core.specs.spec.endpoint.Event.{Event}
+use Rattle.dcsctp_core.specs.spec.Reconfiguration.{RequestedReset}
+use Rattle.dcsctp_core.specs.spec.queues.Transfer.{Transfer}
+use Rattle.dcsctp_core.specs.spec.endpoint.Endpoint.{OutstandingRequest, cookie_echoed, open_in}
+use Rattle.dcsctp_core.specs.spec.endpoint.Timers.{RunningTimer}
+use Rattle.dcsctp_core.specs.spec.endpoint.ResetOutcomes.{OwnAnswer, unanswered, retried, was_performed, has_failed, waiting, own_streams}
+use Rattle.dcsctp_core.specs.api.declared.events.SocketEvent.{SocketEvent}
 use Rattle.dcsctp_core.specs.declared.context.Context.{Context}
 use Rattle.dcsctp_core.specs.declared.state.CookieEchoState.{CookieEchoState}
 use Rattle.dcsctp_core.specs.declared.state.OpenState.{OpenState}
@@ -17,7 +17,7 @@ use Rattle.dcsctp_core.specs.declared.transmission_control_block.ResetRequest.{R
 use Rattle.dcsctp_core.specs.declared.transmission_control_block.TransmissionControlBlock.{TransmissionControlBlock}
 use Rattle.dcsctp_core.specs.declared.state.State.TheVariants.{Closed, CookieWait, CookieEchoed, Open}
 use Rattle.dcsctp_core.specs.View.{View, number_of, request_of, own_request, timer_of, held_of, phase_in, tcb_of, outstanding_of, transfer_of, view_of}
-use Rattle.dcsctp_machine.specs.Timers.{TimerModel}
+use Rattle.dcsctp_core.specs.spec.endpoint.Timers.{TimerModel}
 use Rattle.dcsctp_core.specs.Answering.{delayed, Retries}
 use Rattle.dcsctp_core.specs.Reconfiguring.{request_in, tcb_changed}
 use Rattle.dcsctp_core.proofs.LendingLemmas.{within}

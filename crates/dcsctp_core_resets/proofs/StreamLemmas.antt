@@ -2,10 +2,10 @@
 use Rattle.std.proofs.Common.{◌≡◌, ℕ, zero, suc, ◌+◌, ◌*◌, ◌/◌, ◌<◌, ◌≤◌, List, [], ◌∷◌, ◌++◌, length, take, drop, refl, sym, ap, ◌∙◌, arith}
 use Rattle.std.specs.Int.{w16, from_be_bytes}
 use Rattle.std.proofs.lemmas.List.{map-append, take_all}
-use Rattle.dcsctp_machine.specs.declared.ids.StreamId.{StreamId}
-use Rattle.dcsctp_machine.specs.Ids.{stream_numbers}
-use Rattle.dcsctp_machine.specs.Reconfiguration.{streams_in}
-use Rattle.dcsctp_wire.specs.Fields.{stream_at}
+use Rattle.dcsctp_core.specs.types.declared.ids.StreamId.{StreamId}
+use Rattle.dcsctp_core.specs.types.Ids.{stream_numbers}
+use Rattle.dcsctp_core.specs.spec.Reconfiguration.{streams_in}
+use Rattle.dcsctp_core.specs.wire.Fields.{stream_at}
 
 stream_later : (i first second : ℕ) (bytes : List ℕ) → stream_at (suc i) (first ∷ second ∷ bytes) ≡ stream_at i bytes
 stream_later i first second bytes =

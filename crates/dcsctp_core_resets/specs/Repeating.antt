@@ -1,12 +1,12 @@
 -- What the handler of the reconfiguration timer does, as turns of a socket's view (RFC 6525, section 5.1.1).
 use Rattle.std.specs.Prelude.{Bool, true, false, Option, Some, [], ◌∷◌}
-use Rattle.dcsctp_wire.specs.Content.{ChunkContent, re_config_chunk, outgoing_ssn_reset_request}
-use Rattle.dcsctp_wire.specs.declared.reconfiguration.OutgoingSsnResetRequestParameter.{OutgoingSsnResetRequestParameter}
-use Rattle.dcsctp_machine.specs.declared.association.Held.{Held}
-use Rattle.dcsctp_machine.specs.Endpoint.{Endpoint, OutstandingRequest, held_in}
-use Rattle.dcsctp_machine.specs.Outcome.{Outcome, still}
-use Rattle.dcsctp_machine.specs.turns.HeartbeatOutcomes.{is_exhausted}
-use Rattle.dcsctp_machine.specs.turns.ReconfigurationOutcomes.{reset_again, request_emitted}
+use Rattle.dcsctp_core.specs.wire.Content.{ChunkContent, re_config_chunk, outgoing_ssn_reset_request}
+use Rattle.dcsctp_core.specs.wire.declared.reconfiguration.OutgoingSsnResetRequestParameter.{OutgoingSsnResetRequestParameter}
+use Rattle.dcsctp_core.specs.types.declared.association.Held.{Held}
+use Rattle.dcsctp_core.specs.spec.endpoint.Endpoint.{Endpoint, OutstandingRequest, held_in}
+use Rattle.dcsctp_core.specs.spec.endpoint.Outcome.{Outcome, still}
+use Rattle.dcsctp_core.specs.spec.endpoint.HeartbeatOutcomes.{is_exhausted}
+use Rattle.dcsctp_core.specs.spec.endpoint.ReconfigurationOutcomes.{reset_again, request_emitted}
 use Rattle.dcsctp_core.specs.View.{View}
 
 -- a RE-CONFIG of this request

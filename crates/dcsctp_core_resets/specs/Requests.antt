@@ -1,19 +1,19 @@
 -- What the code makes of the peer's requests, as the machine says it (RFC 6525, section 5.2).
 use Rattle.std.specs.Prelude.{◌≡◌, ℕ, Bool, true, false, not, ◌||◌, Option, None, Some, List, [], ◌∷◌, ◌++◌, map}
-use Rattle.dcsctp_wire.specs.declared.parameter.Parameter.{Parameter}
-use Rattle.dcsctp_wire.specs.declared.reconfiguration.ReconfigurationResponseResult.{ReconfigurationResponseResult}
-use Rattle.dcsctp_wire.specs.declared.reconfiguration.ReconfigurationResponseResult.TheVariants.{SuccessNothingToDo, SuccessPerformed, Denied, ErrorWrongSSN, ErrorRequestAlreadyInProgress, ErrorBadSequenceNumber, InProgress}
-use Rattle.dcsctp_wire.specs.Content.{parameter_content}
-use Rattle.dcsctp_machine.specs.declared.association.Pair.{Pair}
-use Rattle.dcsctp_machine.specs.declared.association.Held.{Held}
-use Rattle.dcsctp_machine.specs.Event.{Event, incoming_stream_reset, streams_reset_failed, streams_reset_performed}
-use Rattle.dcsctp_machine.specs.Packet.{Emission}
-use Rattle.dcsctp_machine.specs.Reconfiguration.{ResetParameter, outgoing_reset_request, reconfiguration_response, reset_parameter_content, reset_parameter_in}
-use Rattle.dcsctp_machine.specs.control.Effect.{Effect, drawn_in}
-use Rattle.dcsctp_machine.specs.control.ResetChanges.{Answered, with_last, informed_by, WorkedParameters, work_parameters, work_chunk}
-use Rattle.dcsctp_machine.specs.control.ResetChanges as changes
-use Rattle.dcsctp_machine.specs.turns.ResetOutcomes.{has_reset, answers_in_progress, worked_part, own_answer, in_progress_among, reset_events}
-use Rattle.dcsctp_machine.specs.turns.ResetOutcomes as outcomes
+use Rattle.dcsctp_core.specs.wire.declared.parameter.Parameter.{Parameter}
+use Rattle.dcsctp_core.specs.wire.declared.reconfiguration.ReconfigurationResponseResult.{ReconfigurationResponseResult}
+use Rattle.dcsctp_core.specs.wire.declared.reconfiguration.ReconfigurationResponseResult.TheVariants.{SuccessNothingToDo, SuccessPerformed, Denied, ErrorWrongSSN, ErrorRequestAlreadyInProgress, ErrorBadSequenceNumber, InProgress}
+use Rattle.dcsctp_core.specs.wire.Content.{parameter_content}
+use Rattle.dcsctp_core.specs.types.declared.association.Pair.{Pair}
+use Rattle.dcsctp_core.specs.types.declared.association.Held.{Held}
+use Rattle.dcsctp_core.specs.spec.endpoint.Event.{Event, incoming_stream_reset, streams_reset_failed, streams_reset_performed}
+use Rattle.dcsctp_core.specs.spec.Packet.{Emission}
+use Rattle.dcsctp_core.specs.spec.Reconfiguration.{ResetParameter, outgoing_reset_request, reconfiguration_response, reset_parameter_content, reset_parameter_in}
+use Rattle.dcsctp_core.specs.spec.association.Effect.{Effect, drawn_in}
+use Rattle.dcsctp_core.specs.spec.association.ResetChanges.{Answered, with_last, informed_by, WorkedParameters, work_parameters, work_chunk}
+use Rattle.dcsctp_core.specs.spec.association.ResetChanges as changes
+use Rattle.dcsctp_core.specs.spec.endpoint.ResetOutcomes.{has_reset, answers_in_progress, worked_part, own_answer, in_progress_among, reset_events}
+use Rattle.dcsctp_core.specs.spec.endpoint.ResetOutcomes as outcomes
 use Rattle.dcsctp_core_resets.specs.declared.requests.Place.{Place}
 use Rattle.dcsctp_core_resets.specs.declared.requests.Place.TheVariants.{Again, Next, Astray}
 use Rattle.dcsctp_core_resets.specs.declared.requests.Treatment.{Treatment}

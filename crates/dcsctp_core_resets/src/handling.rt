@@ -2,11 +2,11 @@
 
 ghost use Rattle.std.specs.Prelude.{◌≡◌, Some, OnOk, OnErr, IfOk};
 ghost use Rattle.std.specs.Option.{option_map};
-ghost use Rattle.dcsctp_wire.specs.Content.{re_config_chunk};
+ghost use Rattle.dcsctp_core.specs.wire.Content.{re_config_chunk};
 ghost use Rattle.std.specs.Prelude.{map};
-ghost use Rattle.dcsctp_machine.specs.Ids.{stream_numbers};
-ghost use Rattle.dcsctp_machine.specs.Reconfiguration.{reset_parameter_content};
-ghost use Rattle.dcsctp_machine.specs.turns.ResetOutcomes.{is_reached, reset_refusal_text, ResetsStreams};
+ghost use Rattle.dcsctp_core.specs.types.Ids.{stream_numbers};
+ghost use Rattle.dcsctp_core.specs.spec.Reconfiguration.{reset_parameter_content};
+ghost use Rattle.dcsctp_core.specs.spec.endpoint.ResetOutcomes.{is_reached, reset_refusal_text, ResetsStreams};
 ghost use Rattle.dcsctp_core.specs.Reconfiguring.{request_in, tcb_changed};
 ghost use Rattle.dcsctp_core.specs.Answering.{request_ended};
 ghost use Rattle.dcsctp_core.specs.View.{tcb_of, transfer_of, view_of};
@@ -17,9 +17,9 @@ ghost use Rattle.dcsctp_core_resets.specs.Resets.{CarriesOut, Defers, DefersTo, 
 
 use crate::reading::{requested, streams_of};
 use crate::requests::{HandledRequests, LastRequest, OwnAnswer, Treatment, handle_requests};
-use dcsctp_api::{ErrorKind, SocketEvent, SocketTime, StreamId};
+use dcsctp_core::api::{ErrorKind, SocketEvent, SocketTime, StreamId};
+use dcsctp_core::wire::{Chunk, OutgoingSsnResetRequestParameter, Parameter, ReConfigChunk};
 use dcsctp_core::{Context, ResetRequest, State, TransmissionControlBlock};
-use dcsctp_wire::{Chunk, OutgoingSsnResetRequestParameter, Parameter, ReConfigChunk};
 use rand_core::Rng;
 use std::alloc::{AllocError, Global};
 

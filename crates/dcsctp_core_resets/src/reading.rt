@@ -2,14 +2,14 @@
 
 ghost use Rattle.std.specs.Prelude.{◌≡◌, IfOk};
 ghost use Rattle.std.specs.Option.{option_map};
-ghost use Rattle.dcsctp_machine.specs.Ids.{stream_numbers};
-ghost use Rattle.dcsctp_machine.specs.Reconfiguration.{streams_in};
-ghost use Rattle.dcsctp_machine.specs.turns.ResetOutcomes.{requested_in};
+ghost use Rattle.dcsctp_core.specs.types.Ids.{stream_numbers};
+ghost use Rattle.dcsctp_core.specs.spec.Reconfiguration.{streams_in};
+ghost use Rattle.dcsctp_core.specs.spec.endpoint.ResetOutcomes.{requested_in};
 ghost use Rattle.dcsctp_core_resets.specs.Requests.{reset_parameters};
 ghost use Rattle.dcsctp_core_resets.specs.Resets.{wanted_by};
 
-use dcsctp_api::StreamId;
-use dcsctp_wire::{OutgoingSsnResetRequestParameter, Parameter};
+use dcsctp_core::api::StreamId;
+use dcsctp_core::wire::{OutgoingSsnResetRequestParameter, Parameter};
 use std::alloc::{AllocError, Global};
 
 /// The first Outgoing SSN Reset Request, if there is one: no other of its chunk is handled.

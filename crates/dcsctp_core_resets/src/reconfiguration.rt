@@ -1,14 +1,14 @@
 //! Our own request to reset streams is sent again (RFC 6525, section 5.1.1). Called by `advance_time`.
 
 ghost use Rattle.std.specs.Prelude.{◌≡◌};
-ghost use Rattle.dcsctp_machine.specs.TimeTurns.{own_timer};
-ghost use Rattle.dcsctp_machine.specs.turns.OwnTimers.{reconfiguration};
+ghost use Rattle.dcsctp_core.specs.spec.endpoint.TimeTurns.{own_timer};
+ghost use Rattle.dcsctp_core.specs.spec.endpoint.OwnTimers.{reconfiguration};
 ghost use Rattle.dcsctp_core.specs.Handling.{Tries, Emits};
 ghost use Rattle.dcsctp_core.specs.Timing.{Expires};
 ghost use Rattle.dcsctp_core_resets.specs.Repeating.{request_chunk, again_turn, unless_turn};
 
+use dcsctp_core::wire::{Chunk, OutgoingSsnResetRequestParameter, Parameter, ReConfigChunk};
 use dcsctp_core::{Context, ResetRequest, stream_bytes};
-use dcsctp_wire::{Chunk, OutgoingSsnResetRequestParameter, Parameter, ReConfigChunk};
 use rand_core::Rng;
 use std::alloc::AllocError;
 

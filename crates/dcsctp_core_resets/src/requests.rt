@@ -2,12 +2,14 @@
 //! our own (RFC 6525, section 5.2). This only decides, and changes nothing of a socket.
 
 ghost use Rattle.std.specs.Prelude.{◌≡◌, ◌&&◌, false, OnOk, IfOk};
-ghost use Rattle.dcsctp_machine.specs.declared.association.Held.{Held};
-ghost use Rattle.dcsctp_machine.specs.control.ResetChanges.{outgoing_by, incoming_by, is_outstanding};
-ghost use Rattle.dcsctp_machine.specs.control.ResetChanges as changes;
+ghost use Rattle.dcsctp_core.specs.types.declared.association.Held.{Held};
+ghost use Rattle.dcsctp_core.specs.spec.association.ResetChanges.{outgoing_by, incoming_by, is_outstanding};
+ghost use Rattle.dcsctp_core.specs.spec.association.ResetChanges as changes;
 ghost use Rattle.dcsctp_core_resets.specs.Requests.{AnswersAs, Responds, WorksOne, WorksChunk, held_with, in_place, is_outgoing, own_ended, reset_parameters, said_by, with_response};
 
-use dcsctp_wire::{Parameter, ReconfigurationResponseParameter, ReconfigurationResponseResult};
+use dcsctp_core::wire::{
+    Parameter, ReconfigurationResponseParameter, ReconfigurationResponseResult,
+};
 use std::alloc::{AllocError, Global};
 
 /// The last request of the peer that was accepted, and the answer to it.

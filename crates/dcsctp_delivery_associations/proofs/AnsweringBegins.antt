@@ -1,12 +1,12 @@
 -- Turns of the receiver in which an association begins.
 use Rattle.std.proofs.Common.{◌≡◌, ◌≢◌, ℕ, ◌≤◌, suc, Bool, true, false, Option, None, Some, List, [], ◌∷◌, length, refl, sym, ◌∙◌, ap, subst, arith, inl, inr}
 use Rattle.std.specs.Prelude.{◌⊎◌}
-use Rattle.dcsctp_machine.specs.declared.association.Pair.{Pair}
-use Rattle.dcsctp_machine.specs.Past.{Has, number_to_accept, number_to_perform}
-use Rattle.dcsctp_machine.specs.World.{after_effects}
-use Rattle.dcsctp_machine.specs.control.Effect.{Link, Effect, holds, performs}
-use Rattle.dcsctp_machine.specs.transfer.Reassembly.{DeferralModel}
-use Rattle.dcsctp_machine.specs.turns.BegunResets.{BegunReset}
+use Rattle.dcsctp_spec_lemmas.specs.types.declared.association.Pair.{Pair}
+use Rattle.dcsctp_spec_runs.specs.Past.{Has, number_to_accept, number_to_perform}
+use Rattle.dcsctp_spec_runs.specs.World.{after_effects}
+use Rattle.dcsctp_spec_lemmas.specs.spec.association.Effect.{Link, Effect, holds, performs}
+use Rattle.dcsctp_spec_lemmas.specs.spec.queues.Reassembly.{DeferralModel}
+use Rattle.dcsctp_spec_lemmas.specs.spec.endpoint.BegunResets.{BegunReset}
 use Rattle.dcsctp_delivery_directions.specs.Directions.{nothing_asked, Asking}
 use Rattle.dcsctp_delivery_associations.specs.Answered as answered
 use Rattle.dcsctp_delivery_associations.specs.Answered.{Requests, number_at, WasHeld, WasJoined, AreAsked, IsPlaced, WerePerformed, IsInStep, StandsSo, Answers}

@@ -1,14 +1,14 @@
 -- Turns of the receiver in which a request is deferred (RFC 6525, section 5.2.2).
 use Rattle.std.proofs.Common.{◌≡◌, ℕ, ◌<◌, ◌-◌, ◌^◌, false, Option, Some, List, length, refl, sym, ◌∙◌, ap, subst, inl, inr}
 use Rattle.std.specs.Prelude.{◌⊎◌}
-use Rattle.dcsctp_machine.specs.declared.association.Pair.{Pair}
-use Rattle.dcsctp_machine.specs.Past.{Has, number_to_accept, number_to_perform}
-use Rattle.dcsctp_machine.specs.World.{after_effects}
-use Rattle.dcsctp_machine.specs.Reconfiguration.{RequestedReset}
-use Rattle.dcsctp_machine.specs.control.Effect.{Link, Effect, holds, performs}
-use Rattle.dcsctp_machine.specs.control.FlushChanges.{next_number}
-use Rattle.dcsctp_machine.specs.transfer.Reassembly.{DeferralModel}
-use Rattle.dcsctp_machine.specs.turns.BegunResets.{BegunReset}
+use Rattle.dcsctp_spec_lemmas.specs.types.declared.association.Pair.{Pair}
+use Rattle.dcsctp_spec_runs.specs.Past.{Has, number_to_accept, number_to_perform}
+use Rattle.dcsctp_spec_runs.specs.World.{after_effects}
+use Rattle.dcsctp_spec_lemmas.specs.spec.Reconfiguration.{RequestedReset}
+use Rattle.dcsctp_spec_lemmas.specs.spec.association.Effect.{Link, Effect, holds, performs}
+use Rattle.dcsctp_spec_lemmas.specs.spec.association.FlushChanges.{next_number}
+use Rattle.dcsctp_spec_lemmas.specs.spec.queues.Reassembly.{DeferralModel}
+use Rattle.dcsctp_spec_lemmas.specs.spec.endpoint.BegunResets.{BegunReset}
 use Rattle.dcsctp_delivery_receiving.specs.Clear.{IsOwn}
 use Rattle.dcsctp_delivery_sending.specs.Places as places
 use Rattle.dcsctp_delivery_associations.specs.Answered as answered

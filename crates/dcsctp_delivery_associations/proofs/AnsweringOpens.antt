@@ -1,11 +1,11 @@
 -- A turn of the receiver in which an association begins, with what the sender has begun there.
 use Rattle.std.proofs.Common.{◌≡◌, ◌≢◌, ℕ, Option, None, Some, List, refl, sym, ◌∙◌, ap, subst, inl, inr}
 use Rattle.std.specs.Prelude.{◌⊎◌}
-use Rattle.dcsctp_machine.specs.declared.association.Pair.{Pair}
-use Rattle.dcsctp_machine.specs.Past.{Has, number_to_accept, number_to_perform}
-use Rattle.dcsctp_machine.specs.World.{after_effects}
-use Rattle.dcsctp_machine.specs.control.Effect.{Link, Effect, holds, performs}
-use Rattle.dcsctp_machine.specs.transfer.Reassembly.{DeferralModel}
+use Rattle.dcsctp_spec_lemmas.specs.types.declared.association.Pair.{Pair}
+use Rattle.dcsctp_spec_runs.specs.Past.{Has, number_to_accept, number_to_perform}
+use Rattle.dcsctp_spec_runs.specs.World.{after_effects}
+use Rattle.dcsctp_spec_lemmas.specs.spec.association.Effect.{Link, Effect, holds, performs}
+use Rattle.dcsctp_spec_lemmas.specs.spec.queues.Reassembly.{DeferralModel}
 use Rattle.dcsctp_delivery_sending.specs.Places.{set_at}
 use Rattle.dcsctp_delivery_sending.proofs.Places.{set_same, set_other}
 use Rattle.dcsctp_delivery_directions.specs.Directions.{nothing_asked}

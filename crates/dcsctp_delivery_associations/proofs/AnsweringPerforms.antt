@@ -1,14 +1,14 @@
 -- Turns of the receiver in which a request is performed (RFC 6525, section 5.2.2).
 use Rattle.std.proofs.Common.{◌≡◌, ◌≢◌, ℕ, ◌<◌, ◌-◌, ◌^◌, suc, true, false, Option, None, Some, List, length, refl, sym, ◌∙◌, ap, subst, arith, inl, inr}
 use Rattle.std.specs.Prelude.{◌⊎◌}
-use Rattle.dcsctp_machine.specs.declared.association.Pair.{Pair}
-use Rattle.dcsctp_machine.specs.Past.{Has, number_to_accept, number_to_perform}
-use Rattle.dcsctp_machine.specs.World.{after_effects}
-use Rattle.dcsctp_machine.specs.control.Effect.{Link, Effect, holds, performs}
-use Rattle.dcsctp_machine.specs.control.FlushChanges.{next_number}
-use Rattle.dcsctp_machine.specs.transfer.Reassembly.{DeferralModel}
-use Rattle.dcsctp_machine.specs.turns.BegunResets.{BegunReset}
-use Rattle.dcsctp_machine_agreement.proofs.Growth.{after_within}
+use Rattle.dcsctp_spec_lemmas.specs.types.declared.association.Pair.{Pair}
+use Rattle.dcsctp_spec_runs.specs.Past.{Has, number_to_accept, number_to_perform}
+use Rattle.dcsctp_spec_runs.specs.World.{after_effects}
+use Rattle.dcsctp_spec_lemmas.specs.spec.association.Effect.{Link, Effect, holds, performs}
+use Rattle.dcsctp_spec_lemmas.specs.spec.association.FlushChanges.{next_number}
+use Rattle.dcsctp_spec_lemmas.specs.spec.queues.Reassembly.{DeferralModel}
+use Rattle.dcsctp_spec_lemmas.specs.spec.endpoint.BegunResets.{BegunReset}
+use Rattle.dcsctp_theorem_association.proofs.Growth.{after_within}
 use Rattle.dcsctp_delivery_sending.specs.Places as places
 use Rattle.dcsctp_delivery_sending.specs.Places.{set_at}
 use Rattle.dcsctp_delivery_sending.proofs.Places.{decide, set_same}

@@ -2,7 +2,7 @@
 use Rattle.std.proofs.Common.{◌≡◌, ℕ, Bool, ◌≤◌, ◌+◌, List, [], ◌∷◌, ◌++◌, ap, arith, inl, inr}
 use Rattle.std.specs.Prelude.{◌==◌, if◌then◌else◌}
 use Rattle.std.proofs.lemmas.Bool.Decides.{eqb_tells}
-use Rattle.dcsctp_machine.specs.Packet.{Emission}
+use Rattle.dcsctp_spec_lemmas.specs.spec.Packet.{Emission}
 use Rattle.dcsctp_delivery_sending.specs.ChunkCounts.{chunks_among, chunks_in, chunks_to}
 use Rattle.dcsctp_delivery_sending.proofs.ChunkCounts.{no_data_counts}
 use Rattle.dcsctp_delivery_directions.specs.Requests.{requests_among, requests_in, requests_to}

@@ -1,7 +1,7 @@
 -- Numbers of requests, and their places.
 use Rattle.std.proofs.Common.{◌≡◌, ℕ, ◌<◌, ◌^◌, suc, List, [], ◌∷◌, length, sym, ◌∙◌, ap, subst, arith, inl, inr}
-use Rattle.dcsctp_machine.specs.control.FlushChanges.{next_number}
-use Rattle.dcsctp_machine.specs.turns.BegunResets.{BegunReset}
+use Rattle.dcsctp_spec_lemmas.specs.spec.association.FlushChanges.{next_number}
+use Rattle.dcsctp_spec_lemmas.specs.spec.endpoint.BegunResets.{BegunReset}
 use Rattle.dcsctp_delivery_sending.specs.Places as places
 use Rattle.dcsctp_delivery_turns.specs.Asking.{AreNumbered}
 use Rattle.dcsctp_delivery_associations.specs.Answered.{number_at}

@@ -1,11 +1,11 @@
 -- What effects leave of the numbers of the peer's requests, if none is accepted or performed.
 use Rattle.std.proofs.Common.{◌≡◌, ℕ, ◌%◌, ◌^◌, true, false, None, Some, List, [], ◌∷◌, refl, ap, inl, inr}
-use Rattle.dcsctp_machine.specs.declared.association.Pair.{Pair}
-use Rattle.dcsctp_machine.specs.Past.{Has, number_to_accept, number_to_perform}
-use Rattle.dcsctp_machine.specs.World.{after_effects}
-use Rattle.dcsctp_machine.specs.control.Effect as effects
-use Rattle.dcsctp_machine.specs.control.Effect.{Link, Effect}
-use Rattle.dcsctp_machine.specs.turns.ResetOutcomes.{has_reset}
+use Rattle.dcsctp_spec_lemmas.specs.types.declared.association.Pair.{Pair}
+use Rattle.dcsctp_spec_runs.specs.Past.{Has, number_to_accept, number_to_perform}
+use Rattle.dcsctp_spec_runs.specs.World.{after_effects}
+use Rattle.dcsctp_spec_lemmas.specs.spec.association.Effect as effects
+use Rattle.dcsctp_spec_lemmas.specs.spec.association.Effect.{Link, Effect}
+use Rattle.dcsctp_spec_lemmas.specs.spec.endpoint.ResetOutcomes.{has_reset}
 use Rattle.dcsctp_delivery_turns.specs.PeerRequests.{NoneAsked}
 
 -- Where no association is noted and none ends, the numbers stay.

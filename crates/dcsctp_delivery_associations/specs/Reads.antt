@@ -1,9 +1,9 @@
 -- What the user of a socket reads, in all its associations: each message with the own tag of its association.
 use Rattle.std.specs.Prelude.{◌==◌, if◌then◌else◌, ℕ, Option, None, Some, List, [], ◌∷◌, ◌++◌}
-use Rattle.dcsctp_machine.specs.Endpoint.{Endpoint, own_tag}
-use Rattle.dcsctp_machine.specs.Turn.{Input, user_takes}
-use Rattle.dcsctp_machine.specs.transfer.Messages.{MessageContent}
-use Rattle.dcsctp_machine.specs.transfer.Transfer.{Transfer}
+use Rattle.dcsctp_spec_lemmas.specs.spec.endpoint.Endpoint.{Endpoint, own_tag}
+use Rattle.dcsctp_spec_lemmas.specs.spec.endpoint.Turn.{Input, user_takes}
+use Rattle.dcsctp_spec_lemmas.specs.types.queues.Messages.{MessageContent}
+use Rattle.dcsctp_spec_lemmas.specs.spec.queues.Transfer.{Transfer}
 
 -- a message that was read, and the own tag of the association in which it was
 pub record Read : Type 0 where

@@ -1,17 +1,17 @@
 -- How many TSNs an association assigns, by the chunks of data that its sender has sent.
 use Rattle.std.proofs.Common.{◌≡◌, ℕ, Bool, ◌<◌, ◌≤◌, ◌+◌, ◌*◌, ◌^◌, List, [], ◌∷◌, ◌++◌, length, refl, ◌∙◌, ap, arith}
 use Rattle.std.specs.Prelude.{Option, None, Some}
-use Rattle.dcsctp_machine.specs.declared.options.Options.{Options}
-use Rattle.dcsctp_machine.specs.Event.{packets_in}
-use Rattle.dcsctp_machine.specs.Packet.{Emission}
-use Rattle.dcsctp_machine.specs.transfer.Items.{Item}
-use Rattle.dcsctp_machine.specs.transfer.Outstanding.{OutstandingState}
-use Rattle.dcsctp_machine.specs.transfer.OwnResets.{prepared_all, queue_committed, queue_rolled_back}
-use Rattle.dcsctp_machine.specs.transfer.SendQueue.{SendQueueState}
-use Rattle.dcsctp_machine.specs.transfer.Transfer.{Transfer}
-use Rattle.dcsctp_machine.specs.turns.FlushOutcomes.{flush_of}
-use Rattle.dcsctp_machine.specs.turns.MessageOutcomes.{sending_queued}
-use Rattle.dcsctp_machine.specs.turns.SettingOutcomes.{set_in_queue}
+use Rattle.dcsctp_spec.specs.types.declared.options.Options.{Options}
+use Rattle.dcsctp_spec.specs.endpoint.Event.{packets_in}
+use Rattle.dcsctp_spec.specs.Packet.{Emission}
+use Rattle.dcsctp_spec.specs.queues.Items.{Item}
+use Rattle.dcsctp_spec.specs.queues.Outstanding.{OutstandingState}
+use Rattle.dcsctp_spec.specs.queues.OwnResets.{prepared_all, queue_committed, queue_rolled_back}
+use Rattle.dcsctp_spec.specs.queues.SendQueue.{SendQueueState}
+use Rattle.dcsctp_spec.specs.queues.Transfer.{Transfer}
+use Rattle.dcsctp_spec.specs.endpoint.FlushOutcomes.{flush_of}
+use Rattle.dcsctp_spec.specs.endpoint.MessageOutcomes.{sending_queued}
+use Rattle.dcsctp_spec.specs.endpoint.SettingOutcomes.{set_in_queue}
 use Rattle.dcsctp_delivery_sending.specs.ChunkCounts.{chunks_in, going, tsns_of, tsns_where, tsns_below}
 use Rattle.dcsctp_delivery_sending.specs.Stages.{Bears}
 use Rattle.dcsctp_delivery_directions.specs.Directions.{Direction, in_flight, assigned, Step, queues, sets, prepares, commits, rolls_back, resends, resends_nothing, speaks, asks_again, turns_aside, tracks, defers, flushes, acknowledges, loses, receives, forwards, receives_interleaved, forwards_interleaved, performs, resets, takes, NoneInFlight, Run, begins, goes_on, starts}

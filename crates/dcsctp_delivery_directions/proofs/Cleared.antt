@@ -2,9 +2,9 @@
 use Rattle.std.proofs.Common.{◌≡◌, ℕ, suc, true, false, ◌<◌, ◌≤◌, ◌^◌, List, [], ◌∷◌, ◌++◌, length, refl, sym, ◌∙◌, ap, arith, subst, inl, inr}
 use Rattle.std.specs.Prelude.{◌⊎◌, Some}
 use Rattle.std.specs.List.{AllByRecursion}
-use Rattle.dcsctp_machine.specs.transfer.Reassembly.{ReassemblyState}
-use Rattle.dcsctp_machine.specs.transfer.SendStreams.{Stream}
-use Rattle.dcsctp_machine.specs.turns.BegunResets.{BegunReset}
+use Rattle.dcsctp_spec.specs.queues.Reassembly.{ReassemblyState}
+use Rattle.dcsctp_spec.specs.types.queues.SendStreams.{Stream}
+use Rattle.dcsctp_spec.specs.endpoint.BegunResets.{BegunReset}
 use Rattle.dcsctp_delivery_sending.specs.Places.{at_place}
 use Rattle.dcsctp_delivery_sending.specs.Log.{Fits, Message, Piece, Slot, Cut, History, grown, with_mark}
 use Rattle.dcsctp_delivery_sending.specs.Flushes.{NamedBy}

@@ -3,13 +3,13 @@ use Rattle.std.proofs.Common.{◌≡◌, ℕ, zero, suc, Bool, true, false, ◌<
 use Rattle.std.specs.Prelude.{Option, None, Some, slice_get}
 use Rattle.std.specs.List.{AllByRecursion}
 use Rattle.std.proofs.lemmas.List.{append-nil}
-use Rattle.dcsctp_machine.specs.declared.options.Options.{Options}
-use Rattle.dcsctp_machine.specs.Packet.{Emission}
-use Rattle.dcsctp_machine.specs.transfer.Items.{Item}
-use Rattle.dcsctp_machine.specs.transfer.Messages.{MessageContent}
-use Rattle.dcsctp_machine.specs.transfer.Reassembly.{ReassemblyState}
-use Rattle.dcsctp_machine.specs.transfer.Tracker.{TrackerState, new_tracker}
-use Rattle.dcsctp_machine.specs.transfer.Transfer.{Transfer, Below}
+use Rattle.dcsctp_spec.specs.types.declared.options.Options.{Options}
+use Rattle.dcsctp_spec.specs.Packet.{Emission}
+use Rattle.dcsctp_spec.specs.queues.Items.{Item}
+use Rattle.dcsctp_spec.specs.types.queues.Messages.{MessageContent}
+use Rattle.dcsctp_spec.specs.queues.Reassembly.{ReassemblyState}
+use Rattle.dcsctp_spec.specs.queues.Tracker.{TrackerState, new_tracker}
+use Rattle.dcsctp_spec.specs.queues.Transfer.{Transfer, Below}
 use Rattle.dcsctp_delivery_sending.specs.Log.{Fits, Message, Slot, History, new_history}
 use Rattle.dcsctp_delivery_sending.specs.Flushes.{PacketsSay, InFlight, PendsWhere}
 use Rattle.dcsctp_delivery_sending.specs.Numbers.{IsOfKind}

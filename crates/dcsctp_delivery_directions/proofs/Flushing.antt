@@ -2,12 +2,12 @@
 use Rattle.std.proofs.Common.{◌≡◌, ℕ, ◌<◌, ◌^◌, List, [], ◌∷◌, ◌++◌, length, sym, ◌∙◌, ap, arith, subst, inl, inr}
 use Rattle.std.specs.Prelude.{Option, None, Some}
 use Rattle.std.proofs.lemmas.List.{length-append}
-use Rattle.dcsctp_machine.specs.Endpoint.{Endpoint}
-use Rattle.dcsctp_machine.specs.Event.{Event, packets_in}
-use Rattle.dcsctp_machine.specs.Packet.{Emission}
-use Rattle.dcsctp_machine.specs.transfer.Transfer.{Below}
-use Rattle.dcsctp_machine.specs.turns.BegunResets.{BegunReset}
-use Rattle.dcsctp_machine.specs.turns.FlushOutcomes.{first_ask, packets_allowed, Answer, FlushAnswers, flush_of}
+use Rattle.dcsctp_spec.specs.endpoint.Endpoint.{Endpoint}
+use Rattle.dcsctp_spec.specs.endpoint.Event.{Event, packets_in}
+use Rattle.dcsctp_spec.specs.Packet.{Emission}
+use Rattle.dcsctp_spec.specs.queues.Transfer.{Below}
+use Rattle.dcsctp_spec.specs.endpoint.BegunResets.{BegunReset}
+use Rattle.dcsctp_spec.specs.endpoint.FlushOutcomes.{first_ask, packets_allowed, Answer, FlushAnswers, flush_of}
 use Rattle.dcsctp_delivery_sending.specs.Log.{History, Slot, grown, with_mark}
 use Rattle.dcsctp_delivery_sending.specs.Flushes.{NoData, StandsBelow, Sends, begun_by}
 use Rattle.dcsctp_delivery_directions.specs.Directions.{Direction, asking_with}

@@ -3,10 +3,10 @@ use Rattle.std.proofs.Common.{◌≡◌, ℕ, true, false, ◌<◌, ◌≤◌, �
 use Rattle.std.specs.Prelude.{not, ◌&&◌, ◌||◌, ◌==◌, Bool}
 use Rattle.std.proofs.lemmas.Bool.Decides.{leb_tells, nat_tests}
 use Rattle.std.proofs.lemmas.Bool.{eq-eqb, eqb-true}
-use Rattle.dcsctp_machine.specs.transfer.Incoming.{is_named}
-use Rattle.dcsctp_machine.specs.transfer.Numbers.{ahead_of, is_tsn_beyond}
-use Rattle.dcsctp_machine.specs.transfer.Reassembly.{ReassemblyState, Leaves}
-use Rattle.dcsctp_machine.specs.turns.BegunResets.{BegunReset, stream_field}
+use Rattle.dcsctp_spec.specs.queues.Incoming.{is_named}
+use Rattle.dcsctp_spec.specs.queues.Numbers.{ahead_of, is_tsn_beyond}
+use Rattle.dcsctp_spec.specs.queues.Reassembly.{ReassemblyState, Leaves}
+use Rattle.dcsctp_spec.specs.endpoint.BegunResets.{BegunReset, stream_field}
 use Rattle.dcsctp_delivery_sending.specs.Places.{Has}
 use Rattle.dcsctp_delivery_sending.specs.Log.{Mark}
 use Rattle.dcsctp_delivery_receiving.specs.Clear.{IsOwn}

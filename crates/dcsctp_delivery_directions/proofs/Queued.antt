@@ -2,11 +2,12 @@
 use Rattle.std.proofs.lemmas.Bool.Decides.{leb_tells}
 use Rattle.std.proofs.Common.{◌≡◌, ℕ, zero, suc, Bool, true, false, ◌<◌, ◌≤◌, ◌+◌, ◌^◌, List, [], ◌∷◌, length, take, refl, sym, ◌∙◌, arith, subst, inl, inr}
 use Rattle.std.specs.Prelude.{◌⊎◌, Option, if◌then◌else◌}
-use Rattle.dcsctp_machine.specs.transfer.OwnResets.{is_open, with_used, prepared, prepared_open, prepared_all, queue_committed, queue_rolled_back}
-use Rattle.dcsctp_machine.specs.transfer.SendQueue.{SendQueueState, stream_of}
-use Rattle.dcsctp_machine.specs.turns.MessageOutcomes.{Sending, sending_queued}
-use Rattle.dcsctp_machine.specs.turns.SettingOutcomes.{Setting, stream_priority, stream_low_threshold, longest_message, set_in_queue}
-use Rattle.dcsctp_machine.specs.declared.sending.UnderWay.{UnderWay}
+use Rattle.dcsctp_spec.specs.queues.OwnResets.{is_open, with_used, prepared, prepared_open, prepared_all, queue_committed, queue_rolled_back}
+use Rattle.dcsctp_spec.specs.queues.SendQueue.{SendQueueState, stream_of}
+use Rattle.dcsctp_spec.specs.endpoint.MessageOutcomes.{Sending, sending_queued}
+use Rattle.dcsctp_spec.specs.types.Setting.{Setting, stream_priority, stream_low_threshold, longest_message}
+use Rattle.dcsctp_spec.specs.endpoint.SettingOutcomes.{set_in_queue}
+use Rattle.dcsctp_spec.specs.types.declared.sending.UnderWay.{UnderWay}
 use Rattle.dcsctp_delivery_sending.specs.Places.{Has}
 use Rattle.dcsctp_delivery_sending.specs.Log.{Fits, Mark, Resets}
 use Rattle.dcsctp_delivery_sending.specs.Numbers.{CountsWhere, IsOfKind, is_handed_out, stream_named}

@@ -1,14 +1,14 @@
 -- No fewer requests to reset streams were sent than were begun.
 use Rattle.std.proofs.Common.{◌≡◌, ℕ, ◌≤◌, ◌+◌, List, [], ◌∷◌, ◌++◌, length, map, refl, ◌∙◌, ap, arith}
 use Rattle.std.specs.Prelude.{Bool, Option, None, Some}
-use Rattle.dcsctp_machine.specs.declared.options.Options.{Options}
-use Rattle.dcsctp_machine.specs.Endpoint.{Endpoint}
-use Rattle.dcsctp_machine.specs.Event.{Event, sent, packets_in}
-use Rattle.dcsctp_machine.specs.Packet.{plain, Content, init, init_ack, cookie_echo, cookie_ack, re_config, abort, shutdown, shutdown_ack, shutdown_complete, Emission}
-use Rattle.dcsctp_machine.specs.Reconfiguration.{ResetParameter, outgoing_reset_request, incoming_reset_request, reconfiguration_response, other_reset_parameter}
-use Rattle.dcsctp_machine.specs.control.Choices.{plain_contents}
-use Rattle.dcsctp_machine.specs.turns.BegunResets.{BegunReset, request_contents}
-use Rattle.dcsctp_machine.specs.turns.FlushOutcomes.{Told, told_event, Answer, answer_contents, filled, goes_out, asked, next_draft, flush_of}
+use Rattle.dcsctp_spec.specs.types.declared.options.Options.{Options}
+use Rattle.dcsctp_spec.specs.endpoint.Endpoint.{Endpoint}
+use Rattle.dcsctp_spec.specs.endpoint.Event.{Event, sent, packets_in}
+use Rattle.dcsctp_spec.specs.Packet.{plain, Content, init, init_ack, cookie_echo, cookie_ack, re_config, abort, shutdown, shutdown_ack, shutdown_complete, Emission}
+use Rattle.dcsctp_spec.specs.Reconfiguration.{ResetParameter, outgoing_reset_request, incoming_reset_request, reconfiguration_response, other_reset_parameter}
+use Rattle.dcsctp_spec.specs.association.Choices.{plain_contents}
+use Rattle.dcsctp_spec.specs.endpoint.BegunResets.{BegunReset, request_contents}
+use Rattle.dcsctp_spec.specs.endpoint.FlushOutcomes.{Told, told_event, Answer, answer_contents, filled, goes_out, asked, next_draft, flush_of}
 use Rattle.dcsctp_delivery_sending.specs.Flushes.{NoRequests, NoContent, NoData, begun_by}
 use Rattle.dcsctp_delivery_directions.specs.Directions.{Asking, asking_with, Direction, Step, queues, sets, prepares, commits, rolls_back, resends, resends_nothing, speaks, asks_again, turns_aside, tracks, defers, flushes, acknowledges, loses, receives, forwards, receives_interleaved, forwards_interleaved, performs, resets, takes, Run, begins, goes_on, starts}
 use Rattle.dcsctp_delivery_directions.specs.Requests.{one_if_asked, is_request, requests_among, requests_in, requests_to}

@@ -1,18 +1,18 @@
 -- The steps of a sender that begin no reset: packets, retransmissions, and what it learns of what is in flight.
 use Rattle.std.proofs.Common.{◌≡◌, ℕ, Bool, true, ◌+◌, List, [], ◌∷◌, ◌++◌, map, refl, sym, ◌∙◌, ap, subst, inl, inr}
 use Rattle.std.specs.Prelude.{Option, Some}
-use Rattle.dcsctp_wire.specs.Content.{SackContent}
-use Rattle.dcsctp_machine.specs.Packet.{Plain, Content, Emission}
-use Rattle.dcsctp_machine.specs.control.Choices.{plain_contents}
-use Rattle.dcsctp_machine.specs.control.FlushChanges.{reset_request}
-use Rattle.dcsctp_machine.specs.transfer.Acknowledging.{is_sack_valid}
-use Rattle.dcsctp_machine.specs.transfer.AtOnce.{SendsAtOnce, empty_stage}
-use Rattle.dcsctp_machine.specs.transfer.Chunks.{AreChunks}
-use Rattle.dcsctp_machine.specs.transfer.Outstanding.{OutstandingState, acknowledged_by}
-use Rattle.dcsctp_machine.specs.transfer.Retransmission.{RetransmissionState}
-use Rattle.dcsctp_machine.specs.transfer.Transfer.{Transfer}
-use Rattle.dcsctp_machine.specs.turns.BegunResets.{BegunReset}
-use Rattle.dcsctp_machine.specs.turns.TransferMoves.{TakesSack, lost_all}
+use Rattle.dcsctp_spec.specs.wire.Content.{SackContent}
+use Rattle.dcsctp_spec.specs.Packet.{Plain, Content, Emission}
+use Rattle.dcsctp_spec.specs.association.Choices.{plain_contents}
+use Rattle.dcsctp_spec.specs.association.FlushChanges.{reset_request}
+use Rattle.dcsctp_spec.specs.queues.Acknowledging.{is_sack_valid}
+use Rattle.dcsctp_spec.specs.queues.AtOnce.{SendsAtOnce, empty_stage}
+use Rattle.dcsctp_spec.specs.queues.Chunks.{AreChunks}
+use Rattle.dcsctp_spec.specs.queues.Outstanding.{OutstandingState, acknowledged_by}
+use Rattle.dcsctp_spec.specs.queues.Retransmission.{RetransmissionState}
+use Rattle.dcsctp_spec.specs.queues.Transfer.{Transfer}
+use Rattle.dcsctp_spec.specs.endpoint.BegunResets.{BegunReset}
+use Rattle.dcsctp_spec.specs.endpoint.TransferMoves.{TakesSack, lost_all}
 use Rattle.dcsctp_delivery_sending.specs.Places.{Has}
 use Rattle.dcsctp_delivery_sending.specs.Log.{Mark, History, grown}
 use Rattle.dcsctp_delivery_sending.specs.Numbers.{IsOfKind}

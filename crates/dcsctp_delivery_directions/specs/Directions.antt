@@ -1,33 +1,34 @@
 -- One direction of an association, by the relations of the machine: what one side queues and sends, and what the other side receives and
 -- its user reads (RFC 9260, section 6), with interleaving or without (RFC 8260).
 use Rattle.std.specs.Prelude.{◌≡◌, ◌≢◌, ◌<◌, ◌≤◌, ◌+◌, ◌^◌, ℕ, suc, Bool, true, false, not, Option, None, Some, List, [], ◌∷◌, ◌++◌, length}
-use Rattle.dcsctp_wire.specs.Content.{DataContent, IDataContent, SackContent, data_chunk, i_data_chunk, forward_tsn_chunk, i_forward_tsn_chunk}
-use Rattle.dcsctp_machine.specs.declared.options.Options.{Options}
-use Rattle.dcsctp_machine.specs.Endpoint.{Endpoint}
-use Rattle.dcsctp_machine.specs.Event.{packets_in}
-use Rattle.dcsctp_machine.specs.Packet.{Plain, unworked, plain, Emission}
-use Rattle.dcsctp_machine.specs.control.Choices.{plain_contents}
-use Rattle.dcsctp_machine.specs.transfer.AtOnce.{SendsAtOnce}
-use Rattle.dcsctp_machine.specs.transfer.Chunks.{AreChunks}
-use Rattle.dcsctp_machine.specs.transfer.OwnResets.{prepared_all, queue_committed, queue_rolled_back}
-use Rattle.dcsctp_machine.specs.transfer.Retransmission.{RetransmissionState}
-use Rattle.dcsctp_machine.specs.turns.SettingOutcomes.{Setting, set_in_queue}
-use Rattle.dcsctp_machine.specs.transfer.Acknowledging.{is_sack_valid}
-use Rattle.dcsctp_machine.specs.transfer.Arrivals.{data_arrival, i_data_arrival, skipped_in, messages_skipped_in}
-use Rattle.dcsctp_machine.specs.transfer.Messages.{MessageContent}
-use Rattle.dcsctp_machine.specs.transfer.Outstanding.{acknowledged_by}
-use Rattle.dcsctp_machine.specs.transfer.Reassembly.{ReassemblyState, new_reassembly, with_ready, deferring, Leaves}
-use Rattle.dcsctp_machine.specs.transfer.Tracker.{TrackerState, new_tracker, cumulative_tsn}
-use Rattle.dcsctp_machine.specs.transfer.Transfer.{Transfer, Below}
-use Rattle.dcsctp_machine.specs.turns.FlushOutcomes.{Answer, FlushAnswers, flush_of}
-use Rattle.dcsctp_machine.specs.turns.MessageOutcomes.{Sending, sending_queued}
-use Rattle.dcsctp_machine.specs.turns.TransferMoves.{ReceivesData, MovesForward, TakesSack, lost_all}
+use Rattle.dcsctp_spec.specs.wire.Content.{DataContent, IDataContent, SackContent, data_chunk, i_data_chunk, forward_tsn_chunk, i_forward_tsn_chunk}
+use Rattle.dcsctp_spec.specs.types.declared.options.Options.{Options}
+use Rattle.dcsctp_spec.specs.endpoint.Endpoint.{Endpoint}
+use Rattle.dcsctp_spec.specs.endpoint.Event.{packets_in}
+use Rattle.dcsctp_spec.specs.Packet.{Plain, unworked, plain, Emission}
+use Rattle.dcsctp_spec.specs.association.Choices.{plain_contents}
+use Rattle.dcsctp_spec.specs.queues.AtOnce.{SendsAtOnce}
+use Rattle.dcsctp_spec.specs.queues.Chunks.{AreChunks}
+use Rattle.dcsctp_spec.specs.queues.OwnResets.{prepared_all, queue_committed, queue_rolled_back}
+use Rattle.dcsctp_spec.specs.queues.Retransmission.{RetransmissionState}
+use Rattle.dcsctp_spec.specs.types.Setting.{Setting}
+use Rattle.dcsctp_spec.specs.endpoint.SettingOutcomes.{set_in_queue}
+use Rattle.dcsctp_spec.specs.queues.Acknowledging.{is_sack_valid}
+use Rattle.dcsctp_spec.specs.queues.Arrivals.{data_arrival, i_data_arrival, skipped_in, messages_skipped_in}
+use Rattle.dcsctp_spec.specs.types.queues.Messages.{MessageContent}
+use Rattle.dcsctp_spec.specs.queues.Outstanding.{acknowledged_by}
+use Rattle.dcsctp_spec.specs.queues.Reassembly.{ReassemblyState, new_reassembly, with_ready, deferring, Leaves}
+use Rattle.dcsctp_spec.specs.queues.Tracker.{TrackerState, new_tracker, cumulative_tsn}
+use Rattle.dcsctp_spec.specs.queues.Transfer.{Transfer, Below}
+use Rattle.dcsctp_spec.specs.endpoint.FlushOutcomes.{Answer, FlushAnswers, flush_of}
+use Rattle.dcsctp_spec.specs.endpoint.MessageOutcomes.{Sending, sending_queued}
+use Rattle.dcsctp_spec.specs.endpoint.TransferMoves.{ReceivesData, MovesForward, TakesSack, lost_all}
 use Rattle.dcsctp_delivery_sending.specs.Places.{Has}
 use Rattle.dcsctp_delivery_sending.specs.Log.{Fits, Message}
-use Rattle.dcsctp_machine.specs.Reconfiguration.{RequestedReset}
-use Rattle.dcsctp_machine.specs.control.FlushChanges.{reset_request}
-use Rattle.dcsctp_machine.specs.transfer.Numbers.{is_tsn_beyond}
-use Rattle.dcsctp_machine.specs.turns.BegunResets.{BegunReset}
+use Rattle.dcsctp_spec.specs.Reconfiguration.{RequestedReset}
+use Rattle.dcsctp_spec.specs.association.FlushChanges.{reset_request}
+use Rattle.dcsctp_spec.specs.queues.Numbers.{is_tsn_beyond}
+use Rattle.dcsctp_spec.specs.endpoint.BegunResets.{BegunReset}
 use Rattle.dcsctp_delivery_sending.specs.Flushes.{NoData, begun_by}
 use Rattle.dcsctp_delivery_sending.specs.Queueing.{message_of, QueueWaits}
 use Rattle.dcsctp_delivery_receiving.specs.Clear.{IsOwn}

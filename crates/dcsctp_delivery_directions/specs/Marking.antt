@@ -1,6 +1,6 @@
 -- What was read in an association no longer waits to be sent, so that no later association sends it again.
 use Rattle.std.specs.Prelude.{◌≡◌, ◌<◌, ◌^◌, ℕ, false, Some, List, length}
-use Rattle.dcsctp_machine.specs.declared.options.Options.{Options}
+use Rattle.dcsctp_spec.specs.types.declared.options.Options.{Options}
 use Rattle.dcsctp_delivery_sending.specs.Places.{Has, at_place}
 use Rattle.dcsctp_delivery_sending.specs.Log.{Message}
 use Rattle.dcsctp_delivery_directions.specs.Directions.{Direction, Run, assigned, Delivered}

@@ -1,11 +1,11 @@
 -- Requests to reset streams in the packets of a sender (RFC 6525, section 5.1.2): each is one that was begun, and no fewer are sent than
 -- were begun.
 use Rattle.std.specs.Prelude.{◌≡◌, ◌==◌, if◌then◌else◌, ◌≤◌, ◌+◌, ◌⊎◌, ℕ, List, [], ◌∷◌, length}
-use Rattle.dcsctp_machine.specs.declared.options.Options.{Options}
-use Rattle.dcsctp_machine.specs.Packet.{Content, re_config, Emission}
-use Rattle.dcsctp_machine.specs.Reconfiguration.{ResetParameter, outgoing_reset_request}
-use Rattle.dcsctp_machine.specs.control.FlushChanges.{reset_request}
-use Rattle.dcsctp_machine.specs.turns.BegunResets.{BegunReset}
+use Rattle.dcsctp_spec.specs.types.declared.options.Options.{Options}
+use Rattle.dcsctp_spec.specs.Packet.{Content, re_config, Emission}
+use Rattle.dcsctp_spec.specs.Reconfiguration.{ResetParameter, outgoing_reset_request}
+use Rattle.dcsctp_spec.specs.association.FlushChanges.{reset_request}
+use Rattle.dcsctp_spec.specs.endpoint.BegunResets.{BegunReset}
 use Rattle.dcsctp_delivery_sending.specs.Flushes.{NoRequests}
 use Rattle.dcsctp_delivery_sending.specs.Places.{Has}
 use Rattle.dcsctp_delivery_directions.specs.Directions.{Direction, Run}

@@ -3,9 +3,9 @@ use Rattle.std.proofs.Common.{◌≡◌, ◌≢◌, ℕ, zero, suc, Bool, true, 
 use Rattle.std.specs.Prelude.{None, Some, if◌then◌else◌}
 use Rattle.std.proofs.lemmas.Bool.{eqb-true}
 use Rattle.std.specs.List.{AllByRecursion}
-use Rattle.dcsctp_wire.specs.Content.{DataContent, IDataContent}
-use Rattle.dcsctp_machine.specs.transfer.Arrivals.{numbering_of, data_arrival, interleaved_numbering, fsn_of, ppid_of, i_data_arrival}
-use Rattle.dcsctp_machine.specs.transfer.Chunks.{byte_field, data_said, ppid_or_fsn, i_data_said}
+use Rattle.dcsctp_spec_lemmas.specs.wire.Content.{DataContent, IDataContent}
+use Rattle.dcsctp_spec_lemmas.specs.spec.queues.Arrivals.{numbering_of, data_arrival, interleaved_numbering, fsn_of, ppid_of, i_data_arrival}
+use Rattle.dcsctp_spec_lemmas.specs.spec.queues.Chunks.{byte_field, data_said, ppid_or_fsn, i_data_said}
 use Rattle.dcsctp_delivery_sending.specs.Places.{at_place}
 use Rattle.dcsctp_delivery_sending.specs.Log.{Message, Piece, Slot, is_beginning, bytes_of, Cut, Fits}
 use Rattle.dcsctp_delivery_sending.specs.Stages.{SaysSlot}

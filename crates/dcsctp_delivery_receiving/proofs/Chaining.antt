@@ -2,8 +2,8 @@
 use Rattle.std.proofs.Common.{◌≡◌, ◌≢◌, ℕ, zero, suc, Bool, true, false, ◌<◌, ◌+◌, ◌-◌, ◌≤◌, ◌%◌, ◌^◌, List, length, sym, ◌∙◌, ap, arith, subst, inl, inr}
 use Rattle.std.specs.Prelude.{Some}
 use Rattle.std.proofs.lemmas.Bool.Decides.{eqb_tells, leb_tells}
-use Rattle.dcsctp_machine.specs.transfer.Numbers.{fragment_place}
-use Rattle.dcsctp_machine.specs.transfer.Runs.{RunModel}
+use Rattle.dcsctp_spec_lemmas.specs.spec.queues.Numbers.{fragment_place}
+use Rattle.dcsctp_spec_lemmas.specs.spec.queues.Runs.{RunModel}
 use Rattle.dcsctp_delivery_sending.specs.Places.{at_place}
 use Rattle.dcsctp_delivery_sending.specs.Log.{Message, Piece, Slot, History, Cut}
 use Rattle.dcsctp_delivery_sending.specs.Numbers.{AreOfKind, Told, plain, interleaved}

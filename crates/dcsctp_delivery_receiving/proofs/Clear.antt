@@ -2,18 +2,18 @@
 use Rattle.std.proofs.Common.{◌≡◌, ◌≢◌, ◌==◌, ℕ, Bool, true, false, ◌<◌, ◌≤◌, ◌+◌, ◌%◌, ◌^◌, List, [], ◌∷◌, ◌++◌, refl, sym, ◌∙◌, ap, arith, length, subst, inl, inr}
 use Rattle.std.specs.Prelude.{◌&&◌, not, if◌then◌else◌, Option, None, Some}
 use Rattle.std.proofs.lemmas.Bool.Decides.{nat_tests, eqb_tells}
-use Rattle.dcsctp_machine.specs.declared.arrivals.Numbering.{Numbering}
-use Rattle.dcsctp_machine.specs.declared.arrivals.Numbering.TheVariants.{Ordered, Unordered, InterleavedOrdered, InterleavedUnordered}
-use Rattle.dcsctp_machine.specs.declared.arrivals.SkippedTo.{SkippedTo}
-use Rattle.dcsctp_machine.specs.declared.arrivals.SkippedTo.TheVariants.{Ssn, Mid}
-use Rattle.dcsctp_machine.specs.transfer.Arrivals.{Arrival}
-use Rattle.dcsctp_machine.specs.transfer.Incoming.{IncomingModel, stream_on, TakesChunk, TakesData, skipped_on, skipped_by, MovesOn, is_named, ResetsStreams}
-use Rattle.dcsctp_machine.specs.transfer.IncomingStreams.{ChunkModel, StreamModel, new_stream, skipped_stream, skipped}
-use Rattle.dcsctp_machine.specs.transfer.Messages.{MessageContent}
-use Rattle.dcsctp_machine.specs.transfer.Reassembly.{WaitingModel, arrived, skipping, DeferralModel, ReassemblyState, can_count, is_deferred, is_forward_deferred, is_above_watermark, with_waiting, entered, deferring, with_ready, AddsData, SkipsData, HandlesAll, actions_of, Leaves}
-use Rattle.dcsctp_machine.specs.transfer.Tracker.{TrackerState, has_received, number_of, is_new_tsn, is_forward, is_valid_tsn}
-use Rattle.dcsctp_machine.specs.transfer.Transfer.{Transfer}
-use Rattle.dcsctp_machine.specs.turns.TransferMoves.{AddsWhere, ReceivesWhere, SkipsWhere, MovesWhere, ReceivesData, MovesForward}
+use Rattle.dcsctp_spec_lemmas.specs.types.declared.arrivals.Numbering.{Numbering}
+use Rattle.dcsctp_spec_lemmas.specs.types.declared.arrivals.Numbering.TheVariants.{Ordered, Unordered, InterleavedOrdered, InterleavedUnordered}
+use Rattle.dcsctp_spec_lemmas.specs.types.declared.arrivals.SkippedTo.{SkippedTo}
+use Rattle.dcsctp_spec_lemmas.specs.types.declared.arrivals.SkippedTo.TheVariants.{Ssn, Mid}
+use Rattle.dcsctp_spec_lemmas.specs.spec.queues.Arrivals.{Arrival}
+use Rattle.dcsctp_spec_lemmas.specs.spec.queues.Incoming.{IncomingModel, stream_on, TakesChunk, TakesData, skipped_on, skipped_by, MovesOn, is_named, ResetsStreams}
+use Rattle.dcsctp_spec_lemmas.specs.spec.queues.IncomingStreams.{ChunkModel, StreamModel, new_stream, skipped_stream, skipped}
+use Rattle.dcsctp_spec_lemmas.specs.types.queues.Messages.{MessageContent}
+use Rattle.dcsctp_spec_lemmas.specs.spec.queues.Reassembly.{WaitingModel, arrived, skipping, DeferralModel, ReassemblyState, can_count, is_deferred, is_forward_deferred, is_above_watermark, with_waiting, entered, deferring, with_ready, AddsData, SkipsData, HandlesAll, actions_of, Leaves}
+use Rattle.dcsctp_spec_lemmas.specs.spec.queues.Tracker.{TrackerState, has_received, number_of, is_new_tsn, is_forward, is_valid_tsn}
+use Rattle.dcsctp_spec_lemmas.specs.spec.queues.Transfer.{Transfer}
+use Rattle.dcsctp_spec_lemmas.specs.spec.endpoint.TransferMoves.{AddsWhere, ReceivesWhere, SkipsWhere, MovesWhere, ReceivesData, MovesForward}
 use Rattle.dcsctp_delivery_sending.specs.Places.{Has, at_place}
 use Rattle.dcsctp_delivery_sending.specs.Log.{Message, Piece, Mark, History, Resets}
 use Rattle.dcsctp_delivery_sending.specs.Numbers.{AreOfKind}

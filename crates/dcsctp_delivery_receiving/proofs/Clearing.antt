@@ -2,12 +2,12 @@
 use Rattle.std.proofs.Common.{◌≡◌, ◌≢◌, ℕ, Bool, true, false, ◌<◌, ◌≤◌, ◌+◌, ◌-◌, ◌%◌, ◌^◌, List, [], ◌∷◌, length, refl, sym, ◌∙◌, arith, subst}
 use Rattle.std.specs.Prelude.{if◌then◌else◌, Option, None, Some}
 use Rattle.std.proofs.lemmas.Bool.Decides.{nat_tests}
-use Rattle.dcsctp_machine.specs.declared.arrivals.SkippedTo.{SkippedTo}
-use Rattle.dcsctp_machine.specs.transfer.Incoming.{IncomingModel, stream_on, is_named, ResetsStreams}
-use Rattle.dcsctp_machine.specs.transfer.IncomingStreams.{ChunkModel, new_stream}
-use Rattle.dcsctp_machine.specs.transfer.Numbers.{is_tsn_beyond}
-use Rattle.dcsctp_machine.specs.transfer.Reassembly.{WaitingModel, arrived, skipping, DeferralModel, ReassemblyState, actions_of, Leaves}
-use Rattle.dcsctp_machine.specs.transfer.Tracker.{TrackerState}
+use Rattle.dcsctp_spec_lemmas.specs.types.declared.arrivals.SkippedTo.{SkippedTo}
+use Rattle.dcsctp_spec_lemmas.specs.spec.queues.Incoming.{IncomingModel, stream_on, is_named, ResetsStreams}
+use Rattle.dcsctp_spec_lemmas.specs.spec.queues.IncomingStreams.{ChunkModel, new_stream}
+use Rattle.dcsctp_spec_lemmas.specs.spec.queues.Numbers.{is_tsn_beyond}
+use Rattle.dcsctp_spec_lemmas.specs.spec.queues.Reassembly.{WaitingModel, arrived, skipping, DeferralModel, ReassemblyState, actions_of, Leaves}
+use Rattle.dcsctp_spec_lemmas.specs.spec.queues.Tracker.{TrackerState}
 use Rattle.dcsctp_delivery_sending.specs.Places.{Has, at_place}
 use Rattle.dcsctp_delivery_sending.specs.Log.{Message, Piece, Mark, History, Resets}
 use Rattle.dcsctp_delivery_sending.specs.Numbers.{AreOfKind}

@@ -1,11 +1,11 @@
 -- What was received of a peer stays so as it goes on.
 use Rattle.std.proofs.Common.{◌≡◌, ℕ, Bool, true, false, ◌≤◌, ◌+◌, List, [], ◌∷◌, length, arith, inl, inr}
 use Rattle.std.specs.Prelude.{◌⊎◌, Some}
-use Rattle.dcsctp_machine.specs.declared.arrivals.SkippedTo.{SkippedTo}
-use Rattle.dcsctp_machine.specs.declared.arrivals.SkippedTo.TheVariants.{Ssn, Mid}
-use Rattle.dcsctp_machine.specs.transfer.Runs.{RunModel}
-use Rattle.dcsctp_machine.specs.transfer.IncomingStreams.{ChunkModel}
-use Rattle.dcsctp_machine.specs.transfer.Reassembly.{WaitingModel, arrived, skipping}
+use Rattle.dcsctp_spec_lemmas.specs.types.declared.arrivals.SkippedTo.{SkippedTo}
+use Rattle.dcsctp_spec_lemmas.specs.types.declared.arrivals.SkippedTo.TheVariants.{Ssn, Mid}
+use Rattle.dcsctp_spec_lemmas.specs.spec.queues.Runs.{RunModel}
+use Rattle.dcsctp_spec_lemmas.specs.spec.queues.IncomingStreams.{ChunkModel}
+use Rattle.dcsctp_spec_lemmas.specs.spec.queues.Reassembly.{WaitingModel, arrived, skipping}
 use Rattle.dcsctp_delivery_sending.specs.Places.{Has, at_place}
 use Rattle.dcsctp_delivery_sending.specs.Log.{Piece, Slot, Mark, History}
 use Rattle.dcsctp_delivery_sending.specs.Numbers.{IsCurrent}

@@ -5,11 +5,11 @@ use Rattle.std.specs.Int.{w16, w32, to_be_bytes, from_be_bytes}
 use Rattle.std.specs.List.{AllByRecursion, flat_map}
 use Rattle.std.proofs.lemmas.List.{length-append}
 use Rattle.std.proofs.lemmas.Nat.{from_be_bytes-to_be_bytes_2}
-use Rattle.dcsctp_wire.specs.Fields.{skipped_stream_at, skipped_messages_at, lowest_bit, u16_at, u32_at}
-use Rattle.dcsctp_wire.specs.Spelling.{t_bit}
-use Rattle.dcsctp_machine.specs.declared.arrivals.SkippedTo.{SkippedTo}
-use Rattle.dcsctp_machine.specs.transfer.Arrivals.{skipped_to, messages_skipped_to, first_skipped, first_messages_skipped, skipped_in, messages_skipped_in}
-use Rattle.dcsctp_machine.specs.transfer.Skipping.{entry_bytes}
+use Rattle.dcsctp_spec_lemmas.specs.wire.Fields.{skipped_stream_at, skipped_messages_at, lowest_bit, u16_at, u32_at}
+use Rattle.dcsctp_spec_lemmas.specs.wire.Spelling.{t_bit}
+use Rattle.dcsctp_spec_lemmas.specs.types.declared.arrivals.SkippedTo.{SkippedTo}
+use Rattle.dcsctp_spec_lemmas.specs.spec.queues.Arrivals.{skipped_to, messages_skipped_to, first_skipped, first_messages_skipped, skipped_in, messages_skipped_in}
+use Rattle.dcsctp_spec_lemmas.specs.spec.queues.Skipping.{entry_bytes}
 use Rattle.dcsctp_delivery_sending.specs.Places.{at_place}
 use Rattle.dcsctp_delivery_sending.specs.Log.{Message, Piece, History, Cut, Fits}
 use Rattle.dcsctp_delivery_sending.specs.Flushes.{IsEntry, AreEntries, IsForward}

@@ -5,7 +5,7 @@ use Rattle.std.proofs.lemmas.Bool.Decides.{eqb_tells}
 use Rattle.std.proofs.lemmas.List.{drop-drop}
 use Rattle.std.proofs.Math.Seq.{take-add}
 use Rattle.std.proofs.lemmas.Grind.{flat_map-append}
-use Rattle.dcsctp_machine.specs.transfer.Runs.{RunModel, PartModel, joined_bytes, entry_before, follows, precedes, following, preceding, run_before, run_behind, merged, merged_at, chosen}
+use Rattle.dcsctp_spec_lemmas.specs.spec.queues.Runs.{RunModel, PartModel, joined_bytes, entry_before, follows, precedes, following, preceding, run_before, run_behind, merged, merged_at, chosen}
 use Rattle.dcsctp_delivery_sending.specs.Log.{Piece, is_beginning}
 
 pub both : (x y : Bool) → (x && y) ≡ true → (x ≡ true) × (y ≡ true)

@@ -1,7 +1,7 @@
 -- The part out of a chunk that carries its piece.
 use Rattle.std.proofs.Common.{◌≡◌, ℕ, ◌%◌, ◌^◌, Bool, true, false, sym, ap, subst}
-use Rattle.dcsctp_machine.specs.transfer.Numbers.{number_near, fragment_place}
-use Rattle.dcsctp_machine.specs.transfer.IncomingStreams.{ChunkModel, data_part}
+use Rattle.dcsctp_spec_lemmas.specs.spec.queues.Numbers.{number_near, fragment_place}
+use Rattle.dcsctp_spec_lemmas.specs.spec.queues.IncomingStreams.{ChunkModel, data_part}
 use Rattle.dcsctp_delivery_sending.specs.Log.{Piece, History}
 use Rattle.dcsctp_delivery_receiving.specs.Rows.{PlacedBy, IsPlaced, IsPart}
 use Rattle.dcsctp_delivery_receiving.specs.Ready.{IsNumberedAs, Reads, BearsPiece}

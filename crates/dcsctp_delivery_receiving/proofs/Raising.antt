@@ -2,14 +2,14 @@
 use Rattle.std.proofs.Common.{◌≡◌, ◌≢◌, ℕ, Bool, true, false, ◌<◌, ◌≤◌, ◌+◌, ◌*◌, ◌^◌, List, [], ◌∷◌, length, refl, sym, ◌∙◌, ap, arith, subst, inl, inr}
 use Rattle.std.specs.Prelude.{◌⊎◌, if◌then◌else◌, Some}
 use Rattle.std.proofs.lemmas.Bool.Decides.{leb_tells}
-use Rattle.dcsctp_machine.specs.declared.arrivals.SkippedTo.{SkippedTo}
-use Rattle.dcsctp_machine.specs.declared.arrivals.SkippedTo.TheVariants.{Ssn, Mid}
-use Rattle.dcsctp_machine.specs.transfer.Incoming.{IncomingModel, stream_on}
-use Rattle.dcsctp_machine.specs.transfer.IncomingStreams.{ChunkModel, StreamModel, new_stream, skipped_stream}
-use Rattle.dcsctp_machine.specs.transfer.Reassembly.{WaitingModel, arrived, skipping, ReassemblyState, actions_of}
-use Rattle.dcsctp_machine.specs.transfer.Runs.{RunModel, WholeModel}
-use Rattle.dcsctp_machine.specs.transfer.SendStreams.{Stream}
-use Rattle.dcsctp_machine.specs.transfer.Tracker.{TrackerState}
+use Rattle.dcsctp_spec_lemmas.specs.types.declared.arrivals.SkippedTo.{SkippedTo}
+use Rattle.dcsctp_spec_lemmas.specs.types.declared.arrivals.SkippedTo.TheVariants.{Ssn, Mid}
+use Rattle.dcsctp_spec_lemmas.specs.spec.queues.Incoming.{IncomingModel, stream_on}
+use Rattle.dcsctp_spec_lemmas.specs.spec.queues.IncomingStreams.{ChunkModel, StreamModel, new_stream, skipped_stream}
+use Rattle.dcsctp_spec_lemmas.specs.spec.queues.Reassembly.{WaitingModel, arrived, skipping, ReassemblyState, actions_of}
+use Rattle.dcsctp_spec_lemmas.specs.spec.queues.Runs.{RunModel, WholeModel}
+use Rattle.dcsctp_spec_lemmas.specs.types.queues.SendStreams.{Stream}
+use Rattle.dcsctp_spec_lemmas.specs.spec.queues.Tracker.{TrackerState}
 use Rattle.dcsctp_delivery_sending.specs.Places.{at_place}
 use Rattle.dcsctp_delivery_sending.specs.Log.{Message, Piece, History}
 use Rattle.dcsctp_delivery_sending.specs.Numbers.{is_handed_out, stream_named, IsCurrent}

@@ -2,11 +2,11 @@
 use Rattle.std.proofs.Common.{◌≡◌, ◌==◌, ℕ, Bool, true, false, ◌<◌, ◌+◌, ◌-◌, ◌≤◌, ◌%◌, ◌^◌, List, [], ◌∷◌, refl, sym, ◌∙◌, ap, arith, subst}
 use Rattle.std.specs.Prelude.{Some, min, nat_le, if◌then◌else◌}
 use Rattle.std.proofs.lemmas.Bool.{eqb-true}
-use Rattle.dcsctp_machine.specs.transfer.Messages.{MessageContent}
-use Rattle.dcsctp_machine.specs.declared.arrivals.Taken.{Taken}
-use Rattle.dcsctp_machine.specs.transfer.Numbers.{number_near}
-use Rattle.dcsctp_machine.specs.transfer.Runs.{PartModel, WholeModel, Assembled, part_dropped, part_kept, message_whole}
-use Rattle.dcsctp_machine.specs.transfer.IncomingStreams.{StreamModel, next_after, next_due, next_past, OrderedOutcome}
+use Rattle.dcsctp_spec_lemmas.specs.types.queues.Messages.{MessageContent}
+use Rattle.dcsctp_spec_lemmas.specs.types.declared.arrivals.Taken.{Taken}
+use Rattle.dcsctp_spec_lemmas.specs.spec.queues.Numbers.{number_near}
+use Rattle.dcsctp_spec_lemmas.specs.spec.queues.Runs.{PartModel, WholeModel, Assembled, part_dropped, part_kept, message_whole}
+use Rattle.dcsctp_spec_lemmas.specs.spec.queues.IncomingStreams.{StreamModel, next_after, next_due, next_past, OrderedOutcome}
 use Rattle.dcsctp_delivery_sending.specs.Places.{at_place}
 use Rattle.dcsctp_delivery_sending.specs.Log.{Message, Piece, Slot, History}
 use Rattle.dcsctp_delivery_sending.specs.Numbers.{Told, plain, interleaved, IsCurrent}

@@ -1,13 +1,13 @@
 -- A chunk of data whose TSN is new.
 use Rattle.std.proofs.Common.{◌≡◌, ◌≢◌, ℕ, Bool, true, false, List, ◌∷◌, ◌++◌, refl, sym, ◌∙◌, ap, subst, inl, inr}
-use Rattle.dcsctp_machine.specs.transfer.Messages.{MessageContent}
-use Rattle.dcsctp_machine.specs.declared.arrivals.Numbering.{Numbering}
-use Rattle.dcsctp_machine.specs.declared.arrivals.Numbering.TheVariants.{Ordered, Unordered, InterleavedOrdered, InterleavedUnordered}
-use Rattle.dcsctp_machine.specs.declared.arrivals.Taken.{Taken}
-use Rattle.dcsctp_machine.specs.transfer.Numbers.{number_near, short_number_from, fragment_place}
-use Rattle.dcsctp_machine.specs.transfer.Runs.{RunModel, WholeModel, Assembled, part_dropped, part_kept, message_whole}
-use Rattle.dcsctp_machine.specs.transfer.IncomingStreams.{StreamModel, ChunkModel, data_part, delivered_as, UnorderedOutcome, TakesAhead, TakesInOrder, TakesOutOfOrder, is_waiting, TakesNumbered}
-use Rattle.dcsctp_machine.specs.transfer.Incoming.{IncomingModel, stream_on, TakesChunk, TakesData}
+use Rattle.dcsctp_spec_lemmas.specs.types.queues.Messages.{MessageContent}
+use Rattle.dcsctp_spec_lemmas.specs.types.declared.arrivals.Numbering.{Numbering}
+use Rattle.dcsctp_spec_lemmas.specs.types.declared.arrivals.Numbering.TheVariants.{Ordered, Unordered, InterleavedOrdered, InterleavedUnordered}
+use Rattle.dcsctp_spec_lemmas.specs.types.declared.arrivals.Taken.{Taken}
+use Rattle.dcsctp_spec_lemmas.specs.spec.queues.Numbers.{number_near, short_number_from, fragment_place}
+use Rattle.dcsctp_spec_lemmas.specs.spec.queues.Runs.{RunModel, WholeModel, Assembled, part_dropped, part_kept, message_whole}
+use Rattle.dcsctp_spec_lemmas.specs.spec.queues.IncomingStreams.{StreamModel, ChunkModel, data_part, delivered_as, UnorderedOutcome, TakesAhead, TakesInOrder, TakesOutOfOrder, is_waiting, TakesNumbered}
+use Rattle.dcsctp_spec_lemmas.specs.spec.queues.Incoming.{IncomingModel, stream_on, TakesChunk, TakesData}
 use Rattle.dcsctp_delivery_sending.specs.Places.{Has, set_at}
 use Rattle.dcsctp_delivery_sending.specs.Log.{Message, History, Cut}
 use Rattle.dcsctp_delivery_receiving.specs.Rows.{IsPlaced, IsPart, AreRows, Spent, MakesQueued}

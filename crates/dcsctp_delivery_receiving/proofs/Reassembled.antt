@@ -2,12 +2,12 @@
 use Rattle.std.proofs.Common.{◌≡◌, ℕ, true, ◌<◌, ◌≤◌, ◌+◌, ◌-◌, ◌%◌, ◌^◌, List, [], ◌∷◌, ◌++◌, refl, sym, ◌∙◌, ap, arith, subst, inl, inr}
 use Rattle.std.specs.Prelude.{◌⊎◌, Option, None, Some}
 use Rattle.std.proofs.lemmas.Bool.Decides.{nat_tests}
-use Rattle.dcsctp_machine.specs.declared.arrivals.SkippedTo.{SkippedTo}
-use Rattle.dcsctp_machine.specs.transfer.Numbers.{number_near, is_tsn_beyond}
-use Rattle.dcsctp_machine.specs.transfer.IncomingStreams.{ChunkModel}
-use Rattle.dcsctp_machine.specs.transfer.Incoming.{IncomingModel, TakesData, MovesOn, ResetsStreams}
-use Rattle.dcsctp_machine.specs.transfer.Reassembly.{WaitingModel, arrived, skipping, DeferralModel, ReassemblyState, names_stream, is_deferred, is_forward_deferred, with_waiting, HandlesAll, actions_of, Leaves}
-use Rattle.dcsctp_machine.specs.transfer.Tracker.{TrackerState}
+use Rattle.dcsctp_spec_lemmas.specs.types.declared.arrivals.SkippedTo.{SkippedTo}
+use Rattle.dcsctp_spec_lemmas.specs.spec.queues.Numbers.{number_near, is_tsn_beyond}
+use Rattle.dcsctp_spec_lemmas.specs.spec.queues.IncomingStreams.{ChunkModel}
+use Rattle.dcsctp_spec_lemmas.specs.spec.queues.Incoming.{IncomingModel, TakesData, MovesOn, ResetsStreams}
+use Rattle.dcsctp_spec_lemmas.specs.spec.queues.Reassembly.{WaitingModel, arrived, skipping, DeferralModel, ReassemblyState, names_stream, is_deferred, is_forward_deferred, with_waiting, HandlesAll, actions_of, Leaves}
+use Rattle.dcsctp_spec_lemmas.specs.spec.queues.Tracker.{TrackerState}
 use Rattle.dcsctp_delivery_sending.specs.Places.{Has}
 use Rattle.dcsctp_delivery_sending.specs.Log.{Message, History, Cut}
 use Rattle.dcsctp_delivery_receiving.specs.Ready.{AreDistinct, BearsPiece, Holds}

@@ -4,7 +4,7 @@ use Rattle.std.specs.Prelude.{◌&&◌, not, Option, None, Some, is_some, slice_
 use Rattle.std.proofs.lemmas.Bool.{eqb-true}
 use Rattle.std.proofs.lemmas.Bool.Decides.{leb_tells}
 use Rattle.std.proofs.lemmas.List.{take_all, length-append, append-nil}
-use Rattle.dcsctp_machine.specs.transfer.Runs.{RunModel, PartModel, WholeModel, Assembled, part_dropped, part_kept, message_whole, joined_bytes, whole_run, AddsAt, IsPlace, entry_before, StartsUpTo, StartsBehind, follows, precedes, following, preceding, run_before, run_behind, single_run, chained, merged, merged_at, front_end, back_start, is_whole}
+use Rattle.dcsctp_spec_lemmas.specs.spec.queues.Runs.{RunModel, PartModel, WholeModel, Assembled, part_dropped, part_kept, message_whole, joined_bytes, whole_run, AddsAt, IsPlace, entry_before, StartsUpTo, StartsBehind, follows, precedes, following, preceding, run_before, run_behind, single_run, chained, merged, merged_at, front_end, back_start, is_whole}
 use Rattle.dcsctp_delivery_sending.specs.Places.{Has, at_place}
 use Rattle.dcsctp_delivery_sending.specs.Log.{Message, Piece, Slot, Cut}
 use Rattle.dcsctp_delivery_receiving.specs.Rows.{IsPart, IsRow, AreRows, IsQueued, MakesQueued}

@@ -4,13 +4,13 @@ use Rattle.std.specs.Prelude.{nat_le, not, if◌then◌else◌}
 use Rattle.std.specs.List.{filter}
 use Rattle.std.proofs.lemmas.List.{append-nil}
 use Rattle.std.proofs.lemmas.Bool.Decides.{eqb_tells}
-use Rattle.dcsctp_machine.specs.transfer.Messages.{MessageContent}
-use Rattle.dcsctp_machine.specs.declared.arrivals.SkippedTo.{SkippedTo}
-use Rattle.dcsctp_machine.specs.declared.arrivals.SkippedTo.TheVariants.{Ssn, Mid}
-use Rattle.dcsctp_machine.specs.transfer.Numbers.{number_near, short_number_near}
-use Rattle.dcsctp_machine.specs.transfer.Runs.{RunModel, WholeModel, behind_place}
-use Rattle.dcsctp_machine.specs.transfer.IncomingStreams.{StreamModel, new_stream, delivered_as, due, next_past, skipped_stream, skipped, skip_deliveries}
-use Rattle.dcsctp_machine.specs.transfer.Incoming.{IncomingModel, stream_on, skipped_on, skipped_by, deliveries_by, MovesOn, is_named, ResetsStreams}
+use Rattle.dcsctp_spec_lemmas.specs.types.queues.Messages.{MessageContent}
+use Rattle.dcsctp_spec_lemmas.specs.types.declared.arrivals.SkippedTo.{SkippedTo}
+use Rattle.dcsctp_spec_lemmas.specs.types.declared.arrivals.SkippedTo.TheVariants.{Ssn, Mid}
+use Rattle.dcsctp_spec_lemmas.specs.spec.queues.Numbers.{number_near, short_number_near}
+use Rattle.dcsctp_spec_lemmas.specs.spec.queues.Runs.{RunModel, WholeModel, behind_place}
+use Rattle.dcsctp_spec_lemmas.specs.spec.queues.IncomingStreams.{StreamModel, new_stream, delivered_as, due, next_past, skipped_stream, skipped, skip_deliveries}
+use Rattle.dcsctp_spec_lemmas.specs.spec.queues.Incoming.{IncomingModel, stream_on, skipped_on, skipped_by, deliveries_by, MovesOn, is_named, ResetsStreams}
 use Rattle.dcsctp_delivery_sending.specs.Places.{Has, set_at}
 use Rattle.dcsctp_delivery_sending.specs.Log.{Message, Piece, History}
 use Rattle.dcsctp_delivery_receiving.specs.Rows.{AreRows}

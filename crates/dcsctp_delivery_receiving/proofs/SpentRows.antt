@@ -3,7 +3,7 @@ use Rattle.std.proofs.Common.{◌≡◌, ◌≢◌, ◌==◌, ℕ, zero, suc, Bo
 use Rattle.std.specs.Prelude.{◌&&◌, not, Option, None, Some, if◌then◌else◌}
 use Rattle.std.proofs.lemmas.Bool.{eqb-true}
 use Rattle.std.proofs.lemmas.Bool.Decides.{eqb_tells, leb_tells}
-use Rattle.dcsctp_machine.specs.transfer.Runs.{RunModel, PartModel, WholeModel, Assembled, part_dropped, part_kept, message_whole, AddsPart, AddsAt, entry_before, follows, following, run_before, run_behind, merged}
+use Rattle.dcsctp_spec_lemmas.specs.spec.queues.Runs.{RunModel, PartModel, WholeModel, Assembled, part_dropped, part_kept, message_whole, AddsPart, AddsAt, entry_before, follows, following, run_before, run_behind, merged}
 use Rattle.dcsctp_delivery_sending.specs.Places.{Has, at_place}
 use Rattle.dcsctp_delivery_sending.specs.Log.{Message, Piece, Slot, Cut}
 use Rattle.dcsctp_delivery_receiving.specs.Rows.{IsPart, IsRow, AreRows, Spent, MakesQueued}

@@ -2,16 +2,16 @@
 use Rattle.std.proofs.Common.{◌≡◌, ℕ, Bool, true, false, ◌<◌, ◌≤◌, ◌+◌, ◌-◌, ◌%◌, ◌^◌, List, [], ◌∷◌, ◌++◌, length, refl, sym, ◌∙◌, ap, arith, subst, inl, inr}
 use Rattle.std.specs.Prelude.{if◌then◌else◌, Option, None, Some}
 use Rattle.std.proofs.lemmas.Bool.Decides.{nat_tests}
-use Rattle.dcsctp_machine.specs.declared.arrivals.SkippedTo.{SkippedTo}
-use Rattle.dcsctp_machine.specs.declared.options.Options.{Options}
-use Rattle.dcsctp_machine.specs.transfer.Messages.{MessageContent}
-use Rattle.dcsctp_machine.specs.transfer.Incoming.{IncomingModel}
-use Rattle.dcsctp_machine.specs.transfer.Reassembly.{entered, deferring, DeferralModel, ReassemblyState, actions_of, new_reassembly}
-use Rattle.dcsctp_machine.specs.declared.tracking.TsnRange.{TsnRange}
-use Rattle.dcsctp_machine.specs.transfer.Ranges.{IsBeyond, is_received}
-use Rattle.dcsctp_machine.specs.transfer.Tracker.{has_received, TrackerState, new_tracker, is_forward, is_valid_tsn, after_forward, delay_over, moved_forward}
-use Rattle.dcsctp_machine.specs.transfer.Transfer.{Transfer}
-use Rattle.dcsctp_machine.specs.turns.TransferMoves.{SkipsWhere, MovesWhere, MovesForward}
+use Rattle.dcsctp_spec_lemmas.specs.types.declared.arrivals.SkippedTo.{SkippedTo}
+use Rattle.dcsctp_spec_lemmas.specs.types.declared.options.Options.{Options}
+use Rattle.dcsctp_spec_lemmas.specs.types.queues.Messages.{MessageContent}
+use Rattle.dcsctp_spec_lemmas.specs.spec.queues.Incoming.{IncomingModel}
+use Rattle.dcsctp_spec_lemmas.specs.spec.queues.Reassembly.{entered, deferring, DeferralModel, ReassemblyState, actions_of, new_reassembly}
+use Rattle.dcsctp_spec_lemmas.specs.types.declared.tracking.TsnRange.{TsnRange}
+use Rattle.dcsctp_spec_lemmas.specs.spec.queues.Ranges.{IsBeyond, is_received}
+use Rattle.dcsctp_spec_lemmas.specs.spec.queues.Tracker.{has_received, TrackerState, new_tracker, is_forward, is_valid_tsn, after_forward, delay_over, moved_forward}
+use Rattle.dcsctp_spec_lemmas.specs.spec.queues.Transfer.{Transfer}
+use Rattle.dcsctp_spec_lemmas.specs.spec.endpoint.TransferMoves.{SkipsWhere, MovesWhere, MovesForward}
 use Rattle.dcsctp_delivery_sending.specs.Places.{Has}
 use Rattle.dcsctp_delivery_sending.specs.Log.{Message, History}
 use Rattle.dcsctp_delivery_sending.specs.Numbers.{AreCurrent}

@@ -2,11 +2,11 @@
 use Rattle.std.proofs.Common.{◌≡◌, ◌==◌, ℕ, Bool, true, false, ◌<◌, ◌≤◌, ◌+◌, ◌%◌, ◌^◌, List, [], ◌∷◌, refl, sym, ◌∙◌, ap, arith, subst, inl, inr}
 use Rattle.std.specs.Prelude.{◌||◌, not, nat_le, if◌then◌else◌}
 use Rattle.std.proofs.lemmas.Bool.Decides.{nat_tests, leb_tells}
-use Rattle.dcsctp_machine.specs.declared.tracking.TsnRange.{TsnRange}
-use Rattle.dcsctp_machine.specs.transfer.Numbers.{number_near}
-use Rattle.dcsctp_machine.specs.transfer.Ranges.{IsBeyond, is_in, is_received, received}
-use Rattle.dcsctp_machine.specs.transfer.Tracker.{TrackerState, has_received, number_of, is_new_tsn, observed, is_forward, moved_forward, delay_over, after_forward}
-use Rattle.dcsctp_machine.proofs.RangesLemmas.{received_beyond, received_members, forwarded_beyond, forwarded_members}
+use Rattle.dcsctp_spec_lemmas.specs.types.declared.tracking.TsnRange.{TsnRange}
+use Rattle.dcsctp_spec_lemmas.specs.spec.queues.Numbers.{number_near}
+use Rattle.dcsctp_spec_lemmas.specs.spec.queues.Ranges.{IsBeyond, is_in, is_received, received}
+use Rattle.dcsctp_spec_lemmas.specs.spec.queues.Tracker.{TrackerState, has_received, number_of, is_new_tsn, observed, is_forward, moved_forward, delay_over, after_forward}
+use Rattle.dcsctp_spec_lemmas.proofs.RangesLemmas.{received_beyond, received_members, forwarded_beyond, forwarded_members}
 use Rattle.dcsctp_delivery_sending.specs.Places.{Has}
 use Rattle.dcsctp_delivery_receiving.specs.Tracked.{tracked, Tracks}
 

@@ -1,12 +1,12 @@
 -- The cumulative TSN of a receiver never goes back, and a FORWARD-TSN that passes nothing leaves what was received.
 use Rattle.std.proofs.Common.{◌≡◌, ℕ, Bool, true, false, ◌≤◌, ◌+◌, ◌-◌, ◌%◌, ◌^◌, List, sym, ap, arith, subst, length}
 use Rattle.std.specs.Prelude.{◌&&◌, not}
-use Rattle.dcsctp_machine.specs.declared.arrivals.SkippedTo.{SkippedTo}
-use Rattle.dcsctp_machine.specs.transfer.Arrivals.{Arrival}
-use Rattle.dcsctp_machine.specs.transfer.Reassembly.{is_above_watermark}
-use Rattle.dcsctp_machine.specs.transfer.Tracker.{TrackerState, is_forward, is_valid_tsn}
-use Rattle.dcsctp_machine.specs.transfer.Transfer.{Transfer}
-use Rattle.dcsctp_machine.specs.turns.TransferMoves.{ReceivesWhere, SkipsWhere, MovesWhere, ReceivesData, MovesForward}
+use Rattle.dcsctp_spec_lemmas.specs.types.declared.arrivals.SkippedTo.{SkippedTo}
+use Rattle.dcsctp_spec_lemmas.specs.spec.queues.Arrivals.{Arrival}
+use Rattle.dcsctp_spec_lemmas.specs.spec.queues.Reassembly.{is_above_watermark}
+use Rattle.dcsctp_spec_lemmas.specs.spec.queues.Tracker.{TrackerState, is_forward, is_valid_tsn}
+use Rattle.dcsctp_spec_lemmas.specs.spec.queues.Transfer.{Transfer}
+use Rattle.dcsctp_spec_lemmas.specs.spec.endpoint.TransferMoves.{ReceivesWhere, SkipsWhere, MovesWhere, ReceivesData, MovesForward}
 use Rattle.dcsctp_delivery_sending.specs.Log.{Message, History}
 use Rattle.dcsctp_delivery_receiving.specs.Received.{Received, Few}
 use Rattle.dcsctp_delivery_receiving.proofs.Taking.{nothing_passed}

@@ -2,10 +2,10 @@
 use Rattle.std.proofs.Common.{◌≡◌, ◌≢◌, ◌==◌, ℕ, zero, suc, Bool, true, false, List, [], ◌∷◌, ◌++◌, length, take, drop, map, refl, sym, ◌∙◌, ap, subst, inl, inr}
 use Rattle.std.specs.Prelude.{Some, nat_le, MatchBool, if◌then◌else◌}
 use Rattle.std.proofs.lemmas.List.{append-nil}
-use Rattle.dcsctp_machine.specs.transfer.Messages.{MessageContent}
-use Rattle.dcsctp_machine.specs.declared.arrivals.Taken.{Taken}
-use Rattle.dcsctp_machine.specs.transfer.Runs.{PartModel, WholeModel, Assembled, part_dropped, part_kept, message_whole}
-use Rattle.dcsctp_machine.specs.transfer.IncomingStreams.{StreamModel, delivered_as, next_after, due, not_due, ready_with, WaitsAmong, TakesWhole, OrderedOutcome, UnorderedOutcome}
+use Rattle.dcsctp_spec_lemmas.specs.types.queues.Messages.{MessageContent}
+use Rattle.dcsctp_spec_lemmas.specs.types.declared.arrivals.Taken.{Taken}
+use Rattle.dcsctp_spec_lemmas.specs.spec.queues.Runs.{PartModel, WholeModel, Assembled, part_dropped, part_kept, message_whole}
+use Rattle.dcsctp_spec_lemmas.specs.spec.queues.IncomingStreams.{StreamModel, delivered_as, next_after, due, not_due, ready_with, WaitsAmong, TakesWhole, OrderedOutcome, UnorderedOutcome}
 use Rattle.dcsctp_delivery_sending.specs.Places.{Has, at_place}
 use Rattle.dcsctp_delivery_sending.specs.Log.{Message, Piece, Slot, History}
 use Rattle.dcsctp_delivery_receiving.specs.Rows.{Spent, IsQueued, MakesQueued}

@@ -2,8 +2,8 @@
 -- section 3.2, and RFC 8260, sections 2.1 and 2.3.1).
 use Rattle.std.specs.Prelude.{◌≢◌, ℕ, List, [], true, false}
 use Rattle.std.specs.List.{AllByRecursion}
-use Rattle.dcsctp_wire.specs.Content.{DataContent, IDataContent}
-use Rattle.dcsctp_machine.specs.transfer.Arrivals.{data_arrival, i_data_arrival, skipped_in, messages_skipped_in}
+use Rattle.dcsctp_spec_lemmas.specs.wire.Content.{DataContent, IDataContent}
+use Rattle.dcsctp_spec_lemmas.specs.spec.queues.Arrivals.{data_arrival, i_data_arrival, skipped_in, messages_skipped_in}
 use Rattle.dcsctp_delivery_sending.specs.Log.{Message, Slot, History, Cut, Fits}
 use Rattle.dcsctp_delivery_sending.specs.Flushes.{IsData, IsInterleaved, IsForward}
 use Rattle.dcsctp_delivery_receiving.specs.Ready.{SkipAll}

@@ -1,16 +1,16 @@
 -- What the reassembly queue has ready is what the peer's user queued, each message once (RFC 9260, section 6.6, RFC 3758, section 3.6, and
 -- RFC 6525, section 5.2.2), with interleaving or without (RFC 8260).
 use Rattle.std.specs.Prelude.{◌≡◌, ◌<◌, ◌≤◌, ◌+◌, ◌%◌, ◌^◌, ℕ, Bool, true, false, Some, List, [], ◌∷◌, ◌++◌}
-use Rattle.dcsctp_machine.specs.transfer.Messages.{MessageContent}
-use Rattle.dcsctp_machine.specs.declared.arrivals.Numbering.{Numbering}
-use Rattle.dcsctp_machine.specs.declared.arrivals.Numbering.TheVariants.{Ordered, Unordered, InterleavedOrdered, InterleavedUnordered}
-use Rattle.dcsctp_machine.specs.transfer.Numbers.{number_near}
-use Rattle.dcsctp_machine.specs.transfer.Runs.{RunModel, WholeModel}
-use Rattle.dcsctp_machine.specs.transfer.IncomingStreams.{StreamModel, ChunkModel}
-use Rattle.dcsctp_machine.specs.declared.arrivals.SkippedTo.{SkippedTo}
-use Rattle.dcsctp_machine.specs.declared.arrivals.SkippedTo.TheVariants.{Ssn, Mid}
+use Rattle.dcsctp_spec_lemmas.specs.types.queues.Messages.{MessageContent}
+use Rattle.dcsctp_spec_lemmas.specs.types.declared.arrivals.Numbering.{Numbering}
+use Rattle.dcsctp_spec_lemmas.specs.types.declared.arrivals.Numbering.TheVariants.{Ordered, Unordered, InterleavedOrdered, InterleavedUnordered}
+use Rattle.dcsctp_spec_lemmas.specs.spec.queues.Numbers.{number_near}
+use Rattle.dcsctp_spec_lemmas.specs.spec.queues.Runs.{RunModel, WholeModel}
+use Rattle.dcsctp_spec_lemmas.specs.spec.queues.IncomingStreams.{StreamModel, ChunkModel}
+use Rattle.dcsctp_spec_lemmas.specs.types.declared.arrivals.SkippedTo.{SkippedTo}
+use Rattle.dcsctp_spec_lemmas.specs.types.declared.arrivals.SkippedTo.TheVariants.{Ssn, Mid}
 use Rattle.dcsctp_delivery_sending.specs.Numbers.{AreOfKind, Told, IsCurrent}
-use Rattle.dcsctp_machine.specs.transfer.Incoming.{IncomingModel, stream_on, TakesData, MovesOn, ResetsStreams}
+use Rattle.dcsctp_spec_lemmas.specs.spec.queues.Incoming.{IncomingModel, stream_on, TakesData, MovesOn, ResetsStreams}
 use Rattle.dcsctp_delivery_sending.specs.Places.{Has, at_place}
 use Rattle.dcsctp_delivery_sending.specs.Log.{Message, Piece, Mark, History, Resets, is_beginning, is_end, bytes_of, Cut}
 use Rattle.dcsctp_delivery_receiving.specs.Rows.{AreRows, Spent, IsQueued}

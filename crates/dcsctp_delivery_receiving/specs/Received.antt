@@ -1,19 +1,19 @@
 -- What an association has received of its peer's messages, with the data tracker, and with what waits for the end of a deferred reset
 -- (RFC 6525, section 5.2.2).
 use Rattle.std.specs.Prelude.{◌≡◌, ◌<◌, ◌≤◌, ◌+◌, ◌%◌, ◌^◌, ℕ, Bool, true, Option, None, Some, List, [], ◌∷◌, ◌++◌, length}
-use Rattle.dcsctp_machine.specs.declared.arrivals.SkippedTo.{SkippedTo}
-use Rattle.dcsctp_machine.specs.declared.options.Options.{Options}
-use Rattle.dcsctp_machine.specs.transfer.Arrivals.{Arrival}
-use Rattle.dcsctp_machine.specs.transfer.Messages.{MessageContent}
-use Rattle.dcsctp_machine.specs.transfer.IncomingStreams.{ChunkModel}
-use Rattle.dcsctp_machine.specs.transfer.Incoming.{IncomingModel}
-use Rattle.dcsctp_machine.specs.transfer.Reassembly.{WaitingModel, DeferralModel, arrived, skipping, ReassemblyState, actions_of, with_ready, new_reassembly, Leaves}
-use Rattle.dcsctp_machine.specs.transfer.Tracker.{TrackerState, new_tracker}
-use Rattle.dcsctp_machine.specs.transfer.Transfer.{Transfer}
-use Rattle.dcsctp_machine.specs.turns.TransferMoves.{ReceivesData, MovesForward}
+use Rattle.dcsctp_spec_lemmas.specs.types.declared.arrivals.SkippedTo.{SkippedTo}
+use Rattle.dcsctp_spec_lemmas.specs.types.declared.options.Options.{Options}
+use Rattle.dcsctp_spec_lemmas.specs.spec.queues.Arrivals.{Arrival}
+use Rattle.dcsctp_spec_lemmas.specs.types.queues.Messages.{MessageContent}
+use Rattle.dcsctp_spec_lemmas.specs.spec.queues.IncomingStreams.{ChunkModel}
+use Rattle.dcsctp_spec_lemmas.specs.spec.queues.Incoming.{IncomingModel}
+use Rattle.dcsctp_spec_lemmas.specs.spec.queues.Reassembly.{WaitingModel, DeferralModel, arrived, skipping, ReassemblyState, actions_of, with_ready, new_reassembly, Leaves}
+use Rattle.dcsctp_spec_lemmas.specs.spec.queues.Tracker.{TrackerState, new_tracker}
+use Rattle.dcsctp_spec_lemmas.specs.spec.queues.Transfer.{Transfer}
+use Rattle.dcsctp_spec_lemmas.specs.spec.endpoint.TransferMoves.{ReceivesData, MovesForward}
 use Rattle.dcsctp_delivery_sending.specs.Places.{Has, at_place}
-use Rattle.dcsctp_machine.specs.transfer.Numbers.{is_tsn_beyond}
-use Rattle.dcsctp_machine.specs.turns.BegunResets.{BegunReset}
+use Rattle.dcsctp_spec_lemmas.specs.spec.queues.Numbers.{is_tsn_beyond}
+use Rattle.dcsctp_spec_lemmas.specs.spec.endpoint.BegunResets.{BegunReset}
 use Rattle.dcsctp_delivery_sending.specs.Log.{Message, Piece, Slot, Mark, History, Resets, grown, with_mark, new_history, is_beginning, is_end, bytes_of, Cut}
 use Rattle.dcsctp_delivery_receiving.specs.Ready.{AreDistinct, IsNumbered, SkipAll, NameAll, Holds}
 use Rattle.dcsctp_delivery_sending.specs.Numbers.{Told, IsCurrent, AreCurrent}

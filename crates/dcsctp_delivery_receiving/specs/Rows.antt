@@ -1,7 +1,7 @@
 -- The runs that a reassembly queue holds are rows of pieces of the peer's log (RFC 9260, section 6.9).
 use Rattle.std.specs.Prelude.{◌≡◌, ◌<◌, ◌≤◌, ◌+◌, ◌-◌, ◌%◌, ◌^◌, ℕ, Bool, true, false, Some, List, [], ◌∷◌, length, take, drop}
-use Rattle.dcsctp_machine.specs.transfer.Runs.{RunModel, PartModel, WholeModel, Assembled, part_dropped, part_kept, message_whole, joined_bytes}
-use Rattle.dcsctp_machine.specs.transfer.Numbers.{fragment_place}
+use Rattle.dcsctp_spec_lemmas.specs.spec.queues.Runs.{RunModel, PartModel, WholeModel, Assembled, part_dropped, part_kept, message_whole, joined_bytes}
+use Rattle.dcsctp_spec_lemmas.specs.spec.queues.Numbers.{fragment_place}
 use Rattle.dcsctp_delivery_sending.specs.Places.{Has, at_place}
 use Rattle.dcsctp_delivery_sending.specs.Log.{Message, Piece, Slot, is_beginning, is_end, bytes_of}
 

@@ -1,8 +1,8 @@
 -- The data tracker tells new TSNs from those that were received, while fewer than 2^31 are assigned (RFC 9260, sections 1.6 and 6.2).
 use Rattle.std.specs.Prelude.{◌≡◌, ◌<◌, ◌≤◌, ◌+◌, ◌-◌, ◌%◌, ◌^◌, ℕ, Bool, true, List, ◌∷◌}
-use Rattle.dcsctp_machine.specs.transfer.Numbers.{number_near}
-use Rattle.dcsctp_machine.specs.transfer.Ranges.{IsBeyond}
-use Rattle.dcsctp_machine.specs.transfer.Tracker.{TrackerState, has_received, is_new_tsn, observed, is_forward, after_forward}
+use Rattle.dcsctp_spec_lemmas.specs.spec.queues.Numbers.{number_near}
+use Rattle.dcsctp_spec_lemmas.specs.spec.queues.Ranges.{IsBeyond}
+use Rattle.dcsctp_spec_lemmas.specs.spec.queues.Tracker.{TrackerState, has_received, is_new_tsn, observed, is_forward, after_forward}
 use Rattle.dcsctp_delivery_sending.specs.Places.{Has}
 
 -- the number that the tracker has for the TSN of this offset from the first

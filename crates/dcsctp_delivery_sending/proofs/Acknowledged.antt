@@ -4,12 +4,12 @@ use Rattle.std.specs.Prelude.{Option, slice_get, nat_lt, if◌then◌else◌}
 use Rattle.std.specs.Option.{option_map}
 use Rattle.std.proofs.lemmas.Bool.Decides.{nat_tests}
 use Rattle.std.proofs.lemmas.List.{length-drop}
-use Rattle.dcsctp_wire.specs.declared.chunk.sack.GapAckBlock.{GapAckBlock}
-use Rattle.dcsctp_machine.specs.declared.progress.Change.TheVariants.{Miss, Mark, Acknowledge}
-use Rattle.dcsctp_machine.specs.transfer.Acknowledging.{is_sack_valid, AcknowledgesItems, covered, lossy, missed_until, without_first, exiting}
-use Rattle.dcsctp_machine.specs.transfer.Items.{Item, marked_items, changed_between}
-use Rattle.dcsctp_machine.specs.transfer.Outstanding.{OutstandingState, acknowledged_by, reported, tsn_at}
-use Rattle.dcsctp_machine.specs.transfer.Retransmission.{RetransmissionState, with_items, outstanding_count, after_expiry}
+use Rattle.dcsctp_spec.specs.wire.declared.chunk.sack.GapAckBlock.{GapAckBlock}
+use Rattle.dcsctp_spec.specs.types.declared.progress.Change.TheVariants.{Miss, Mark, Acknowledge}
+use Rattle.dcsctp_spec.specs.queues.Acknowledging.{is_sack_valid, AcknowledgesItems, covered, lossy, missed_until, without_first, exiting}
+use Rattle.dcsctp_spec.specs.queues.Items.{Item, marked_items, changed_between}
+use Rattle.dcsctp_spec.specs.queues.Outstanding.{OutstandingState, acknowledged_by, reported, tsn_at}
+use Rattle.dcsctp_spec.specs.queues.Retransmission.{RetransmissionState, with_items, outstanding_count, after_expiry}
 use Rattle.dcsctp_delivery_sending.specs.Log.{History}
 use Rattle.dcsctp_delivery_sending.specs.Stages.{SaysAt, IsNamed, Bears}
 use Rattle.dcsctp_delivery_sending.proofs.Stages.{changed_length, bears_changed}

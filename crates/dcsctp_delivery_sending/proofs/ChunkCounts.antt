@@ -2,26 +2,26 @@
 use Rattle.std.proofs.Common.{◌≡◌, ℕ, Bool, true, false, ◌≤◌, ◌+◌, ◌*◌, ◌-◌, List, [], ◌∷◌, ◌++◌, length, map, refl, sym, ◌∙◌, ap, arith, subst, inl, inr}
 use Rattle.std.specs.Prelude.{Option, None, Some}
 use Rattle.std.proofs.lemmas.List.{append-nil, length-append}
-use Rattle.dcsctp_wire.specs.Content.{ChunkContent, data_chunk, init_chunk, init_ack_chunk, sack_chunk, heartbeat_chunk, heartbeat_ack_chunk, abort_chunk, shutdown_chunk, shutdown_ack_chunk, error_chunk, cookie_echo_chunk, cookie_ack_chunk, shutdown_complete_chunk, i_data_chunk, re_config_chunk, forward_tsn_chunk, i_forward_tsn_chunk, unknown_chunk}
-use Rattle.dcsctp_machine.specs.declared.sending.UnderWay.{UnderWay}
-use Rattle.dcsctp_machine.specs.Endpoint.{Endpoint}
-use Rattle.dcsctp_machine.specs.Event.{Event, sent, packets_in}
-use Rattle.dcsctp_machine.specs.Packet.{Plain, unworked, unknown, heartbeat, heartbeat_ack, plain, Content, init, init_ack, cookie_echo, cookie_ack, re_config, abort, shutdown, shutdown_ack, shutdown_complete, Emission}
-use Rattle.dcsctp_machine.specs.control.Choices.{plain_contents}
-use Rattle.dcsctp_machine.specs.declared.progress.Change.TheVariants.{SendAgain, Abandon}
-use Rattle.dcsctp_machine.specs.transfer.Abandoning.{GivesUpFirst}
-use Rattle.dcsctp_machine.specs.transfer.AtOnce.{empty_stage, SendsAtOnce}
-use Rattle.dcsctp_machine.specs.transfer.Chunks.{AreChunks, chunk_said}
-use Rattle.dcsctp_machine.specs.transfer.Filling.{Stage, Closes, GivesUpAt, SendsMarked, SendsNew, FindsNone, StepAgain, StepNew, Steps, none, more, counting, FillsPacket}
-use Rattle.dcsctp_machine.specs.transfer.ItemMessages.{EndsDropped}
-use Rattle.dcsctp_machine.specs.transfer.Items.{Item}
-use Rattle.dcsctp_machine.specs.transfer.Outstanding.{OutstandingState, next_tsn, tsn_at}
-use Rattle.dcsctp_machine.specs.transfer.Retransmission.{RetransmissionState}
-use Rattle.dcsctp_machine.specs.transfer.SendQueue.{SendQueueState}
-use Rattle.dcsctp_machine.specs.transfer.Sending.{DiscardsNamed}
-use Rattle.dcsctp_machine.specs.transfer.Transfer.{Transfer, Below, may_give, is_idle}
-use Rattle.dcsctp_machine.specs.turns.BegunResets.{BegunReset, streams_within, request_contents, queue_requesting, retransmission_begun}
-use Rattle.dcsctp_machine.specs.turns.FlushOutcomes.{told_event, Answer, answer_contents, filled, asked, next_draft, flush_of, Ask, first_ask, later_ask, room_in, GivesUpWhere, may_forward, FillsWhere, Gives, GivesWhere, AnsweredBelow, Answered, stage_of, nothing_waits, Answers, at_limit, at_empty, after_packet, FlushAnswers, goes_out, Told, amount_is_low, total_amount_is_low, message_is_sent, message_may_have_expired, message_has_expired, message_ends}
+use Rattle.dcsctp_spec.specs.wire.Content.{ChunkContent, data_chunk, init_chunk, init_ack_chunk, sack_chunk, heartbeat_chunk, heartbeat_ack_chunk, abort_chunk, shutdown_chunk, shutdown_ack_chunk, error_chunk, cookie_echo_chunk, cookie_ack_chunk, shutdown_complete_chunk, i_data_chunk, re_config_chunk, forward_tsn_chunk, i_forward_tsn_chunk, unknown_chunk}
+use Rattle.dcsctp_spec.specs.types.declared.sending.UnderWay.{UnderWay}
+use Rattle.dcsctp_spec.specs.endpoint.Endpoint.{Endpoint}
+use Rattle.dcsctp_spec.specs.endpoint.Event.{Event, sent, packets_in}
+use Rattle.dcsctp_spec.specs.Packet.{Plain, unworked, unknown, heartbeat, heartbeat_ack, plain, Content, init, init_ack, cookie_echo, cookie_ack, re_config, abort, shutdown, shutdown_ack, shutdown_complete, Emission}
+use Rattle.dcsctp_spec.specs.association.Choices.{plain_contents}
+use Rattle.dcsctp_spec.specs.types.declared.progress.Change.TheVariants.{SendAgain, Abandon}
+use Rattle.dcsctp_spec.specs.queues.Abandoning.{GivesUpFirst}
+use Rattle.dcsctp_spec.specs.queues.AtOnce.{empty_stage, SendsAtOnce}
+use Rattle.dcsctp_spec.specs.queues.Chunks.{AreChunks, chunk_said}
+use Rattle.dcsctp_spec.specs.queues.Filling.{Stage, Closes, GivesUpAt, SendsMarked, SendsNew, FindsNone, StepAgain, StepNew, Steps, none, more, counting, FillsPacket}
+use Rattle.dcsctp_spec.specs.queues.ItemMessages.{EndsDropped}
+use Rattle.dcsctp_spec.specs.queues.Items.{Item}
+use Rattle.dcsctp_spec.specs.queues.Outstanding.{OutstandingState, next_tsn, tsn_at}
+use Rattle.dcsctp_spec.specs.queues.Retransmission.{RetransmissionState}
+use Rattle.dcsctp_spec.specs.queues.SendQueue.{SendQueueState}
+use Rattle.dcsctp_spec.specs.queues.Sending.{DiscardsNamed}
+use Rattle.dcsctp_spec.specs.queues.Transfer.{Transfer, Below, may_give, is_idle}
+use Rattle.dcsctp_spec.specs.endpoint.BegunResets.{BegunReset, streams_within, request_contents, queue_requesting, retransmission_begun}
+use Rattle.dcsctp_spec.specs.endpoint.FlushOutcomes.{told_event, Answer, answer_contents, filled, asked, next_draft, flush_of, Ask, first_ask, later_ask, room_in, GivesUpWhere, may_forward, FillsWhere, Gives, GivesWhere, AnsweredBelow, Answered, stage_of, nothing_waits, Answers, at_limit, at_empty, after_packet, FlushAnswers, goes_out, Told, amount_is_low, total_amount_is_low, message_is_sent, message_may_have_expired, message_has_expired, message_ends}
 use Rattle.dcsctp_delivery_sending.specs.ChunkCounts.{counts, chunks_among, chunks_in, going, tsns_of, tsns_where, tsns_below}
 use Rattle.dcsctp_delivery_sending.specs.Flushes.{NoPlain, NoContent, NoData}
 use Rattle.dcsctp_delivery_sending.proofs.Filling.{counted_outstanding}

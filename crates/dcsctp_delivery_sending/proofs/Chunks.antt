@@ -1,10 +1,10 @@
 -- What a packet that is filled carries.
 use Rattle.std.proofs.Common.{◌≡◌, ℕ, Bool, ◌+◌, ◌%◌, ◌^◌, List, [], ◌∷◌, ◌++◌, sym, ◌∙◌, ap, arith}
-use Rattle.dcsctp_machine.specs.Packet.{Plain, unworked}
-use Rattle.dcsctp_machine.specs.transfer.Chunks.{IsChunkOf, AreChunks, chunk_said}
-use Rattle.dcsctp_machine.specs.transfer.Filling.{Stage, FillsPacket}
-use Rattle.dcsctp_machine.specs.transfer.Outstanding.{OutstandingState}
-use Rattle.dcsctp_machine.specs.transfer.SendQueue.{SendQueueState}
+use Rattle.dcsctp_spec.specs.Packet.{Plain, unworked}
+use Rattle.dcsctp_spec.specs.queues.Chunks.{IsChunkOf, AreChunks, chunk_said}
+use Rattle.dcsctp_spec.specs.queues.Filling.{Stage, FillsPacket}
+use Rattle.dcsctp_spec.specs.queues.Outstanding.{OutstandingState}
+use Rattle.dcsctp_spec.specs.queues.SendQueue.{SendQueueState}
 use Rattle.dcsctp_delivery_sending.specs.Log.{Message, History, grown}
 use Rattle.dcsctp_delivery_sending.specs.Numbers.{Numbered, AreOfKind}
 use Rattle.dcsctp_delivery_sending.specs.Stages.{Bears, Stands, Stays, IsOfLog, AreOfLog}

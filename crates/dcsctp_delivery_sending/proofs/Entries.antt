@@ -4,10 +4,10 @@ use Rattle.std.specs.Prelude.{◌&&◌, ◌||◌, not, Option, None, Some, slice
 use Rattle.std.specs.Option.{option_map, option_or}
 use Rattle.std.proofs.lemmas.Bool.{eqb-true, eq-eqb}
 use Rattle.std.proofs.lemmas.Bool.Decides.{eqb_tells, leb_tells}
-use Rattle.dcsctp_machine.specs.transfer.Progress.{is_abandoned}
-use Rattle.dcsctp_machine.specs.transfer.Outstanding.{OutstandingState}
-use Rattle.dcsctp_machine.specs.transfer.Items.{Item}
-use Rattle.dcsctp_machine.specs.transfer.Skipping.{goes_on, is_same, last_on, last_listed, entry_for, NoneTwice, number_of}
+use Rattle.dcsctp_spec.specs.types.queues.Progress.{is_abandoned}
+use Rattle.dcsctp_spec.specs.queues.Outstanding.{OutstandingState}
+use Rattle.dcsctp_spec.specs.queues.Items.{Item}
+use Rattle.dcsctp_spec.specs.queues.Skipping.{goes_on, is_same, last_on, last_listed, entry_for, NoneTwice, number_of}
 use Rattle.dcsctp_delivery_sending.specs.Places.{Has}
 use Rattle.dcsctp_delivery_sending.specs.Log.{Mark, History}
 use Rattle.dcsctp_delivery_sending.specs.Numbers.{AreOfKind}

@@ -1,14 +1,14 @@
 -- A flush, packet by packet.
 use Rattle.std.proofs.Common.{ℕ, List, [], ◌++◌, length, arith, refl, sym, subst, inl, inr}
 use Rattle.std.specs.Prelude.{Option, None}
-use Rattle.dcsctp_machine.specs.Event.{Event, packets_in}
-use Rattle.dcsctp_machine.specs.Packet.{Emission}
-use Rattle.dcsctp_machine.specs.Endpoint.{Endpoint, Core, closed as closed_core, cookie_wait, cookie_echoed, open_in}
-use Rattle.dcsctp_machine.specs.Outcome.{still}
-use Rattle.dcsctp_machine.specs.transfer.SendQueue.{SendQueueState}
-use Rattle.dcsctp_machine.specs.transfer.Transfer.{Below}
-use Rattle.dcsctp_machine.specs.turns.BegunResets.{BegunReset}
-use Rattle.dcsctp_machine.specs.turns.FlushOutcomes.{Answer, asked, next_draft, flush_of, Ask, first_ask, later_ask, Answers, at_limit, at_empty, after_packet, FlushAnswers, packets_allowed}
+use Rattle.dcsctp_spec.specs.endpoint.Event.{Event, packets_in}
+use Rattle.dcsctp_spec.specs.Packet.{Emission}
+use Rattle.dcsctp_spec.specs.endpoint.Endpoint.{Endpoint, Core, closed as closed_core, cookie_wait, cookie_echoed, open_in}
+use Rattle.dcsctp_spec.specs.endpoint.Outcome.{still}
+use Rattle.dcsctp_spec.specs.queues.SendQueue.{SendQueueState}
+use Rattle.dcsctp_spec.specs.queues.Transfer.{Below}
+use Rattle.dcsctp_spec.specs.endpoint.BegunResets.{BegunReset}
+use Rattle.dcsctp_spec.specs.endpoint.FlushOutcomes.{Answer, asked, next_draft, flush_of, Ask, first_ask, later_ask, Answers, at_limit, at_empty, after_packet, FlushAnswers, packets_allowed}
 use Rattle.dcsctp_delivery_sending.specs.Log.{Message, History, grown, with_mark}
 use Rattle.dcsctp_delivery_sending.specs.Flushes.{begun_by, SayAll, PacketsSay, StandsBelow, Sends}
 use Rattle.dcsctp_delivery_sending.proofs.Noted.{marked_twice, current_before}

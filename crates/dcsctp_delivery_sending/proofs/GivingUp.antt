@@ -1,15 +1,15 @@
 -- Messages that are abandoned: their ends may take TSNs, which bear no piece.
 use Rattle.std.proofs.Common.{◌≡◌, ℕ, Bool, true, false, ◌+◌, List, [], ◌∷◌, ◌++◌, length, refl, sym, ◌∙◌, ap, subst, inl, inr}
 use Rattle.std.specs.Prelude.{Option, None, Some}
-use Rattle.dcsctp_machine.specs.declared.progress.Change.TheVariants.{Abandon}
-use Rattle.dcsctp_machine.specs.declared.sending.UnderWay.{UnderWay}
-use Rattle.dcsctp_machine.specs.transfer.Abandoning.{GivesUpFirst, GivesUpAll}
-use Rattle.dcsctp_machine.specs.transfer.Filling.{Stage, Closes, DropsRestAt, GivesUpAt, Steps, none, more}
-use Rattle.dcsctp_machine.specs.transfer.ItemMessages.{EndsDropped}
-use Rattle.dcsctp_machine.specs.transfer.Items.{Item}
-use Rattle.dcsctp_machine.specs.transfer.Outstanding.{OutstandingState}
-use Rattle.dcsctp_machine.specs.transfer.SendQueue.{SendQueueState}
-use Rattle.dcsctp_machine.specs.transfer.Sending.{Fragment, DiscardsNamed}
+use Rattle.dcsctp_spec.specs.types.declared.progress.Change.TheVariants.{Abandon}
+use Rattle.dcsctp_spec.specs.types.declared.sending.UnderWay.{UnderWay}
+use Rattle.dcsctp_spec.specs.queues.Abandoning.{GivesUpFirst, GivesUpAll}
+use Rattle.dcsctp_spec.specs.queues.Filling.{Stage, Closes, DropsRestAt, GivesUpAt, Steps, none, more}
+use Rattle.dcsctp_spec.specs.queues.ItemMessages.{EndsDropped}
+use Rattle.dcsctp_spec.specs.queues.Items.{Item}
+use Rattle.dcsctp_spec.specs.queues.Outstanding.{OutstandingState}
+use Rattle.dcsctp_spec.specs.queues.SendQueue.{SendQueueState}
+use Rattle.dcsctp_spec.specs.queues.Sending.{Fragment, DiscardsNamed}
 use Rattle.dcsctp_delivery_sending.specs.Log.{Message, Piece, Slot, History, grown, with_slot}
 use Rattle.dcsctp_delivery_sending.specs.Places.{at_place}
 use Rattle.dcsctp_delivery_sending.specs.Pieces.{HoldsQueued}

@@ -1,13 +1,14 @@
 -- Which streams are handed out to be reset, while the user queues and sets something, and when a reset ends.
 use Rattle.std.proofs.Common.{◌≡◌, ◌==◌, ℕ, Bool, true, false, List, [], ◌∷◌, map, refl, sym, ◌∙◌, subst}
 use Rattle.std.specs.Prelude.{nat_lt, if◌then◌else◌}
-use Rattle.dcsctp_machine.specs.declared.sending.Pause.{Pause}
-use Rattle.dcsctp_machine.specs.declared.sending.Pause.TheVariants.{Open, Pausing, HandedOut}
-use Rattle.dcsctp_machine.specs.transfer.OwnResets.{is_open, count_under_way, dropped_size, prepared_stream, with_used, prepared_open, prepared, prepared_all, queue_committed, queue_rolled_back}
-use Rattle.dcsctp_machine.specs.transfer.SendQueue.{SendQueueState, changed, is_used, stream_of, used, with_priority, with_stream, with_threshold, queued}
-use Rattle.dcsctp_machine.specs.transfer.SendStreams.{Stream, committed, rolled_back, unused, with_message}
-use Rattle.dcsctp_machine.specs.turns.MessageOutcomes.{Sending, sending_queued}
-use Rattle.dcsctp_machine.specs.turns.SettingOutcomes.{Setting, stream_priority, stream_low_threshold, longest_message, set_in_queue}
+use Rattle.dcsctp_spec.specs.types.declared.sending.Pause.{Pause}
+use Rattle.dcsctp_spec.specs.types.declared.sending.Pause.TheVariants.{Open, Pausing, HandedOut}
+use Rattle.dcsctp_spec.specs.queues.OwnResets.{is_open, count_under_way, dropped_size, prepared_stream, with_used, prepared_open, prepared, prepared_all, queue_committed, queue_rolled_back}
+use Rattle.dcsctp_spec.specs.queues.SendQueue.{SendQueueState, changed, is_used, stream_of, used, with_priority, with_stream, with_threshold, queued}
+use Rattle.dcsctp_spec.specs.types.queues.SendStreams.{Stream, committed, rolled_back, unused, with_message}
+use Rattle.dcsctp_spec.specs.endpoint.MessageOutcomes.{Sending, sending_queued}
+use Rattle.dcsctp_spec.specs.types.Setting.{Setting, stream_priority, stream_low_threshold, longest_message}
+use Rattle.dcsctp_spec.specs.endpoint.SettingOutcomes.{set_in_queue}
 use Rattle.dcsctp_delivery_sending.specs.Numbers.{is_handed_out, stream_named}
 
 abbrev pub IsHanded : Stream → Type 0

@@ -2,17 +2,17 @@
 use Rattle.std.proofs.Common.{◌≡◌, ◌==◌, ℕ, zero, suc, Bool, true, false, List, [], ◌∷◌, length, map, take, refl, sym, ◌∙◌, ap, inl, inr}
 use Rattle.std.specs.Prelude.{◌⊎◌, Option, None, Some, filter, if◌then◌else◌}
 use Rattle.std.proofs.lemmas.Bool.Decides.{eqb_tells}
-use Rattle.dcsctp_machine.specs.declared.sending.UnderWay.{UnderWay}
-use Rattle.dcsctp_machine.specs.transfer.OwnResets.{handing_out, ready_streams, is_ready, is_under_way}
-use Rattle.dcsctp_machine.specs.transfer.Retransmission.{RetransmissionState}
-use Rattle.dcsctp_machine.specs.transfer.SendQueue.{SendQueueState, changed}
-use Rattle.dcsctp_machine.specs.transfer.SendStreams.{unused, Stream, stream_at, handed_out, is_pausing}
-use Rattle.dcsctp_machine.specs.turns.BegunResets.{BegunReset, queue_requesting, retransmission_begun}
+use Rattle.dcsctp_spec.specs.types.declared.sending.UnderWay.{UnderWay}
+use Rattle.dcsctp_spec.specs.queues.OwnResets.{handing_out, ready_streams, is_ready, is_under_way}
+use Rattle.dcsctp_spec.specs.queues.Retransmission.{RetransmissionState}
+use Rattle.dcsctp_spec.specs.queues.SendQueue.{SendQueueState, changed}
+use Rattle.dcsctp_spec.specs.types.queues.SendStreams.{unused, Stream, stream_at, handed_out, is_pausing}
+use Rattle.dcsctp_spec.specs.endpoint.BegunResets.{BegunReset, queue_requesting, retransmission_begun}
 use Rattle.dcsctp_delivery_sending.specs.Log.{Message, Slot, History}
 use Rattle.dcsctp_delivery_sending.specs.Numbers.{stream_named, is_handed_out, Numbered}
 use Rattle.dcsctp_delivery_sending.specs.Pieces.{HoldsQueued}
 use Rattle.dcsctp_delivery_sending.specs.Stages.{Bears}
-use Rattle.dcsctp_machine.specs.transfer.Incoming.{is_named}
+use Rattle.dcsctp_spec.specs.queues.Incoming.{is_named}
 use Rattle.dcsctp_delivery_sending.specs.Flushes.{NamedBy}
 use Rattle.dcsctp_delivery_sending.proofs.StreamsNamed.{found_mapped}
 use Rattle.dcsctp_delivery_sending.proofs.Pauses.{SamePause}

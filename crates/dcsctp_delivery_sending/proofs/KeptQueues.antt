@@ -1,9 +1,9 @@
 -- What waits outlasts an association, also in another numbering.
 use Rattle.std.proofs.Common.{◌≡◌, ◌==◌, ℕ, zero, suc, Bool, true, false, List, [], ◌∷◌, length, map, refl, sym, ◌∙◌, ap, arith, subst, inl}
 use Rattle.std.specs.Prelude.{Option, None, Some, if◌then◌else◌}
-use Rattle.dcsctp_machine.specs.declared.sending.UnderWay.{UnderWay}
-use Rattle.dcsctp_machine.specs.transfer.SendStreams.{Stream, stream_at, unused, begun_anew, raised}
-use Rattle.dcsctp_machine.specs.transfer.SendQueue.{SendQueueState, changed, put_back, restarted}
+use Rattle.dcsctp_spec.specs.types.declared.sending.UnderWay.{UnderWay}
+use Rattle.dcsctp_spec.specs.types.queues.SendStreams.{Stream, stream_at, unused, begun_anew, raised}
+use Rattle.dcsctp_spec.specs.queues.SendQueue.{SendQueueState, changed, put_back, restarted}
 use Rattle.dcsctp_delivery_sending.specs.Log.{Message, Slot, History, new_history}
 use Rattle.dcsctp_delivery_sending.specs.Pieces.{Going, HoldsQueued}
 use Rattle.dcsctp_delivery_sending.specs.Queueing.{QueueHolds, QueueWaits}

@@ -2,13 +2,13 @@
 use Rattle.std.proofs.Common.{◌≡◌, ◌==◌, ℕ, Bool, true, false, ◌<◌, ◌+◌, ◌-◌, ◌≤◌, ◌%◌, ◌^◌, List, [], length, refl, sym, ◌∙◌, ap, arith, subst, inl, inr}
 use Rattle.std.specs.Prelude.{Option, None, Some, nat_lt, min, if◌then◌else◌}
 use Rattle.std.proofs.lemmas.Bool.Decides.{nat_tests}
-use Rattle.dcsctp_machine.specs.Event.{Event}
-use Rattle.dcsctp_machine.specs.declared.sending.UnderWay.{UnderWay}
-use Rattle.dcsctp_machine.specs.transfer.AtOnce.{empty_stage, SendsAtOnce}
-use Rattle.dcsctp_machine.specs.transfer.Filling.{Stage, SendsMarked, Steps, none, more}
-use Rattle.dcsctp_machine.specs.transfer.Retransmission.{RetransmissionState, counted_again}
-use Rattle.dcsctp_machine.specs.transfer.SendQueue.{SendQueueState}
-use Rattle.dcsctp_machine.specs.transfer.Sending.{Fragment, Takes, Chooses, Discards}
+use Rattle.dcsctp_spec.specs.endpoint.Event.{Event}
+use Rattle.dcsctp_spec.specs.types.declared.sending.UnderWay.{UnderWay}
+use Rattle.dcsctp_spec.specs.queues.AtOnce.{empty_stage, SendsAtOnce}
+use Rattle.dcsctp_spec.specs.queues.Filling.{Stage, SendsMarked, Steps, none, more}
+use Rattle.dcsctp_spec.specs.queues.Retransmission.{RetransmissionState, counted_again}
+use Rattle.dcsctp_spec.specs.queues.SendQueue.{SendQueueState}
+use Rattle.dcsctp_spec.specs.queues.Sending.{Fragment, Takes, Chooses, Discards}
 use Rattle.dcsctp_delivery_sending.specs.Places.{Has, at_place}
 use Rattle.dcsctp_delivery_sending.specs.Log.{Message, Piece, Slot, Cut, Mark, History, Resets, with_slot}
 use Rattle.dcsctp_delivery_sending.specs.Pieces.{IsGoing, HoldsQueued, HandsOutPiece}

@@ -1,20 +1,20 @@
 -- A flush leaves the next identifier of a message, and how messages are numbered.
 use Rattle.std.proofs.Common.{◌≡◌, ◌==◌, ℕ, Bool, true, false, ◌-◌, List, length, map, refl, ◌∙◌, ap, inl, inr}
 use Rattle.std.specs.Prelude.{Option, None, Some, slice_set, if◌then◌else◌}
-use Rattle.dcsctp_machine.specs.Event.{Event}
-use Rattle.dcsctp_machine.specs.Packet.{Plain, Emission}
-use Rattle.dcsctp_machine.specs.Endpoint.{Endpoint}
-use Rattle.dcsctp_machine.specs.declared.sending.UnderWay.{UnderWay}
-use Rattle.dcsctp_machine.specs.transfer.Filling.{Stage, Closes, GivesUpAt, payload_room, StepAgain, StepNew, Steps, none as steps_none, more as steps_more, counting, FillsPacket}
-use Rattle.dcsctp_machine.specs.transfer.Abandoning.{GivesUpFirst}
-use Rattle.dcsctp_machine.specs.transfer.Items.{Item}
-use Rattle.dcsctp_machine.specs.transfer.Outstanding.{header}
-use Rattle.dcsctp_machine.specs.transfer.SendQueue.{SendQueueState}
-use Rattle.dcsctp_machine.specs.transfer.Sending.{Fragment, Drops, none as drops_none, more as drops_more, numbered, reduced, after_part, after_last, produced, is_last, Takes, DiscardsNamed}
-use Rattle.dcsctp_machine.specs.transfer.SendStreams.{Waiting, stream_at, counted}
-use Rattle.dcsctp_machine.specs.transfer.Transfer.{Transfer, Below, is_idle}
-use Rattle.dcsctp_machine.specs.turns.BegunResets.{BegunReset, queue_requesting}
-use Rattle.dcsctp_machine.specs.turns.FlushOutcomes.{told_event, Answer, answer_contents, filled, asked, next_draft, flush_of, Ask, later_ask, GivesUpWhere, FillsWhere, GivesWhere, AnsweredBelow, Answered, Answers, at_limit, at_empty, after_packet}
+use Rattle.dcsctp_spec.specs.endpoint.Event.{Event}
+use Rattle.dcsctp_spec.specs.Packet.{Plain, Emission}
+use Rattle.dcsctp_spec.specs.endpoint.Endpoint.{Endpoint}
+use Rattle.dcsctp_spec.specs.types.declared.sending.UnderWay.{UnderWay}
+use Rattle.dcsctp_spec.specs.queues.Filling.{Stage, Closes, GivesUpAt, payload_room, StepAgain, StepNew, Steps, none as steps_none, more as steps_more, counting, FillsPacket}
+use Rattle.dcsctp_spec.specs.queues.Abandoning.{GivesUpFirst}
+use Rattle.dcsctp_spec.specs.queues.Items.{Item}
+use Rattle.dcsctp_spec.specs.queues.Outstanding.{header}
+use Rattle.dcsctp_spec.specs.queues.SendQueue.{SendQueueState}
+use Rattle.dcsctp_spec.specs.queues.Sending.{Fragment, Drops, none as drops_none, more as drops_more, numbered, reduced, after_part, after_last, produced, is_last, Takes, DiscardsNamed}
+use Rattle.dcsctp_spec.specs.types.queues.SendStreams.{Waiting, stream_at, counted}
+use Rattle.dcsctp_spec.specs.queues.Transfer.{Transfer, Below, is_idle}
+use Rattle.dcsctp_spec.specs.endpoint.BegunResets.{BegunReset, queue_requesting}
+use Rattle.dcsctp_spec.specs.endpoint.FlushOutcomes.{told_event, Answer, answer_contents, filled, asked, next_draft, flush_of, Ask, later_ask, GivesUpWhere, FillsWhere, GivesWhere, AnsweredBelow, Answered, Answers, at_limit, at_empty, after_packet}
 use Rattle.dcsctp_delivery_sending.proofs.Packets.{out_below}
 
 -- ---- both stay

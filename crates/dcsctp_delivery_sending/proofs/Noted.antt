@@ -1,15 +1,15 @@
 -- A history stays true once a reset of own streams is noted in it.
 use Rattle.std.proofs.Common.{◌≡◌, ℕ, Bool, true, false, List, ◌++◌, ap}
 use Rattle.std.specs.Prelude.{Option, None, Some}
-use Rattle.dcsctp_machine.specs.declared.sending.UnderWay.{UnderWay}
-use Rattle.dcsctp_machine.specs.transfer.Filling.{Stage}
-use Rattle.dcsctp_machine.specs.transfer.SendStreams.{Stream}
-use Rattle.dcsctp_machine.specs.turns.BegunResets.{BegunReset}
+use Rattle.dcsctp_spec.specs.types.declared.sending.UnderWay.{UnderWay}
+use Rattle.dcsctp_spec.specs.queues.Filling.{Stage}
+use Rattle.dcsctp_spec.specs.types.queues.SendStreams.{Stream}
+use Rattle.dcsctp_spec.specs.endpoint.BegunResets.{BegunReset}
 use Rattle.dcsctp_delivery_sending.specs.Log.{Message, Slot, Cut, History, grown, with_mark}
 use Rattle.dcsctp_delivery_sending.specs.Numbers.{AreCurrent, LastIs, CountsWhere, Numbered}
 use Rattle.dcsctp_delivery_sending.specs.Stages.{Bears, Pends, AreMarks, Stands}
 use Rattle.dcsctp_delivery_sending.specs.Pieces.{HoldsQueued}
-use Rattle.dcsctp_machine.specs.transfer.SendQueue.{SendQueueState}
+use Rattle.dcsctp_spec.specs.queues.SendQueue.{SendQueueState}
 use Rattle.dcsctp_delivery_sending.proofs.GivingUp.{append_twice, grown_twice}
 
 -- what was noted between two parts of the log may be noted after them

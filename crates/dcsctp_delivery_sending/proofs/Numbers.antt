@@ -2,11 +2,11 @@
 use Rattle.std.proofs.Common.{◌≡◌, ◌==◌, ℕ, Bool, true, false, ◌-◌, ◌%◌, ◌^◌, List, length, map, refl, sym, ◌∙◌, ap, arith, subst}
 use Rattle.std.specs.Prelude.{Option, None, Some, slice_set, if◌then◌else◌}
 use Rattle.std.proofs.lemmas.Bool.{eqb-true}
-use Rattle.dcsctp_machine.specs.declared.sending.UnderWay.{UnderWay}
-use Rattle.dcsctp_machine.specs.transfer.SendStreams.{Waiting, Stream, front_of, without_front, stream_at, unused}
-use Rattle.dcsctp_machine.specs.transfer.SendQueue.{SendQueueState, changed, used}
-use Rattle.dcsctp_machine.specs.Event.{Event}
-use Rattle.dcsctp_machine.specs.transfer.Sending.{Drops, none as drops_none, more as drops_more, reduced, without_rest}
+use Rattle.dcsctp_spec.specs.types.declared.sending.UnderWay.{UnderWay}
+use Rattle.dcsctp_spec.specs.types.queues.SendStreams.{Waiting, Stream, front_of, without_front, stream_at, unused}
+use Rattle.dcsctp_spec.specs.queues.SendQueue.{SendQueueState, changed, used}
+use Rattle.dcsctp_spec.specs.endpoint.Event.{Event}
+use Rattle.dcsctp_spec.specs.queues.Sending.{Drops, none as drops_none, more as drops_more, reduced, without_rest}
 use Rattle.dcsctp_delivery_sending.specs.Log.{History, with_slot}
 use Rattle.dcsctp_delivery_sending.specs.Numbers.{stream_named, next_mid, is_handed_out, KeptWhere, LastIs, Counts, CountsWhere, Numbered}
 use Rattle.dcsctp_delivery_sending.proofs.Stages.{with_none}

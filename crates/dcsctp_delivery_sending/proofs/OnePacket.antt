@@ -1,15 +1,15 @@
 -- One packet of a flush.
 use Rattle.std.proofs.Common.{◌≡◌, ℕ, Bool, true, false, ◌≤◌, ◌+◌, List, [], ◌∷◌, ◌++◌, length, map, take, arith, refl, sym, ◌∙◌, ap, subst, inl, inr}
 use Rattle.std.specs.Prelude.{◌⊎◌, Option, None, Some}
-use Rattle.dcsctp_machine.specs.Packet.{Plain, plain, Content, Emission}
-use Rattle.dcsctp_machine.specs.Endpoint.{Endpoint, held_in}
-use Rattle.dcsctp_machine.specs.control.Choices.{plain_contents}
-use Rattle.dcsctp_machine.specs.transfer.Filling.{Stage}
-use Rattle.dcsctp_machine.specs.transfer.OwnResets.{ready_streams}
-use Rattle.dcsctp_machine.specs.transfer.SendQueue.{SendQueueState}
-use Rattle.dcsctp_machine.specs.transfer.Transfer.{Transfer, Below, may_give, is_idle}
-use Rattle.dcsctp_machine.specs.turns.BegunResets.{streams_within, request_contents, queue_requesting, retransmission_begun}
-use Rattle.dcsctp_machine.specs.turns.FlushOutcomes.{told_event, Answer, answer_contents, filled, asked, Ask, room_in, GivesUpWhere, may_forward, FillsWhere, Gives, GivesWhere, AnsweredBelow, Answered, stage_of, nothing_waits}
+use Rattle.dcsctp_spec.specs.Packet.{Plain, plain, Content, Emission}
+use Rattle.dcsctp_spec.specs.endpoint.Endpoint.{Endpoint, held_in}
+use Rattle.dcsctp_spec.specs.association.Choices.{plain_contents}
+use Rattle.dcsctp_spec.specs.queues.Filling.{Stage}
+use Rattle.dcsctp_spec.specs.queues.OwnResets.{ready_streams}
+use Rattle.dcsctp_spec.specs.queues.SendQueue.{SendQueueState}
+use Rattle.dcsctp_spec.specs.queues.Transfer.{Transfer, Below, may_give, is_idle}
+use Rattle.dcsctp_spec.specs.endpoint.BegunResets.{streams_within, request_contents, queue_requesting, retransmission_begun}
+use Rattle.dcsctp_spec.specs.endpoint.FlushOutcomes.{told_event, Answer, answer_contents, filled, asked, Ask, room_in, GivesUpWhere, may_forward, FillsWhere, Gives, GivesWhere, AnsweredBelow, Answered, stage_of, nothing_waits}
 use Rattle.dcsctp_delivery_sending.specs.Log.{Message, Slot, History, grown, with_mark}
 use Rattle.dcsctp_delivery_sending.specs.Stages.{Bears, Stands, Stays}
 use Rattle.dcsctp_delivery_sending.specs.Flushes.{NamedBy, SayAll, InFlight, PendsWhere, StandsBelow, Sends}

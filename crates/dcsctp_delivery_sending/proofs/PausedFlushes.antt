@@ -1,16 +1,16 @@
 -- Which streams are handed out to be reset, while a flush is under way: the request in its first packet alone hands streams out.
 use Rattle.std.proofs.Common.{◌≡◌, ℕ, Bool, true, false, List, [], ◌++◌, map, refl, ◌∙◌, ap, inl, inr}
 use Rattle.std.specs.Prelude.{Option, None, Some}
-use Rattle.dcsctp_machine.specs.Packet.{Plain, Emission}
-use Rattle.dcsctp_machine.specs.Endpoint.{Endpoint}
-use Rattle.dcsctp_machine.specs.transfer.Abandoning.{GivesUpFirst}
-use Rattle.dcsctp_machine.specs.transfer.Filling.{Stage}
-use Rattle.dcsctp_machine.specs.transfer.SendQueue.{SendQueueState}
-use Rattle.dcsctp_machine.specs.transfer.Transfer.{Transfer, Below, may_give, is_idle}
-use Rattle.dcsctp_machine.specs.transfer.Retransmission.{RetransmissionState}
-use Rattle.dcsctp_machine.specs.control.Choices.{plain_contents}
-use Rattle.dcsctp_machine.specs.turns.BegunResets.{BegunReset, streams_within, request_contents, queue_requesting, retransmission_begun}
-use Rattle.dcsctp_machine.specs.turns.FlushOutcomes.{Ask, Gives, room_in, stage_of, may_forward, told_event, Answer, answer_contents, filled, asked, next_draft, flush_of, later_ask, GivesUpWhere, FillsWhere, GivesWhere, AnsweredBelow, Answered, Answers, at_limit, at_empty, after_packet}
+use Rattle.dcsctp_spec.specs.Packet.{Plain, Emission}
+use Rattle.dcsctp_spec.specs.endpoint.Endpoint.{Endpoint}
+use Rattle.dcsctp_spec.specs.queues.Abandoning.{GivesUpFirst}
+use Rattle.dcsctp_spec.specs.queues.Filling.{Stage}
+use Rattle.dcsctp_spec.specs.queues.SendQueue.{SendQueueState}
+use Rattle.dcsctp_spec.specs.queues.Transfer.{Transfer, Below, may_give, is_idle}
+use Rattle.dcsctp_spec.specs.queues.Retransmission.{RetransmissionState}
+use Rattle.dcsctp_spec.specs.association.Choices.{plain_contents}
+use Rattle.dcsctp_spec.specs.endpoint.BegunResets.{BegunReset, streams_within, request_contents, queue_requesting, retransmission_begun}
+use Rattle.dcsctp_spec.specs.endpoint.FlushOutcomes.{Ask, Gives, room_in, stage_of, may_forward, told_event, Answer, answer_contents, filled, asked, next_draft, flush_of, later_ask, GivesUpWhere, FillsWhere, GivesWhere, AnsweredBelow, Answered, Answers, at_limit, at_empty, after_packet}
 use Rattle.dcsctp_delivery_sending.specs.Numbers.{stream_named, is_handed_out}
 use Rattle.dcsctp_delivery_sending.specs.Flushes.{begun_by}
 use Rattle.dcsctp_delivery_sending.proofs.Pauses.{PausesStay, StaysPaused, same_paused, gives_up_paused, steps_paused, fills_paused}

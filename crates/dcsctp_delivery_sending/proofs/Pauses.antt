@@ -1,18 +1,18 @@
 -- Which streams are handed out to be reset, while messages leave the send queue.
 use Rattle.std.proofs.Common.{◌≡◌, ◌==◌, ℕ, Bool, true, false, ◌-◌, List, ◌++◌, length, refl, ◌∙◌, ap, inl, inr}
 use Rattle.std.specs.Prelude.{Some, slice_set, if◌then◌else◌}
-use Rattle.dcsctp_machine.specs.Event.{Event}
-use Rattle.dcsctp_machine.specs.declared.sending.Pause.{Pause}
-use Rattle.dcsctp_machine.specs.declared.sending.Pause.TheVariants.{Open, Pausing, HandedOut}
-use Rattle.dcsctp_machine.specs.declared.sending.Turn.{Turn}
-use Rattle.dcsctp_machine.specs.declared.sending.UnderWay.{UnderWay}
-use Rattle.dcsctp_machine.specs.transfer.SendStreams.{Waiting, Stream, without_front, counted, stream_at, unused, turn_if, turn_of}
-use Rattle.dcsctp_machine.specs.transfer.SendQueue.{SendQueueState}
-use Rattle.dcsctp_machine.specs.transfer.Sending.{Fragment, Drops, none as drops_none, more as drops_more, reduced, numbered, without_rest, after_part, after_last, produced, is_last, Takes, DiscardsNamed}
+use Rattle.dcsctp_spec.specs.endpoint.Event.{Event}
+use Rattle.dcsctp_spec.specs.types.declared.sending.Pause.{Pause}
+use Rattle.dcsctp_spec.specs.types.declared.sending.Pause.TheVariants.{Open, Pausing, HandedOut}
+use Rattle.dcsctp_spec.specs.types.declared.sending.Turn.{Turn}
+use Rattle.dcsctp_spec.specs.types.declared.sending.UnderWay.{UnderWay}
+use Rattle.dcsctp_spec.specs.types.queues.SendStreams.{Waiting, Stream, without_front, counted, stream_at, unused, turn_if, turn_of}
+use Rattle.dcsctp_spec.specs.queues.SendQueue.{SendQueueState}
+use Rattle.dcsctp_spec.specs.queues.Sending.{Fragment, Drops, none as drops_none, more as drops_more, reduced, numbered, without_rest, after_part, after_last, produced, is_last, Takes, DiscardsNamed}
 use Rattle.dcsctp_delivery_sending.specs.Numbers.{stream_named, is_handed_out, KeptWhere, AreCurrent, AreKept}
-use Rattle.dcsctp_machine.specs.transfer.Filling.{Stage, Closes, GivesUpAt, payload_room, StepAgain, StepNew, Steps, none as steps_none, more as steps_more, counting, FillsPacket}
-use Rattle.dcsctp_machine.specs.transfer.Items.{Item}
-use Rattle.dcsctp_machine.specs.transfer.Outstanding.{header}
+use Rattle.dcsctp_spec.specs.queues.Filling.{Stage, Closes, GivesUpAt, payload_room, StepAgain, StepNew, Steps, none as steps_none, more as steps_more, counting, FillsPacket}
+use Rattle.dcsctp_spec.specs.queues.Items.{Item}
+use Rattle.dcsctp_spec.specs.queues.Outstanding.{header}
 use Rattle.dcsctp_delivery_sending.specs.Log.{Slot, History}
 use Rattle.dcsctp_delivery_sending.proofs.Places.{at_either}
 use Rattle.dcsctp_delivery_sending.proofs.StreamsNamed.{found_set}

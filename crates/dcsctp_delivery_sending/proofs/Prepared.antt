@@ -2,10 +2,10 @@
 use Rattle.std.proofs.Common.{◌≡◌, ◌≢◌, ◌==◌, ℕ, zero, suc, Bool, true, false, ◌≤◌, List, [], ◌∷◌, length, take, drop, refl, sym, ◌∙◌, ap, arith, subst, inl, inr}
 use Rattle.std.specs.Prelude.{Option, None, Some, if◌then◌else◌}
 use Rattle.std.proofs.lemmas.Bool.Decides.{eqb_tells}
-use Rattle.dcsctp_machine.specs.declared.sending.UnderWay.{UnderWay}
-use Rattle.dcsctp_machine.specs.transfer.SendStreams.{Waiting, Stream, front_of, stream_at}
-use Rattle.dcsctp_machine.specs.transfer.OwnResets.{is_open, count_under_way, dropped_size, prepared_stream, with_used, prepared_open, prepared, prepared_all}
-use Rattle.dcsctp_machine.specs.transfer.SendQueue.{SendQueueState, stream_of, changed}
+use Rattle.dcsctp_spec.specs.types.declared.sending.UnderWay.{UnderWay}
+use Rattle.dcsctp_spec.specs.types.queues.SendStreams.{Waiting, Stream, front_of, stream_at}
+use Rattle.dcsctp_spec.specs.queues.OwnResets.{is_open, count_under_way, dropped_size, prepared_stream, with_used, prepared_open, prepared, prepared_all}
+use Rattle.dcsctp_spec.specs.queues.SendQueue.{SendQueueState, stream_of, changed}
 use Rattle.dcsctp_delivery_sending.specs.Log.{Message, Slot, History}
 use Rattle.dcsctp_delivery_sending.specs.Pieces.{AllQueued, AllBeyond, Ascend, unbegun, Going, HoldsQueued}
 use Rattle.dcsctp_delivery_sending.specs.Queueing.{QueueHolds}

@@ -3,10 +3,10 @@ use Rattle.std.proofs.Common.{◌≡◌, ◌==◌, ℕ, Bool, true, false, ◌<�
 use Rattle.std.specs.Prelude.{None, Some, slice_set, if◌then◌else◌}
 use Rattle.std.proofs.lemmas.Bool.Decides.{eqb_tells}
 use Rattle.std.proofs.lemmas.List.{length-set, get_or-set_same}
-use Rattle.dcsctp_machine.specs.declared.sending.UnderWay.{UnderWay}
-use Rattle.dcsctp_machine.specs.transfer.SendStreams.{Waiting, Stream, front_of, counted, unused, stream_at}
-use Rattle.dcsctp_machine.specs.transfer.SendQueue.{SendQueueState}
-use Rattle.dcsctp_machine.specs.transfer.Sending.{reduced, numbered, after_part, after_last, produced, is_last}
+use Rattle.dcsctp_spec.specs.types.declared.sending.UnderWay.{UnderWay}
+use Rattle.dcsctp_spec.specs.types.queues.SendStreams.{Waiting, Stream, front_of, counted, unused, stream_at}
+use Rattle.dcsctp_spec.specs.queues.SendQueue.{SendQueueState}
+use Rattle.dcsctp_spec.specs.queues.Sending.{reduced, numbered, after_part, after_last, produced, is_last}
 use Rattle.dcsctp_delivery_sending.specs.Log.{Piece, Slot, HasBefore, History, with_slot}
 use Rattle.dcsctp_delivery_sending.specs.Numbers.{stream_named, next_mid, Counts, AreOfKind, IsCurrent}
 use Rattle.dcsctp_delivery_sending.proofs.Places.{at_cases}

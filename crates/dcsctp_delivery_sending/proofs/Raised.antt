@@ -1,10 +1,10 @@
 -- What is in flight, and the resets that were begun, where floors are raised by a reset that was performed; and where nothing was done yet.
 use Rattle.std.proofs.Common.{ℕ, Bool, arith, inl}
 use Rattle.std.specs.Prelude.{Option, None, Some}
-use Rattle.dcsctp_machine.specs.declared.sending.UnderWay.{UnderWay}
-use Rattle.dcsctp_machine.specs.transfer.Outstanding.{OutstandingState}
-use Rattle.dcsctp_machine.specs.transfer.Sending.{Fragment}
-use Rattle.dcsctp_machine.specs.transfer.Transfer.{Transfer}
+use Rattle.dcsctp_spec.specs.types.declared.sending.UnderWay.{UnderWay}
+use Rattle.dcsctp_spec.specs.queues.Outstanding.{OutstandingState}
+use Rattle.dcsctp_spec.specs.queues.Sending.{Fragment}
+use Rattle.dcsctp_spec.specs.queues.Transfer.{Transfer}
 use Rattle.dcsctp_delivery_sending.specs.Log.{History, new_history}
 use Rattle.dcsctp_delivery_sending.specs.Flushes.{InFlight, PendsWhere}
 use Rattle.dcsctp_delivery_sending.specs.Stages.{IsNamed, Bears, AreMarks}

@@ -1,9 +1,9 @@
 -- What waits, once messages are interleaved otherwise than before.
 use Rattle.std.proofs.Common.{◌≡◌, ◌==◌, ℕ, zero, suc, Bool, true, false, ◌<◌, ◌+◌, ◌%◌, ◌^◌, List, [], ◌∷◌, length, refl, sym, ◌∙◌, ap, arith, subst, inl, inr}
 use Rattle.std.specs.Prelude.{Option, None, Some, if◌then◌else◌}
-use Rattle.dcsctp_machine.specs.declared.sending.UnderWay.{UnderWay}
-use Rattle.dcsctp_machine.specs.transfer.SendStreams.{counted, Waiting, Stream, front_of, next_numbers, stream_at, unused}
-use Rattle.dcsctp_machine.specs.transfer.SendQueue.{found_in, stream_of, renumbered, numbered_for, numbered_where, is_other, front_counted, is_front_unordered, SendQueueState, changed}
+use Rattle.dcsctp_spec.specs.types.declared.sending.UnderWay.{UnderWay}
+use Rattle.dcsctp_spec.specs.types.queues.SendStreams.{counted, Waiting, Stream, front_of, next_numbers, stream_at, unused}
+use Rattle.dcsctp_spec.specs.queues.SendQueue.{found_in, stream_of, renumbered, numbered_for, numbered_where, is_other, front_counted, is_front_unordered, SendQueueState, changed}
 use Rattle.dcsctp_delivery_sending.specs.Log.{Message, new_history}
 use Rattle.dcsctp_delivery_sending.specs.Pieces.{IsGoing, HoldsQueued}
 use Rattle.dcsctp_delivery_sending.specs.Queueing.{QueueWaits}

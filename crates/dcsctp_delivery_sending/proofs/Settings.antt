@@ -1,13 +1,14 @@
 -- What is set, and resets of own streams, leave what waits.
 use Rattle.std.proofs.Common.{◌≡◌, ℕ, Bool, true, false, ◌<◌, ◌≤◌, ◌+◌, ◌*◌, ◌%◌, ◌^◌, List, length, map, refl, ◌∙◌, ap, arith}
 use Rattle.std.specs.Prelude.{Option, None, Some, if◌then◌else◌}
-use Rattle.dcsctp_machine.specs.transfer.SendStreams.{Stream, front_of, unused, committed, rolled_back}
-use Rattle.dcsctp_machine.specs.declared.sending.UnderWay.{UnderWay}
-use Rattle.dcsctp_machine.specs.declared.sending.Pause.{Pause}
-use Rattle.dcsctp_machine.specs.declared.sending.Pause.TheVariants.{Open, Pausing, HandedOut}
-use Rattle.dcsctp_machine.specs.transfer.OwnResets.{queue_committed, queue_rolled_back}
-use Rattle.dcsctp_machine.specs.transfer.SendQueue.{with_priority, with_threshold, SendQueueState, changed, used}
-use Rattle.dcsctp_machine.specs.turns.SettingOutcomes.{Setting, stream_priority, stream_low_threshold, longest_message, set_in_queue}
+use Rattle.dcsctp_spec.specs.types.queues.SendStreams.{Stream, front_of, unused, committed, rolled_back}
+use Rattle.dcsctp_spec.specs.types.declared.sending.UnderWay.{UnderWay}
+use Rattle.dcsctp_spec.specs.types.declared.sending.Pause.{Pause}
+use Rattle.dcsctp_spec.specs.types.declared.sending.Pause.TheVariants.{Open, Pausing, HandedOut}
+use Rattle.dcsctp_spec.specs.queues.OwnResets.{queue_committed, queue_rolled_back}
+use Rattle.dcsctp_spec.specs.queues.SendQueue.{with_priority, with_threshold, SendQueueState, changed, used}
+use Rattle.dcsctp_spec.specs.types.Setting.{Setting, stream_priority, stream_low_threshold, longest_message}
+use Rattle.dcsctp_spec.specs.endpoint.SettingOutcomes.{set_in_queue}
 use Rattle.dcsctp_delivery_sending.specs.Log.{Message, History}
 use Rattle.dcsctp_delivery_sending.specs.Queueing.{raised, QueueHolds}
 use Rattle.dcsctp_delivery_sending.specs.Numbers.{stream_named, next_mid, is_handed_out, KeptWhere, LastIs, Counts, CountsWhere, Numbered}

@@ -3,11 +3,11 @@ use Rattle.std.proofs.Common.{◌≡◌, ◌==◌, ℕ, suc, Bool, true, false, 
 use Rattle.std.specs.Prelude.{◌⊎◌, Option, None, Some, slice_set, if◌then◌else◌}
 use Rattle.std.proofs.lemmas.Bool.Decides.{eqb_tells, leb_tells}
 use Rattle.std.proofs.lemmas.List.{length-set, get_or-set_same, get_or-set_other, get_or_past}
-use Rattle.dcsctp_machine.specs.Event.{Event}
-use Rattle.dcsctp_machine.specs.declared.sending.UnderWay.{UnderWay}
-use Rattle.dcsctp_machine.specs.transfer.SendStreams.{Waiting, Stream, front_of, without_front, counted, unused, stream_at}
-use Rattle.dcsctp_machine.specs.transfer.SendQueue.{SendQueueState}
-use Rattle.dcsctp_machine.specs.transfer.Sending.{Drops, none, more, reduced, numbered, without_rest, after_last}
+use Rattle.dcsctp_spec.specs.endpoint.Event.{Event}
+use Rattle.dcsctp_spec.specs.types.declared.sending.UnderWay.{UnderWay}
+use Rattle.dcsctp_spec.specs.types.queues.SendStreams.{Waiting, Stream, front_of, without_front, counted, unused, stream_at}
+use Rattle.dcsctp_spec.specs.queues.SendQueue.{SendQueueState}
+use Rattle.dcsctp_spec.specs.queues.Sending.{Drops, none, more, reduced, numbered, without_rest, after_last}
 use Rattle.dcsctp_delivery_sending.specs.Places.{at_place}
 use Rattle.dcsctp_delivery_sending.specs.Log.{Message, Slot, newest}
 use Rattle.dcsctp_delivery_sending.specs.Pieces.{WaitingWasQueued, AllQueued, AllBeyond, Ascend, unbegun, Going, HoldsQueued}

@@ -2,8 +2,8 @@
 use Rattle.std.proofs.Common.{◌≡◌, ◌≢◌, ◌==◌, ℕ, zero, suc, Bool, true, false, ◌<◌, List, [], ◌∷◌, length, map, refl, sym, ◌∙◌, ap, arith, subst, inl, inr}
 use Rattle.std.specs.Prelude.{◌||◌, nat_lt, slice_set, if◌then◌else◌}
 use Rattle.std.proofs.lemmas.Bool.Decides.{eqb_tells}
-use Rattle.dcsctp_machine.specs.transfer.SendStreams.{Stream, stream_at, unused, next_numbers}
-use Rattle.dcsctp_machine.specs.transfer.SendQueue.{SendQueueState, found_in, with_stream, is_used, used}
+use Rattle.dcsctp_spec.specs.types.queues.SendStreams.{Stream, stream_at, unused, next_numbers}
+use Rattle.dcsctp_spec.specs.queues.SendQueue.{SendQueueState, found_in, with_stream, is_used, used}
 use Rattle.dcsctp_delivery_sending.specs.Numbers.{stream_named}
 
 -- Whatever holds of each stream and what becomes of it, holds of the one that is found.

@@ -2,9 +2,9 @@
 use Rattle.std.proofs.Common.{◌≡◌, ◌≢◌, ◌==◌, ℕ, zero, suc, Bool, true, false, ◌<◌, ◌+◌, ◌≤◌, List, [], ◌∷◌, ◌++◌, length, take, drop, refl, sym, ◌∙◌, ap, arith, inl, inr}
 use Rattle.std.specs.Prelude.{◌⊎◌, Some, nat_lt, slice_set, if◌then◌else◌}
 use Rattle.std.proofs.lemmas.Bool.Decides.{eqb_tells}
-use Rattle.dcsctp_machine.specs.transfer.SendStreams.{Waiting, Stream, front_of, without_front, stream_at, with_message}
-use Rattle.dcsctp_machine.specs.transfer.OwnResets.{prepared_stream}
-use Rattle.dcsctp_machine.specs.transfer.SendQueue.{changed, with_stream}
+use Rattle.dcsctp_spec.specs.types.queues.SendStreams.{Waiting, Stream, front_of, without_front, stream_at, with_message}
+use Rattle.dcsctp_spec.specs.queues.OwnResets.{prepared_stream}
+use Rattle.dcsctp_spec.specs.queues.SendQueue.{changed, with_stream}
 use Rattle.dcsctp_delivery_sending.specs.Weights.{weigh, weight}
 
 pub weight_same : (old new : List Stream) → length new ≡ length old → ((q : ℕ) → (stream_at new q).messages ≡ (stream_at old q).messages) → weight new ≡ weight old

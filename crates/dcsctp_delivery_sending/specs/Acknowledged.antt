@@ -1,9 +1,9 @@
 -- What a SACK and the retransmission timer leave in flight (RFC 9260, sections 6.2.1 and 6.3.3).
 use Rattle.std.specs.Prelude.{◌≡◌, ◌+◌, ℕ, true, List}
-use Rattle.dcsctp_wire.specs.declared.chunk.sack.GapAckBlock.{GapAckBlock}
-use Rattle.dcsctp_machine.specs.transfer.Acknowledging.{is_sack_valid, AcknowledgesItems}
-use Rattle.dcsctp_machine.specs.transfer.Outstanding.{acknowledged_by}
-use Rattle.dcsctp_machine.specs.transfer.Retransmission.{RetransmissionState, after_expiry}
+use Rattle.dcsctp_spec.specs.wire.declared.chunk.sack.GapAckBlock.{GapAckBlock}
+use Rattle.dcsctp_spec.specs.queues.Acknowledging.{is_sack_valid, AcknowledgesItems}
+use Rattle.dcsctp_spec.specs.queues.Outstanding.{acknowledged_by}
+use Rattle.dcsctp_spec.specs.queues.Retransmission.{RetransmissionState, after_expiry}
 use Rattle.dcsctp_delivery_sending.specs.Log.{History}
 use Rattle.dcsctp_delivery_sending.specs.Stages.{Bears}
 

@@ -1,15 +1,15 @@
 -- How many TSNs an association assigns, by the DATA and I-DATA chunks that its sender sends (RFC 9260, section 6.1): at most two for each,
 -- since the end of a message that is abandoned takes one that is never sent (RFC 3758, section 3.5).
 use Rattle.std.specs.Prelude.{◌==◌, if◌then◌else◌, ◌≤◌, ◌+◌, ◌*◌, ℕ, Option, None, Some, List, [], ◌∷◌, length}
-use Rattle.dcsctp_wire.specs.Content.{data_chunk, i_data_chunk}
-use Rattle.dcsctp_machine.specs.declared.sending.UnderWay.{UnderWay}
-use Rattle.dcsctp_machine.specs.Endpoint.{Endpoint}
-use Rattle.dcsctp_machine.specs.Event.{packets_in}
-use Rattle.dcsctp_machine.specs.Packet.{Content, unworked, plain, Emission}
-use Rattle.dcsctp_machine.specs.transfer.Items.{Item}
-use Rattle.dcsctp_machine.specs.transfer.SendQueue.{SendQueueState}
-use Rattle.dcsctp_machine.specs.transfer.Transfer.{Transfer, Below}
-use Rattle.dcsctp_machine.specs.turns.FlushOutcomes.{Answer, FlushAnswers, flush_of}
+use Rattle.dcsctp_spec.specs.wire.Content.{data_chunk, i_data_chunk}
+use Rattle.dcsctp_spec.specs.types.declared.sending.UnderWay.{UnderWay}
+use Rattle.dcsctp_spec.specs.endpoint.Endpoint.{Endpoint}
+use Rattle.dcsctp_spec.specs.endpoint.Event.{packets_in}
+use Rattle.dcsctp_spec.specs.Packet.{Content, unworked, plain, Emission}
+use Rattle.dcsctp_spec.specs.queues.Items.{Item}
+use Rattle.dcsctp_spec.specs.queues.SendQueue.{SendQueueState}
+use Rattle.dcsctp_spec.specs.queues.Transfer.{Transfer, Below}
+use Rattle.dcsctp_spec.specs.endpoint.FlushOutcomes.{Answer, FlushAnswers, flush_of}
 
 -- a chunk of data counts,
 abbrev pub counts : Content → ℕ

@@ -1,20 +1,20 @@
 -- A flush sends pieces of what was queued, and nothing else as data (RFC 9260, section 6.1). It may begin a reset of own streams (RFC
 -- 6525, section 5.1.2).
 use Rattle.std.specs.Prelude.{◌≡◌, ◌<◌, ◌≤◌, ◌⊎◌, ◌+◌, ◌-◌, ◌%◌, ◌^◌, ℕ, Bool, true, false, Option, None, Some, List, [], ◌∷◌, length}
-use Rattle.dcsctp_wire.specs.Content.{DataContent, IDataContent, data_chunk, i_data_chunk, forward_tsn_chunk, i_forward_tsn_chunk}
-use Rattle.dcsctp_machine.specs.Event.{Event, packets_in}
-use Rattle.dcsctp_machine.specs.Packet.{Plain, unworked, plain, re_config, Content, Emission}
-use Rattle.dcsctp_machine.specs.Reconfiguration.{RequestedReset, ResetParameter, outgoing_reset_request, incoming_reset_request}
-use Rattle.dcsctp_machine.specs.transfer.Incoming.{is_named}
-use Rattle.dcsctp_machine.specs.transfer.SendQueue.{SendQueueState}
-use Rattle.dcsctp_machine.specs.turns.BegunResets.{BegunReset}
-use Rattle.dcsctp_machine.specs.Endpoint.{Endpoint}
-use Rattle.dcsctp_machine.specs.transfer.Chunks.{data_said, i_data_said}
-use Rattle.dcsctp_machine.specs.transfer.Sending.{Fragment}
-use Rattle.dcsctp_machine.specs.transfer.Skipping.{entry_bytes}
+use Rattle.dcsctp_spec.specs.wire.Content.{DataContent, IDataContent, data_chunk, i_data_chunk, forward_tsn_chunk, i_forward_tsn_chunk}
+use Rattle.dcsctp_spec.specs.endpoint.Event.{Event, packets_in}
+use Rattle.dcsctp_spec.specs.Packet.{Plain, unworked, plain, re_config, Content, Emission}
+use Rattle.dcsctp_spec.specs.Reconfiguration.{RequestedReset, ResetParameter, outgoing_reset_request, incoming_reset_request}
+use Rattle.dcsctp_spec.specs.queues.Incoming.{is_named}
+use Rattle.dcsctp_spec.specs.queues.SendQueue.{SendQueueState}
+use Rattle.dcsctp_spec.specs.endpoint.BegunResets.{BegunReset}
+use Rattle.dcsctp_spec.specs.endpoint.Endpoint.{Endpoint}
+use Rattle.dcsctp_spec.specs.queues.Chunks.{data_said, i_data_said}
+use Rattle.dcsctp_spec.specs.queues.Sending.{Fragment}
+use Rattle.dcsctp_spec.specs.queues.Skipping.{entry_bytes}
 use Rattle.std.specs.List.{flat_map}
-use Rattle.dcsctp_machine.specs.transfer.Transfer.{Transfer, Below}
-use Rattle.dcsctp_machine.specs.turns.FlushOutcomes.{Answer, FlushAnswers, flush_of}
+use Rattle.dcsctp_spec.specs.queues.Transfer.{Transfer, Below}
+use Rattle.dcsctp_spec.specs.endpoint.FlushOutcomes.{Answer, FlushAnswers, flush_of}
 use Rattle.dcsctp_delivery_sending.specs.Log.{Message, Piece, Slot, Cut, History, grown, with_mark, Mark, Resets}
 use Rattle.dcsctp_delivery_sending.specs.Places.{Has, at_place}
 use Rattle.dcsctp_delivery_sending.specs.Numbers.{stream_named, is_handed_out, AreCurrent, AreKept, Numbered, KindAt, IsOfKind}

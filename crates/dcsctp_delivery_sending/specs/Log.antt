@@ -3,8 +3,8 @@
 use Rattle.std.specs.Prelude.{◌≡◌, ◌==◌, ◌<◌, ◌≤◌, ◌+◌, ◌%◌, ℕ, Bool, true, false, Option, None, Some, List, [], ◌∷◌, ◌++◌, length, take, drop, ◌^◌}
 use Rattle.dcsctp_delivery_sending.specs.Places.{at_place}
 use Rattle.std.specs.List.{AllByRecursion}
-use Rattle.dcsctp_machine.specs.transfer.Incoming.{is_named}
-use Rattle.dcsctp_machine.specs.turns.BegunResets.{BegunReset}
+use Rattle.dcsctp_spec.specs.queues.Incoming.{is_named}
+use Rattle.dcsctp_spec.specs.endpoint.BegunResets.{BegunReset}
 
 -- a message that its user queued
 pub record Message : Type 0 where

@@ -1,8 +1,8 @@
 -- Messages that are marked as spent: they were read in an earlier association, and no piece of them is sent again.
 use Rattle.std.specs.Prelude.{◌≡◌, ◌≢◌, ◌==◌, ℕ, true, if◌then◌else◌, Some, List, [], ◌∷◌, length, ◌<◌, zero, suc, Bool, false}
-use Rattle.dcsctp_machine.specs.transfer.SendStreams.{Waiting, Stream, stream_at}
+use Rattle.dcsctp_spec.specs.types.queues.SendStreams.{Waiting, Stream, stream_at}
 use Rattle.dcsctp_delivery_sending.specs.Places.{at_place}
-use Rattle.dcsctp_machine.specs.transfer.SendQueue.{SendQueueState}
+use Rattle.dcsctp_spec.specs.queues.SendQueue.{SendQueueState}
 use Rattle.std.specs.List.{AllByRecursion}
 use Rattle.dcsctp_delivery_sending.specs.Log.{Fits, Message}
 use Rattle.dcsctp_delivery_sending.specs.Queueing.{QueueWaits}

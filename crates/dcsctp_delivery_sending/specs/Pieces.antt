@@ -1,10 +1,10 @@
 -- What the send queue hands out are the pieces of the messages that its user queued, one after another (RFC 9260, section 6.9).
 use Rattle.std.specs.Prelude.{◌≡◌, ◌⊎◌, ◌==◌, ◌<◌, ◌+◌, ◌%◌, ◌^◌, ℕ, true, false, Option, None, Some, List, [], ◌∷◌, length, drop, if◌then◌else◌}
-use Rattle.dcsctp_machine.specs.Event.{Event}
-use Rattle.dcsctp_machine.specs.declared.sending.UnderWay.{UnderWay}
-use Rattle.dcsctp_machine.specs.transfer.SendStreams.{Waiting, Stream, front_of, stream_at}
-use Rattle.dcsctp_machine.specs.transfer.SendQueue.{SendQueueState}
-use Rattle.dcsctp_machine.specs.transfer.Sending.{Fragment, Takes}
+use Rattle.dcsctp_spec.specs.endpoint.Event.{Event}
+use Rattle.dcsctp_spec.specs.types.declared.sending.UnderWay.{UnderWay}
+use Rattle.dcsctp_spec.specs.types.queues.SendStreams.{Waiting, Stream, front_of, stream_at}
+use Rattle.dcsctp_spec.specs.queues.SendQueue.{SendQueueState}
+use Rattle.dcsctp_spec.specs.queues.Sending.{Fragment, Takes}
 use Rattle.dcsctp_delivery_sending.specs.Places.{at_place}
 use Rattle.dcsctp_delivery_sending.specs.Weights.{HasRoom}
 use Rattle.dcsctp_delivery_sending.specs.Numbers.{stream_named, is_handed_out, IsCurrent, Numbered}

@@ -1,10 +1,11 @@
 -- What a user queues waits after the rest, under the next identifier; it outlasts settings, resets and associations.
 use Rattle.std.specs.Prelude.{◌≡◌, ◌<◌, ◌+◌, ◌*◌, ◌^◌, ℕ, Bool, false, List, if◌then◌else◌, ◌∷◌, length}
-use Rattle.dcsctp_machine.specs.transfer.SendStreams.{Stream}
-use Rattle.dcsctp_machine.specs.transfer.SendQueue.{SendQueueState, restarted}
-use Rattle.dcsctp_machine.specs.transfer.OwnResets.{prepared_all, queue_committed, queue_rolled_back}
-use Rattle.dcsctp_machine.specs.turns.SettingOutcomes.{Setting, set_in_queue}
-use Rattle.dcsctp_machine.specs.turns.MessageOutcomes.{Sending, sending_queued}
+use Rattle.dcsctp_spec.specs.types.queues.SendStreams.{Stream}
+use Rattle.dcsctp_spec.specs.queues.SendQueue.{SendQueueState, restarted}
+use Rattle.dcsctp_spec.specs.queues.OwnResets.{prepared_all, queue_committed, queue_rolled_back}
+use Rattle.dcsctp_spec.specs.types.Setting.{Setting}
+use Rattle.dcsctp_spec.specs.endpoint.SettingOutcomes.{set_in_queue}
+use Rattle.dcsctp_spec.specs.endpoint.MessageOutcomes.{Sending, sending_queued}
 use Rattle.dcsctp_delivery_sending.specs.Log.{Message, Cut, History, new_history}
 use Rattle.dcsctp_delivery_sending.specs.Numbers.{stream_named, is_handed_out, Numbered}
 use Rattle.dcsctp_delivery_sending.specs.Pieces.{HoldsQueued}

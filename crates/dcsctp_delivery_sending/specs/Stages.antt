@@ -1,15 +1,15 @@
 -- What is in flight bears what the log has, while packets are filled (RFC 9260, section 6.1).
 use Rattle.std.specs.Prelude.{◌≡◌, ◌<◌, ◌≤◌, ◌+◌, ◌-◌, ◌%◌, ◌^◌, ℕ, Bool, true, Option, None, Some, List, [], ◌∷◌, ◌++◌, length, map, slice_get}
-use Rattle.dcsctp_machine.specs.Packet.{Plain, unworked}
-use Rattle.dcsctp_machine.specs.transfer.Chunks.{AreChunks, chunk_said}
-use Rattle.dcsctp_machine.specs.transfer.Abandoning.{GivesUpAll}
-use Rattle.dcsctp_machine.specs.transfer.Filling.{Stage, FillsPacket}
-use Rattle.dcsctp_machine.specs.transfer.Items.{Item}
-use Rattle.dcsctp_machine.specs.transfer.Outstanding.{OutstandingState}
-use Rattle.dcsctp_machine.specs.transfer.Sending.{Fragment}
-use Rattle.dcsctp_machine.specs.turns.BegunResets.{stream_field}
+use Rattle.dcsctp_spec.specs.Packet.{Plain, unworked}
+use Rattle.dcsctp_spec.specs.queues.Chunks.{AreChunks, chunk_said}
+use Rattle.dcsctp_spec.specs.queues.Abandoning.{GivesUpAll}
+use Rattle.dcsctp_spec.specs.queues.Filling.{Stage, FillsPacket}
+use Rattle.dcsctp_spec.specs.queues.Items.{Item}
+use Rattle.dcsctp_spec.specs.queues.Outstanding.{OutstandingState}
+use Rattle.dcsctp_spec.specs.queues.Sending.{Fragment}
+use Rattle.dcsctp_spec.specs.endpoint.BegunResets.{stream_field}
 use Rattle.dcsctp_delivery_sending.specs.Places.{Has, at_place}
-use Rattle.dcsctp_machine.specs.declared.sending.UnderWay.{UnderWay}
+use Rattle.dcsctp_spec.specs.types.declared.sending.UnderWay.{UnderWay}
 use Rattle.dcsctp_delivery_sending.specs.Log.{Message, Piece, Slot, Cut, Mark, History, grown, Resets}
 use Rattle.dcsctp_delivery_sending.specs.Numbers.{Numbered, KindAt, AreCurrent, AreKept}
 use Rattle.dcsctp_delivery_sending.specs.Pieces.{Says, HoldsQueued}

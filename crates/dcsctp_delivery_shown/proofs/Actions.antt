@@ -1,20 +1,20 @@
 -- Each action of a socket keeps the kinds of what is in flight, and sends only chunks that were negotiated.
 use Rattle.std.proofs.Common.{◌≡◌, ℕ, Bool, true, false, Option, None, Some, List, [], ◌∷◌, ◌++◌, map, refl, sym, ap, ◌∙◌, subst, append-nil}
 use Rattle.std.specs.List.{AllByRecursion}
-use Rattle.dcsctp_machine.specs.declared.capabilities.Capabilities.{Capabilities}
-use Rattle.dcsctp_machine.specs.Endpoint.{Endpoint, Core, closed, cookie_wait, cookie_echoed, open_in}
-use Rattle.dcsctp_machine.specs.Event.{Event, sent, packets_in}
-use Rattle.dcsctp_machine.specs.Packet.{Content, Emission}
-use Rattle.dcsctp_machine.specs.control.Choices.{plain_contents}
-use Rattle.dcsctp_machine.specs.transfer.Retransmission.{RetransmissionState}
-use Rattle.dcsctp_machine.specs.transfer.SendQueue.{SendQueueState}
-use Rattle.dcsctp_machine.specs.transfer.Transfer.{Transfer, Below, may_give, is_idle}
-use Rattle.dcsctp_machine.specs.transfer.Arrivals.{Arrival}
-use Rattle.dcsctp_machine.specs.declared.arrivals.SkippedTo.{SkippedTo}
-use Rattle.dcsctp_machine.specs.turns.BegunResets.{streams_within, request_contents, queue_requesting, retransmission_begun}
-use Rattle.dcsctp_machine.specs.turns.FlushOutcomes.{Told, told_event, Answer, answer_contents, filled, goes_out, asked, next_draft, flush_of, Ask, first_ask, later_ask, packets_allowed, room_in, stage_of, may_forward, wants_sack, Gives, GivesWhere, AnsweredBelow, Answered, nothing_waits, Answers, at_limit, at_empty, after_packet, FlushAnswers}
-use Rattle.dcsctp_machine.specs.turns.TransferMoves.{ReceivesWhere, MovesWhere}
-use Rattle.dcsctp_machine_refinement.proofs.Bursts.{packets_in-append, told_none}
+use Rattle.dcsctp_spec_lemmas.specs.types.declared.capabilities.Capabilities.{Capabilities}
+use Rattle.dcsctp_spec_lemmas.specs.spec.endpoint.Endpoint.{Endpoint, Core, closed, cookie_wait, cookie_echoed, open_in}
+use Rattle.dcsctp_spec_lemmas.specs.spec.endpoint.Event.{Event, sent, packets_in}
+use Rattle.dcsctp_spec_lemmas.specs.spec.Packet.{Content, Emission}
+use Rattle.dcsctp_spec_lemmas.specs.spec.association.Choices.{plain_contents}
+use Rattle.dcsctp_spec_lemmas.specs.spec.queues.Retransmission.{RetransmissionState}
+use Rattle.dcsctp_spec_lemmas.specs.spec.queues.SendQueue.{SendQueueState}
+use Rattle.dcsctp_spec_lemmas.specs.spec.queues.Transfer.{Transfer, Below, may_give, is_idle}
+use Rattle.dcsctp_spec_lemmas.specs.spec.queues.Arrivals.{Arrival}
+use Rattle.dcsctp_spec_lemmas.specs.types.declared.arrivals.SkippedTo.{SkippedTo}
+use Rattle.dcsctp_spec_lemmas.specs.spec.endpoint.BegunResets.{streams_within, request_contents, queue_requesting, retransmission_begun}
+use Rattle.dcsctp_spec_lemmas.specs.spec.endpoint.FlushOutcomes.{Told, told_event, Answer, answer_contents, filled, goes_out, asked, next_draft, flush_of, Ask, first_ask, later_ask, packets_allowed, room_in, stage_of, may_forward, wants_sack, Gives, GivesWhere, AnsweredBelow, Answered, nothing_waits, Answers, at_limit, at_empty, after_packet, FlushAnswers}
+use Rattle.dcsctp_spec_lemmas.specs.spec.endpoint.TransferMoves.{ReceivesWhere, MovesWhere}
+use Rattle.dcsctp_theorem_sockets.proofs.Bursts.{packets_in-append, told_none}
 use Rattle.dcsctp_delivery_turns.specs.Actions.{Ledger, Action, Actions, nothing, further}
 use Rattle.dcsctp_delivery_turns.specs.Actions as actions
 use Rattle.dcsctp_delivery_sending.proofs.Packets.{out_below}

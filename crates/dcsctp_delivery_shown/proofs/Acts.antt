@@ -2,27 +2,27 @@
 use Rattle.std.proofs.Common.{◌≡◌, ℕ, List, [], ◌∷◌, ◌++◌, refl, sym, ap, ◌∙◌, subst, inl}
 use Rattle.std.specs.Prelude.{Option, None, Some}
 use Rattle.std.specs.List.{AllByRecursion}
-use Rattle.dcsctp_wire.specs.Content.{PacketContent}
-use Rattle.dcsctp_wire.specs.Format.{IsPacket}
-use Rattle.dcsctp_machine.specs.declared.capabilities.Capabilities.{Capabilities}
-use Rattle.dcsctp_machine.specs.declared.options.Options.{Options}
-use Rattle.dcsctp_machine.specs.Admission.{Admission, all_chunks, shutdown_acks_alone, refused, admits, shutdown_acks_in}
-use Rattle.dcsctp_machine.specs.CallTurns.{Turned, Turns, AlongTurns, AfterChunk, ChunkTurns, AdmittedTurns, HandleInput, unreadable, readable, after_all, effects_of, events_of}
-use Rattle.dcsctp_machine.specs.Endpoint.{Endpoint}
-use Rattle.dcsctp_machine.specs.Following.{Following, next_chunk, packet_end, dropped_rest}
-use Rattle.dcsctp_machine.specs.Laws.{ChunksAreControlled}
-use Rattle.dcsctp_machine.specs.Offer.{Offer, offer_of}
-use Rattle.dcsctp_machine.specs.Outcome.{Outcome}
-use Rattle.dcsctp_machine.specs.Packet.{Content, init_ack, cookie_echo, shutdown_ack, Packet, packet_in}
-use Rattle.dcsctp_machine.specs.Past.{Has}
-use Rattle.dcsctp_machine.specs.Schedule.{CallContent, send_call, send_many_call}
-use Rattle.dcsctp_machine.specs.Settings.{SameOptions, wire_options}
-use Rattle.dcsctp_machine.specs.Sockets.{UserTurns}
-use Rattle.dcsctp_machine.specs.Turn.{Input, arrival, refusal, chunk_input, packet_ends, has_data, unreadable_text}
-use Rattle.dcsctp_machine.specs.control.Effect.{Link, Effect, holds, link_of, link_in}
-use Rattle.dcsctp_machine.proofs.TurnLemmas.{same_after}
-use Rattle.dcsctp_machine_refinement.proofs.NewAssociations.{FirstAlone}
-use Rattle.dcsctp_machine_refinement.proofs.NoHolding.{HoldsNone, none-append}
+use Rattle.dcsctp_spec_lemmas.specs.wire.Content.{PacketContent}
+use Rattle.dcsctp_spec_lemmas.specs.wire.Format.{IsPacket}
+use Rattle.dcsctp_spec_lemmas.specs.types.declared.capabilities.Capabilities.{Capabilities}
+use Rattle.dcsctp_spec_lemmas.specs.types.declared.options.Options.{Options}
+use Rattle.dcsctp_spec_lemmas.specs.spec.Admission.{Admission, all_chunks, shutdown_acks_alone, refused, admits, shutdown_acks_in}
+use Rattle.dcsctp_spec_lemmas.specs.spec.endpoint.CallTurns.{Turned, Turns, AlongTurns, AfterChunk, ChunkTurns, AdmittedTurns, HandleInput, unreadable, readable, after_all, effects_of, events_of}
+use Rattle.dcsctp_spec_lemmas.specs.spec.endpoint.Endpoint.{Endpoint}
+use Rattle.dcsctp_spec_lemmas.specs.spec.endpoint.Following.{Following, next_chunk, packet_end, dropped_rest}
+use Rattle.dcsctp_spec_laws.specs.TurnLaws.{ChunksAreControlled}
+use Rattle.dcsctp_spec_lemmas.specs.types.Offer.{Offer, offer_of}
+use Rattle.dcsctp_spec_lemmas.specs.spec.endpoint.Outcome.{Outcome}
+use Rattle.dcsctp_spec_lemmas.specs.spec.Packet.{Content, init_ack, cookie_echo, shutdown_ack, Packet, packet_in}
+use Rattle.dcsctp_spec_runs.specs.Past.{Has}
+use Rattle.dcsctp_spec_lemmas.specs.types.Schedule.{CallContent, send_call, send_many_call}
+use Rattle.dcsctp_spec_lemmas.specs.types.Settings.{SameOptions, wire_options}
+use Rattle.dcsctp_spec_lemmas.specs.spec.endpoint.UserTurns.{UserTurns}
+use Rattle.dcsctp_spec_lemmas.specs.spec.endpoint.Turn.{Input, arrival, refusal, chunk_input, packet_ends, has_data, unreadable_text}
+use Rattle.dcsctp_spec_lemmas.specs.spec.association.Effect.{Link, Effect, holds, link_of, link_in}
+use Rattle.dcsctp_spec_laws.proofs.TurnLemmas.{same_after}
+use Rattle.dcsctp_theorem_sockets.proofs.NewAssociations.{FirstAlone}
+use Rattle.dcsctp_theorem_sockets.proofs.NoHolding.{HoldsNone, none-append}
 use Rattle.dcsctp_delivery_turns.specs.Actions.{came_by, IsOpening, Begun}
 use Rattle.dcsctp_delivery_sockets.specs.Echoes.{MayFollow, AllMayFollow}
 use Rattle.dcsctp_delivery_sockets.proofs.Calls.{of_turns, MayCall, MaySend, of_call}

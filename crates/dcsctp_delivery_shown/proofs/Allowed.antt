@@ -2,24 +2,24 @@
 use Rattle.std.proofs.Common.{◌≡◌, ℕ, Bool, true, false, Option, None, Some, List, [], ◌∷◌, ◌++◌, length, refl, sym, ◌∙◌, subst}
 use Rattle.std.specs.Prelude.{if◌then◌else◌, nat_lt, nat_le, ◌&&◌}
 use Rattle.std.specs.List.{AllByRecursion}
-use Rattle.dcsctp_wire.specs.Content.{ChunkContent, data_chunk, i_data_chunk, forward_tsn_chunk, i_forward_tsn_chunk}
-use Rattle.dcsctp_wire.specs.Spelling.{chunk_bytes}
-use Rattle.dcsctp_machine.specs.declared.capabilities.Capabilities.{Capabilities}
-use Rattle.dcsctp_machine.specs.Endpoint.{Endpoint}
-use Rattle.dcsctp_machine.specs.Packet.{Plain, plain_out, unworked, Content, plain, Emission}
-use Rattle.dcsctp_machine.specs.control.Choices.{plain_contents}
-use Rattle.dcsctp_machine.specs.transfer.Chunks.{chunk_said, AreChunks}
-use Rattle.dcsctp_machine.specs.transfer.Filling.{Stage}
-use Rattle.dcsctp_machine.specs.transfer.Items.{is_first_abandoned}
-use Rattle.dcsctp_machine.specs.transfer.Outstanding.{OutstandingState}
-use Rattle.dcsctp_machine.specs.transfer.Retransmission.{RetransmissionState, outstanding_count}
-use Rattle.dcsctp_machine.specs.transfer.Sending.{Fragment}
-use Rattle.dcsctp_machine.specs.transfer.Skipping.{forward_chunk, SaysForward}
-use Rattle.dcsctp_machine.specs.transfer.Tracker.{TrackerState}
-use Rattle.dcsctp_machine.specs.transfer.Transfer.{Transfer}
-use Rattle.dcsctp_machine.specs.turns.BegunResets.{BegunReset, request_contents}
-use Rattle.dcsctp_machine.specs.turns.FlushOutcomes.{own_sack, where_fits, Ask, first_ask, later_ask, may_abandon, may_forward, Acknowledges, ForwardsWhere, GivesUpWhere}
-use Rattle.dcsctp_machine.specs.turns.PlainOutcomes.{data_violation, i_data_violation, forward_tsn_violation, i_forward_tsn_violation, violation_by}
+use Rattle.dcsctp_spec_lemmas.specs.wire.Content.{ChunkContent, data_chunk, i_data_chunk, forward_tsn_chunk, i_forward_tsn_chunk}
+use Rattle.dcsctp_spec_lemmas.specs.wire.Spelling.{chunk_bytes}
+use Rattle.dcsctp_spec_lemmas.specs.types.declared.capabilities.Capabilities.{Capabilities}
+use Rattle.dcsctp_spec_lemmas.specs.spec.endpoint.Endpoint.{Endpoint}
+use Rattle.dcsctp_spec_lemmas.specs.spec.Packet.{Plain, plain_out, unworked, Content, plain, Emission}
+use Rattle.dcsctp_spec_lemmas.specs.spec.association.Choices.{plain_contents}
+use Rattle.dcsctp_spec_lemmas.specs.spec.queues.Chunks.{chunk_said, AreChunks}
+use Rattle.dcsctp_spec_lemmas.specs.spec.queues.Filling.{Stage}
+use Rattle.dcsctp_spec_lemmas.specs.spec.queues.Items.{is_first_abandoned}
+use Rattle.dcsctp_spec_lemmas.specs.spec.queues.Outstanding.{OutstandingState}
+use Rattle.dcsctp_spec_lemmas.specs.spec.queues.Retransmission.{RetransmissionState, outstanding_count}
+use Rattle.dcsctp_spec_lemmas.specs.spec.queues.Sending.{Fragment}
+use Rattle.dcsctp_spec_lemmas.specs.spec.queues.Skipping.{forward_chunk, SaysForward}
+use Rattle.dcsctp_spec_lemmas.specs.spec.queues.Tracker.{TrackerState}
+use Rattle.dcsctp_spec_lemmas.specs.spec.queues.Transfer.{Transfer}
+use Rattle.dcsctp_spec_lemmas.specs.spec.endpoint.BegunResets.{BegunReset, request_contents}
+use Rattle.dcsctp_spec_lemmas.specs.spec.endpoint.FlushOutcomes.{own_sack, where_fits, Ask, first_ask, later_ask, may_abandon, may_forward, Acknowledges, ForwardsWhere, GivesUpWhere}
+use Rattle.dcsctp_spec_lemmas.specs.spec.endpoint.PlainOutcomes.{data_violation, i_data_violation, forward_tsn_violation, i_forward_tsn_violation, violation_by}
 use Rattle.dcsctp_delivery_sending.specs.Flushes.{NoPlain, NoContent, NoData}
 use Rattle.dcsctp_delivery_shown.proofs.InFlight.{IsOf, gives_all_is}
 

@@ -1,29 +1,29 @@
 -- An association that begins by a packet of the other socket is of the kinds that both negotiate (RFC 9260, section 5.1).
 use Rattle.std.proofs.Common.{◌≡◌, ℕ, Bool, true, false, Option, None, Some, Result, Ok, Err, List, [], ◌∷◌, refl, sym, ap, ◌∙◌, subst, inl, inr}
-use Rattle.dcsctp_machine.specs.declared.association.Held.{Held}
-use Rattle.dcsctp_machine.specs.declared.association.Pair.{Pair}
-use Rattle.dcsctp_machine.specs.declared.capabilities.Capabilities.{Capabilities}
-use Rattle.dcsctp_machine.specs.declared.options.Options.{Options}
-use Rattle.dcsctp_machine.specs.Controlled.{ControlledChunk}
-use Rattle.dcsctp_machine.specs.Cookie.{Cookie, cookie_at}
-use Rattle.dcsctp_machine.specs.Endpoint.{Endpoint, Core, closed, cookie_wait, cookie_echoed, open_in, shutdown_ack_sent}
-use Rattle.dcsctp_machine.specs.Fitting.{FitsCore}
-use Rattle.dcsctp_machine.specs.Laws.{ChunksAreControlled}
-use Rattle.dcsctp_machine.specs.Offer.{Offer, offer_of, negotiated}
-use Rattle.dcsctp_machine.specs.Outcome.{Outcome}
-use Rattle.dcsctp_machine.specs.Packet.{Introduction, Content, init_ack, cookie_echo, cookie_ack}
-use Rattle.dcsctp_machine.specs.Past.{Has}
-use Rattle.dcsctp_machine.specs.Turn.{ContentTurn}
-use Rattle.dcsctp_machine.specs.control.Acts.{chunk_change}
-use Rattle.dcsctp_machine.specs.control.Choices.{Filling, Choices}
-use Rattle.dcsctp_machine.specs.control.CookieEchoChanges.{Resolution, establish_new, restart, simultaneous_init, discard, maintain_existing, invalid_tag, stale, aged, resolve, held_by_cookie, new_association_change, restart_change, maintain_change, resolved_change, read_echo_change}
-use Rattle.dcsctp_machine.specs.control.Effect.{Link, Effect, holds, ends, Change, link_of}
-use Rattle.dcsctp_machine.specs.control.FlushChanges.{flush}
-use Rattle.dcsctp_machine.specs.control.HandshakeChanges.{echo_change, held_by_init_ack, init_ack_change}
-use Rattle.dcsctp_machine_agreement.proofs.Facts.{TrueFront}
-use Rattle.dcsctp_machine_refinement.proofs.NewAssociations.{maintain_none}
-use Rattle.dcsctp_machine_refinement.proofs.NoHolding.{IsNoHolding, HoldsNone, none-append, none-alone, none-flush}
-use Rattle.dcsctp_machine_refinement.proofs.OneSocket.{noted_happened}
+use Rattle.dcsctp_spec_lemmas.specs.types.declared.association.Held.{Held}
+use Rattle.dcsctp_spec_lemmas.specs.types.declared.association.Pair.{Pair}
+use Rattle.dcsctp_spec_lemmas.specs.types.declared.capabilities.Capabilities.{Capabilities}
+use Rattle.dcsctp_spec_lemmas.specs.types.declared.options.Options.{Options}
+use Rattle.dcsctp_spec_lemmas.specs.spec.association.Controlled.{ControlledChunk}
+use Rattle.dcsctp_spec_lemmas.specs.spec.Cookie.{Cookie, cookie_at}
+use Rattle.dcsctp_spec_lemmas.specs.spec.endpoint.Endpoint.{Endpoint, Core, closed, cookie_wait, cookie_echoed, open_in, shutdown_ack_sent}
+use Rattle.dcsctp_spec_runs.specs.Fitting.{FitsCore}
+use Rattle.dcsctp_spec_laws.specs.TurnLaws.{ChunksAreControlled}
+use Rattle.dcsctp_spec_lemmas.specs.types.Offer.{Offer, offer_of, negotiated}
+use Rattle.dcsctp_spec_lemmas.specs.spec.endpoint.Outcome.{Outcome}
+use Rattle.dcsctp_spec_lemmas.specs.spec.Packet.{Introduction, Content, init_ack, cookie_echo, cookie_ack}
+use Rattle.dcsctp_spec_runs.specs.Past.{Has}
+use Rattle.dcsctp_spec_lemmas.specs.spec.endpoint.Turn.{ContentTurn}
+use Rattle.dcsctp_spec_lemmas.specs.spec.association.Acts.{chunk_change}
+use Rattle.dcsctp_spec_lemmas.specs.spec.association.Choices.{Filling, Choices}
+use Rattle.dcsctp_spec_lemmas.specs.spec.association.CookieEchoChanges.{Resolution, establish_new, restart, simultaneous_init, discard, maintain_existing, invalid_tag, stale, aged, resolve, held_by_cookie, new_association_change, restart_change, maintain_change, resolved_change, read_echo_change}
+use Rattle.dcsctp_spec_lemmas.specs.spec.association.Effect.{Link, Effect, holds, ends, Change, link_of}
+use Rattle.dcsctp_spec_lemmas.specs.spec.association.FlushChanges.{flush}
+use Rattle.dcsctp_spec_lemmas.specs.spec.association.HandshakeChanges.{echo_change, held_by_init_ack, init_ack_change}
+use Rattle.dcsctp_theorem_association.proofs.Facts.{TrueFront}
+use Rattle.dcsctp_theorem_sockets.proofs.NewAssociations.{maintain_none}
+use Rattle.dcsctp_theorem_sockets.proofs.NoHolding.{IsNoHolding, HoldsNone, none-append, none-alone, none-flush}
+use Rattle.dcsctp_theorem_sockets.proofs.OneSocket.{noted_happened}
 use Rattle.dcsctp_delivery_turns.specs.Actions.{IsOpening, Begun}
 use Rattle.dcsctp_delivery_sockets.proofs.NewLinks.{link_fits}
 use Rattle.dcsctp_delivery_shown.proofs.Turns.{SameKinds, BeginsSo}

@@ -1,21 +1,21 @@
 -- What the turns of a socket note of associations, and that turns without an INIT ACK or COOKIE ECHO note none.
 use Rattle.std.proofs.Common.{◌≡◌, ◌≢◌, Option, None, Some, List, [], ◌∷◌, ◌++◌, refl, sym, ap, ◌∙◌, subst, inl, inr, append_assoc}
 use Rattle.std.specs.List.{AllByRecursion}
-use Rattle.dcsctp_machine.specs.declared.capabilities.Capabilities.{Capabilities}
-use Rattle.dcsctp_machine.specs.Settings.{SameOptions}
-use Rattle.dcsctp_machine.specs.CallTurns.{Turned, AlongTurns, after_all, effects_of, events_of}
-use Rattle.dcsctp_machine.specs.Endpoint.{Endpoint}
-use Rattle.dcsctp_machine.specs.Event.{packets_in}
-use Rattle.dcsctp_machine.specs.Packet.{Content}
-use Rattle.dcsctp_machine.specs.Past.{Has}
-use Rattle.dcsctp_machine.specs.Turn.{Turn}
-use Rattle.dcsctp_machine.specs.control.Effect.{Link, Effect, draws, sends, holds, connects, ends, begins, completes, fails, accepts, performs, resumes, noted, link_in}
-use Rattle.dcsctp_machine_agreement.specs.OneSide.{EffectsMean}
-use Rattle.dcsctp_machine_refinement.specs.Telling.{NotesAnew}
-use Rattle.dcsctp_machine_refinement.proofs.NewAssociations.{FirstAlone, change_anew}
-use Rattle.dcsctp_machine_refinement.proofs.NoHolding.{HoldsNone, none-append}
-use Rattle.dcsctp_machine_refinement.proofs.OneSocket.{noted_happened}
-use Rattle.dcsctp_machine_refinement.proofs.SocketsAlone.{Moves, it_rests, it_moves}
+use Rattle.dcsctp_spec_lemmas.specs.types.declared.capabilities.Capabilities.{Capabilities}
+use Rattle.dcsctp_spec_lemmas.specs.types.Settings.{SameOptions}
+use Rattle.dcsctp_spec_lemmas.specs.spec.endpoint.CallTurns.{Turned, AlongTurns, after_all, effects_of, events_of}
+use Rattle.dcsctp_spec_lemmas.specs.spec.endpoint.Endpoint.{Endpoint}
+use Rattle.dcsctp_spec_lemmas.specs.spec.endpoint.Event.{packets_in}
+use Rattle.dcsctp_spec_lemmas.specs.spec.Packet.{Content}
+use Rattle.dcsctp_spec_runs.specs.Past.{Has}
+use Rattle.dcsctp_spec_lemmas.specs.spec.endpoint.Turn.{Turn}
+use Rattle.dcsctp_spec_lemmas.specs.spec.association.Effect.{Link, Effect, draws, sends, holds, connects, ends, begins, completes, fails, accepts, performs, resumes, noted, link_in}
+use Rattle.dcsctp_theorem_association.specs.OneSide.{EffectsMean}
+use Rattle.dcsctp_theorem_sockets.specs.Telling.{NotesAnew}
+use Rattle.dcsctp_theorem_sockets.proofs.NewAssociations.{FirstAlone, change_anew}
+use Rattle.dcsctp_theorem_sockets.proofs.NoHolding.{HoldsNone, none-append}
+use Rattle.dcsctp_theorem_sockets.proofs.OneSocket.{noted_happened}
+use Rattle.dcsctp_theorem_sockets.proofs.SocketsAlone.{Moves, it_rests, it_moves}
 use Rattle.dcsctp_delivery_turns.specs.Actions.{came_by, IsOpening}
 use Rattle.dcsctp_delivery_shown.proofs.Allowed.{AreAllowed}
 use Rattle.dcsctp_delivery_shown.proofs.Actions.{events_both}

@@ -1,8 +1,8 @@
 -- What is read was sent, where what is shown allows it.
 use Rattle.std.proofs.Common.{List, [], ◌∷◌}
-use Rattle.dcsctp_machine.specs.declared.options.Options.{Options}
-use Rattle.dcsctp_machine.specs.Sockets.{Worked, Both, SocketRun, acts_of}
-use Rattle.dcsctp_machine_refinement.specs.Agreement.{AreUsable}
+use Rattle.dcsctp_spec_lemmas.specs.types.declared.options.Options.{Options}
+use Rattle.dcsctp_spec_runs.specs.Sockets.{Worked, Both, SocketRun, acts_of}
+use Rattle.dcsctp_theorem_sockets.specs.Agreement.{AreUsable}
 use Rattle.dcsctp_delivery_sockets.specs.Delivery.{AreInMemory, SocketsDeliver}
 use Rattle.dcsctp_delivery_shown.specs.Shown.{ShownTagsSuffice}
 use Rattle.dcsctp_delivery_shown.specs.Delivery.{DeliverThroughout}

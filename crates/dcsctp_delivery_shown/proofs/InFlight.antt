@@ -2,23 +2,23 @@
 use Rattle.std.proofs.Common.{◌≡◌, ℕ, Bool, true, false, Option, None, Some, List, sym, ap, ◌∙◌, subst, inl, inr}
 use Rattle.std.specs.Prelude.{if◌then◌else◌, nat_lt, ◌⊎◌, ◌-◌}
 use Rattle.std.specs.Option.{option_map}
-use Rattle.dcsctp_wire.specs.Content.{SackContent}
-use Rattle.dcsctp_wire.specs.declared.chunk.sack.GapAckBlock.{GapAckBlock}
-use Rattle.dcsctp_machine.specs.declared.capabilities.Capabilities.{Capabilities}
-use Rattle.dcsctp_machine.specs.transfer.Abandoning.{GivesUpFirst, GivesUpAll}
-use Rattle.dcsctp_machine.specs.declared.progress.Change.TheVariants.{Miss}
-use Rattle.dcsctp_machine.specs.transfer.Acknowledging.{covered, lossy, missed_until, exiting, AcknowledgesItems}
-use Rattle.dcsctp_machine.specs.transfer.AtOnce.{empty_stage, SendsAtOnce}
-use Rattle.dcsctp_machine.specs.transfer.Filling.{Stage, DropsRestAt, Closes, GivesUpAt, SendsMarked, SendsNew, FindsNone, StepAgain, StepNew, Steps, none, more, counting, FillsPacket}
-use Rattle.dcsctp_machine.specs.transfer.ItemMessages.{EndsDropped}
-use Rattle.dcsctp_machine.specs.transfer.Items.{Item, marked_items, changed_between}
-use Rattle.dcsctp_machine.specs.transfer.Outstanding.{OutstandingState, tsn_at, acknowledged_by}
-use Rattle.dcsctp_machine.specs.transfer.Retransmission.{RetransmissionState, with_items, counted_again}
-use Rattle.dcsctp_machine.specs.transfer.SendQueue.{SendQueueState}
-use Rattle.dcsctp_machine.specs.transfer.Transfer.{Transfer}
-use Rattle.dcsctp_machine.specs.turns.BegunResets.{BegunReset, retransmission_begun}
-use Rattle.dcsctp_machine.specs.turns.FlushOutcomes.{FillsWhere}
-use Rattle.dcsctp_machine.specs.turns.TransferMoves.{timed_by, TakesSack}
+use Rattle.dcsctp_spec_lemmas.specs.wire.Content.{SackContent}
+use Rattle.dcsctp_spec_lemmas.specs.wire.declared.chunk.sack.GapAckBlock.{GapAckBlock}
+use Rattle.dcsctp_spec_lemmas.specs.types.declared.capabilities.Capabilities.{Capabilities}
+use Rattle.dcsctp_spec_lemmas.specs.spec.queues.Abandoning.{GivesUpFirst, GivesUpAll}
+use Rattle.dcsctp_spec_lemmas.specs.types.declared.progress.Change.TheVariants.{Miss}
+use Rattle.dcsctp_spec_lemmas.specs.spec.queues.Acknowledging.{covered, lossy, missed_until, exiting, AcknowledgesItems}
+use Rattle.dcsctp_spec_lemmas.specs.spec.queues.AtOnce.{empty_stage, SendsAtOnce}
+use Rattle.dcsctp_spec_lemmas.specs.spec.queues.Filling.{Stage, DropsRestAt, Closes, GivesUpAt, SendsMarked, SendsNew, FindsNone, StepAgain, StepNew, Steps, none, more, counting, FillsPacket}
+use Rattle.dcsctp_spec_lemmas.specs.spec.queues.ItemMessages.{EndsDropped}
+use Rattle.dcsctp_spec_lemmas.specs.spec.queues.Items.{Item, marked_items, changed_between}
+use Rattle.dcsctp_spec_lemmas.specs.spec.queues.Outstanding.{OutstandingState, tsn_at, acknowledged_by}
+use Rattle.dcsctp_spec_lemmas.specs.spec.queues.Retransmission.{RetransmissionState, with_items, counted_again}
+use Rattle.dcsctp_spec_lemmas.specs.spec.queues.SendQueue.{SendQueueState}
+use Rattle.dcsctp_spec_lemmas.specs.spec.queues.Transfer.{Transfer}
+use Rattle.dcsctp_spec_lemmas.specs.spec.endpoint.BegunResets.{BegunReset, retransmission_begun}
+use Rattle.dcsctp_spec_lemmas.specs.spec.endpoint.FlushOutcomes.{FillsWhere}
+use Rattle.dcsctp_spec_lemmas.specs.spec.endpoint.TransferMoves.{timed_by, TakesSack}
 
 -- It is sent as these capabilities say.
 abbrev pub IsOf : Capabilities → RetransmissionState → Type 0

@@ -1,27 +1,27 @@
 -- Over an honest run each association that a side notes is shown, so the tags of what is shown are those of all.
 use Rattle.std.proofs.Common.{◌≡◌, Bool, true, false, List, [], ◌∷◌, ◌++◌, refl, subst}
 use Rattle.std.specs.Prelude.{Option, ◌&&◌}
-use Rattle.dcsctp_machine.specs.declared.capabilities.Capabilities.{Capabilities}
-use Rattle.dcsctp_machine.specs.declared.options.Options.{Options}
-use Rattle.dcsctp_machine.specs.declared.schedule.Side.{Side}
-use Rattle.dcsctp_machine.specs.declared.schedule.Side.TheVariants as sides
-use Rattle.dcsctp_machine.specs.CallTurns.{Turned, AlongTurns, events_of}
-use Rattle.dcsctp_machine.specs.Endpoint.{Core, closed, cookie_wait, cookie_echoed, open_in, association_of, fresh_endpoint}
-use Rattle.dcsctp_machine.specs.Fitting.{AllSent}
-use Rattle.dcsctp_machine.specs.Offer.{Offer, offer_of, negotiated}
-use Rattle.dcsctp_machine.specs.Schedule.{StepContent, ActContent, step_act, outside_act, IsHonestAct, AreHonest}
-use Rattle.dcsctp_machine.specs.Sockets.{Worked, Both, of_side, of_other, with_turns, turns_after, endpoint_after, packets_shown, StepTurns, SocketRun, side_of, side_of_act, NextTurns, acts_of}
-use Rattle.dcsctp_machine.specs.World as machine
-use Rattle.dcsctp_machine.specs.World.{world_after}
-use Rattle.dcsctp_machine.specs.control.Effect.{Link, link_in}
-use Rattle.dcsctp_machine.proofs.AlongLemmas.{run_along}
-use Rattle.dcsctp_machine.proofs.TurnLemmas.{events_of-append}
-use Rattle.dcsctp_machine_agreement.proofs.Agreement.{TrueWorld}
-use Rattle.dcsctp_machine_agreement.proofs.Facts.{TruePast}
-use Rattle.dcsctp_machine_refinement.specs.Agreement.{AreUsable, AreFresh}
-use Rattle.dcsctp_machine_refinement.proofs.Sent.{all_sent_map}
-use Rattle.dcsctp_machine_refinement.proofs.SocketsAgree.{Joined, joined}
-use Rattle.dcsctp_machine_refinement.proofs.SocketsAlone.{of_moves}
+use Rattle.dcsctp_spec_lemmas.specs.types.declared.capabilities.Capabilities.{Capabilities}
+use Rattle.dcsctp_spec_lemmas.specs.types.declared.options.Options.{Options}
+use Rattle.dcsctp_spec_lemmas.specs.types.declared.schedule.Side.{Side}
+use Rattle.dcsctp_spec_lemmas.specs.types.declared.schedule.Side.TheVariants as sides
+use Rattle.dcsctp_spec_lemmas.specs.spec.endpoint.CallTurns.{Turned, AlongTurns, events_of}
+use Rattle.dcsctp_spec_lemmas.specs.spec.endpoint.Endpoint.{Core, closed, cookie_wait, cookie_echoed, open_in, association_of, fresh_endpoint}
+use Rattle.dcsctp_spec_runs.specs.Fitting.{AllSent}
+use Rattle.dcsctp_spec_lemmas.specs.types.Offer.{Offer, offer_of, negotiated}
+use Rattle.dcsctp_spec_lemmas.specs.types.Schedule.{StepContent, ActContent, step_act, outside_act, IsHonestAct, AreHonest}
+use Rattle.dcsctp_spec_runs.specs.Sockets.{Worked, Both, of_side, of_other, with_turns, turns_after, endpoint_after, packets_shown, StepTurns, SocketRun, side_of, side_of_act, NextTurns, acts_of}
+use Rattle.dcsctp_spec_runs.specs.World as machine
+use Rattle.dcsctp_spec_runs.specs.World.{world_after}
+use Rattle.dcsctp_spec_lemmas.specs.spec.association.Effect.{Link, link_in}
+use Rattle.dcsctp_spec_runs.proofs.RunsAlong.{run_along}
+use Rattle.dcsctp_spec_lemmas.proofs.TurnLists.{events_of-append}
+use Rattle.dcsctp_theorem_association.proofs.Agreement.{TrueWorld}
+use Rattle.dcsctp_theorem_association.proofs.Facts.{TruePast}
+use Rattle.dcsctp_theorem_sockets.specs.Agreement.{AreUsable, AreFresh}
+use Rattle.dcsctp_theorem_sockets.proofs.Sent.{all_sent_map}
+use Rattle.dcsctp_theorem_sockets.proofs.SocketsAgree.{Joined, joined}
+use Rattle.dcsctp_theorem_sockets.proofs.SocketsAlone.{of_moves}
 use Rattle.dcsctp_delivery_directions.specs.Directions.{nothing_asked}
 use Rattle.dcsctp_delivery_sockets.proofs.Delivery.{DeliveryLaws}
 use Rattle.dcsctp_delivery_sockets.proofs.Echoes.{true_world}

@@ -1,21 +1,21 @@
 -- What a side has noted of associations, and what it has shown, act by act.
 use Rattle.std.proofs.Common.{◌≡◌, ◌≢◌, List, [], ◌∷◌, ◌++◌, refl, sym, ap, ◌∙◌, subst, inl, inr}
 use Rattle.std.specs.Prelude.{Option, Some}
-use Rattle.dcsctp_machine.specs.declared.capabilities.Capabilities.{Capabilities}
-use Rattle.dcsctp_machine.specs.declared.options.Options.{Options}
-use Rattle.dcsctp_machine.specs.CallTurns.{Turned, after_all, effects_of, events_of}
-use Rattle.dcsctp_machine.specs.Endpoint.{Endpoint, fresh_endpoint}
-use Rattle.dcsctp_machine.specs.Event.{Event, packets_in}
-use Rattle.dcsctp_machine.specs.Packet.{Emission}
-use Rattle.dcsctp_machine.specs.Past.{Has, Each}
-use Rattle.dcsctp_machine.specs.Sockets.{endpoint_after}
-use Rattle.dcsctp_machine.specs.World.{after_effects}
-use Rattle.dcsctp_machine.specs.control.Effect.{Link, Effect, draws, sends, holds, connects, ends, begins, completes, fails, accepts, performs, resumes, link_in}
-use Rattle.dcsctp_machine.proofs.TurnLemmas.{after_all-append, events_of-append}
-use Rattle.dcsctp_machine_agreement.proofs.Growth.{after_effects-append}
-use Rattle.dcsctp_machine_refinement.specs.Agreement.{noted_past}
-use Rattle.dcsctp_machine_refinement.proofs.NoHolding.{HoldsNone}
-use Rattle.dcsctp_machine_refinement.proofs.Signs.{in_after}
+use Rattle.dcsctp_spec_lemmas.specs.types.declared.capabilities.Capabilities.{Capabilities}
+use Rattle.dcsctp_spec_lemmas.specs.types.declared.options.Options.{Options}
+use Rattle.dcsctp_spec_lemmas.specs.spec.endpoint.CallTurns.{Turned, after_all, effects_of, events_of}
+use Rattle.dcsctp_spec_lemmas.specs.spec.endpoint.Endpoint.{Endpoint, fresh_endpoint}
+use Rattle.dcsctp_spec_lemmas.specs.spec.endpoint.Event.{Event, packets_in}
+use Rattle.dcsctp_spec_lemmas.specs.spec.Packet.{Emission}
+use Rattle.dcsctp_spec_runs.specs.Past.{Has, Each}
+use Rattle.dcsctp_spec_runs.specs.Sockets.{endpoint_after}
+use Rattle.dcsctp_spec_runs.specs.World.{after_effects}
+use Rattle.dcsctp_spec_lemmas.specs.spec.association.Effect.{Link, Effect, draws, sends, holds, connects, ends, begins, completes, fails, accepts, performs, resumes, link_in}
+use Rattle.dcsctp_spec_lemmas.proofs.TurnLists.{after_all-append, events_of-append}
+use Rattle.dcsctp_theorem_association.proofs.Growth.{after_effects-append}
+use Rattle.dcsctp_theorem_sockets.specs.Agreement.{noted_past}
+use Rattle.dcsctp_theorem_sockets.proofs.NoHolding.{HoldsNone}
+use Rattle.dcsctp_theorem_sockets.proofs.Signs.{in_after}
 use Rattle.dcsctp_delivery_sockets.specs.Delivery.{IsOfNewTags}
 use Rattle.dcsctp_delivery_sockets.proofs.Known.{past_more}
 use Rattle.dcsctp_delivery_shown.specs.Shown.{Shows, HasNewTags, MayBeShown, ServeOnce}

@@ -1,29 +1,29 @@
 -- The association that a packet begins with is there when the packet is over: what follows the first chunk ends none.
 use Rattle.std.proofs.Common.{◌≡◌, ◌==◌, ℕ, Bool, true, false, cond, Option, None, Some, List, [], ◌∷◌, refl, sym, ap, ◌∙◌, subst}
-use Rattle.dcsctp_wire.specs.Content.{ParameterContent, data_chunk, i_data_chunk, sack_chunk, error_chunk, forward_tsn_chunk, i_forward_tsn_chunk}
-use Rattle.dcsctp_machine.specs.declared.capabilities.Capabilities.{Capabilities}
-use Rattle.dcsctp_machine.specs.declared.ends.Violation.{Violation}
-use Rattle.dcsctp_machine.specs.Cause.{Cause}
-use Rattle.dcsctp_machine.specs.Controlled.{IsControlled, ControlledChunk}
-use Rattle.dcsctp_machine.specs.CallTurns.{Turned, IsTurn, Turns, AfterChunk, ChunkTurns, after_all}
-use Rattle.dcsctp_machine.specs.Endpoint.{Endpoint, Core, closed, cookie_wait, cookie_echoed, open_in, shutdown_pending, shutdown_received}
-use Rattle.dcsctp_machine.specs.Following.{Following, next_chunk, packet_end, dropped_rest}
-use Rattle.dcsctp_machine.specs.Laws.{ChunksAreControlled}
-use Rattle.dcsctp_machine.specs.Outcome.{Outcome, still, to_peer}
-use Rattle.dcsctp_machine.specs.Packet.{Plain, unknown, heartbeat, heartbeat_ack, unworked, Content, init, init_ack, cookie_echo, cookie_ack, re_config, abort, shutdown, shutdown_ack, shutdown_complete, plain}
-use Rattle.dcsctp_machine.specs.Reconfiguration.{ResetParameter}
-use Rattle.dcsctp_machine.specs.Turn.{chunk_input, packet_ends, ContentTurn}
-use Rattle.dcsctp_machine.specs.control.Acts.{flush_change, plain_change}
-use Rattle.dcsctp_machine.specs.control.Choices.{Choices}
-use Rattle.dcsctp_machine.specs.control.Effect.{link_in}
-use Rattle.dcsctp_machine.specs.control.ResetChanges.{re_config_change}
-use Rattle.dcsctp_machine.specs.control.ShutdownChanges.{shutdown_step_change}
-use Rattle.dcsctp_machine.specs.transfer.Arrivals.{data_arrival, i_data_arrival, skipped_in, messages_skipped_in}
-use Rattle.dcsctp_machine.specs.turns.HeartbeatOutcomes.{heartbeat_outcome, heartbeat_ack_outcome, answered, info_in, counter_of}
-use Rattle.dcsctp_machine.specs.turns.PlainOutcomes.{violation_by, violation_at, PlainTurnBy, is_reported, after_unknown, unknown_bytes, unknown_told, unknown_outcome, error_outcome}
-use Rattle.dcsctp_machine.proofs.DataLemmas.{chosen, FlushedAt, data_at, forward_at, end_at}
-use Rattle.dcsctp_machine.proofs.SackLemmas.{SteppedAt, sack_at}
-use Rattle.dcsctp_machine_refinement.proofs.Bursts.{emits_core}
+use Rattle.dcsctp_spec_lemmas.specs.wire.Content.{ParameterContent, data_chunk, i_data_chunk, sack_chunk, error_chunk, forward_tsn_chunk, i_forward_tsn_chunk}
+use Rattle.dcsctp_spec_lemmas.specs.types.declared.capabilities.Capabilities.{Capabilities}
+use Rattle.dcsctp_spec_lemmas.specs.types.declared.ends.Violation.{Violation}
+use Rattle.dcsctp_spec_lemmas.specs.spec.endpoint.Cause.{Cause}
+use Rattle.dcsctp_spec_lemmas.specs.spec.association.Controlled.{IsControlled, ControlledChunk}
+use Rattle.dcsctp_spec_lemmas.specs.spec.endpoint.CallTurns.{Turned, IsTurn, Turns, AfterChunk, ChunkTurns, after_all}
+use Rattle.dcsctp_spec_lemmas.specs.spec.endpoint.Endpoint.{Endpoint, Core, closed, cookie_wait, cookie_echoed, open_in, shutdown_pending, shutdown_received}
+use Rattle.dcsctp_spec_lemmas.specs.spec.endpoint.Following.{Following, next_chunk, packet_end, dropped_rest}
+use Rattle.dcsctp_spec_laws.specs.TurnLaws.{ChunksAreControlled}
+use Rattle.dcsctp_spec_lemmas.specs.spec.endpoint.Outcome.{Outcome, still, to_peer}
+use Rattle.dcsctp_spec_lemmas.specs.spec.Packet.{Plain, unknown, heartbeat, heartbeat_ack, unworked, Content, init, init_ack, cookie_echo, cookie_ack, re_config, abort, shutdown, shutdown_ack, shutdown_complete, plain}
+use Rattle.dcsctp_spec_lemmas.specs.spec.Reconfiguration.{ResetParameter}
+use Rattle.dcsctp_spec_lemmas.specs.spec.endpoint.Turn.{chunk_input, packet_ends, ContentTurn}
+use Rattle.dcsctp_spec_lemmas.specs.spec.association.Acts.{flush_change, plain_change}
+use Rattle.dcsctp_spec_lemmas.specs.spec.association.Choices.{Choices}
+use Rattle.dcsctp_spec_lemmas.specs.spec.association.Effect.{link_in}
+use Rattle.dcsctp_spec_lemmas.specs.spec.association.ResetChanges.{re_config_change}
+use Rattle.dcsctp_spec_lemmas.specs.spec.association.ShutdownChanges.{shutdown_step_change}
+use Rattle.dcsctp_spec_lemmas.specs.spec.queues.Arrivals.{data_arrival, i_data_arrival, skipped_in, messages_skipped_in}
+use Rattle.dcsctp_spec_lemmas.specs.spec.endpoint.HeartbeatOutcomes.{heartbeat_outcome, heartbeat_ack_outcome, answered, info_in, counter_of}
+use Rattle.dcsctp_spec_lemmas.specs.spec.endpoint.PlainOutcomes.{violation_by, violation_at, PlainTurnBy, is_reported, after_unknown, unknown_bytes, unknown_told, unknown_outcome, error_outcome}
+use Rattle.dcsctp_spec_laws.proofs.DataLemmas.{chosen, FlushedAt, data_at, forward_at, end_at}
+use Rattle.dcsctp_spec_laws.proofs.SackLemmas.{SteppedAt, sack_at}
+use Rattle.dcsctp_theorem_sockets.proofs.Bursts.{emits_core}
 use Rattle.dcsctp_delivery_turns.specs.Actions.{IsOpening}
 use Rattle.dcsctp_delivery_sockets.specs.Echoes.{MayFollow, AllMayFollow}
 use Rattle.dcsctp_delivery_shown.proofs.Allowed.{MayGo, Allowed, AllAllowed}

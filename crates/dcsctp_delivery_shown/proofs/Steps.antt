@@ -2,24 +2,24 @@
 use Rattle.std.proofs.Common.{◌≡◌, ℕ, zero, suc, List, [], ◌∷◌, refl, sym, subst}
 use Rattle.std.specs.Prelude.{Option, None, Some}
 use Rattle.std.specs.List.{slice_get}
-use Rattle.dcsctp_wire.specs.Content.{PacketContent}
-use Rattle.dcsctp_wire.specs.Format.{IsPacket}
-use Rattle.dcsctp_machine.specs.declared.capabilities.Capabilities.{Capabilities}
-use Rattle.dcsctp_machine.specs.declared.options.Options.{Options}
-use Rattle.dcsctp_machine.specs.CallTurns.{Turned, HandleInput, AlongTurns, events_of}
-use Rattle.dcsctp_machine.specs.Endpoint.{Endpoint}
-use Rattle.dcsctp_machine.specs.Event.{Event, sent, packets_in}
-use Rattle.dcsctp_machine.specs.Fitting.{AllSent, FitsEndpoint, IsSendable}
-use Rattle.dcsctp_machine.specs.Offer.{Offer, offer_of, negotiated}
-use Rattle.dcsctp_machine.specs.Packet.{Content, re_config, plain, packet_in, Emission, emission_bytes}
-use Rattle.dcsctp_machine.specs.Schedule.{StepContent, call_step, delivery_step}
-use Rattle.dcsctp_machine.specs.Settings.{SameOptions, FitsOptions, wire_options, ports_of}
-use Rattle.dcsctp_machine.specs.Sockets.{endpoint_after, packets_shown, DeliveryTurns, StepTurns}
-use Rattle.dcsctp_machine.specs.control.Effect.{Link, Effect, sends}
-use Rattle.dcsctp_machine_agreement.proofs.Facts.{Behind, AllBehind, TrueContents, TruePast}
-use Rattle.dcsctp_machine_agreement.proofs.Growth.{true_of}
-use Rattle.dcsctp_machine_refinement.proofs.Deliver.{IsSent, sent_at, reads_as_sent}
-use Rattle.dcsctp_machine_refinement.proofs.Follow.{Went}
+use Rattle.dcsctp_spec_lemmas.specs.wire.Content.{PacketContent}
+use Rattle.dcsctp_spec_lemmas.specs.wire.Format.{IsPacket}
+use Rattle.dcsctp_spec_lemmas.specs.types.declared.capabilities.Capabilities.{Capabilities}
+use Rattle.dcsctp_spec_lemmas.specs.types.declared.options.Options.{Options}
+use Rattle.dcsctp_spec_lemmas.specs.spec.endpoint.CallTurns.{Turned, HandleInput, AlongTurns, events_of}
+use Rattle.dcsctp_spec_lemmas.specs.spec.endpoint.Endpoint.{Endpoint}
+use Rattle.dcsctp_spec_lemmas.specs.spec.endpoint.Event.{Event, sent, packets_in}
+use Rattle.dcsctp_spec_runs.specs.Fitting.{AllSent, FitsEndpoint, IsSendable}
+use Rattle.dcsctp_spec_lemmas.specs.types.Offer.{Offer, offer_of, negotiated}
+use Rattle.dcsctp_spec_lemmas.specs.spec.Packet.{Content, re_config, plain, packet_in, Emission, emission_bytes}
+use Rattle.dcsctp_spec_lemmas.specs.types.Schedule.{StepContent, call_step, delivery_step}
+use Rattle.dcsctp_spec_lemmas.specs.types.Settings.{SameOptions, FitsOptions, wire_options, ports_of}
+use Rattle.dcsctp_spec_runs.specs.Sockets.{endpoint_after, packets_shown, DeliveryTurns, StepTurns}
+use Rattle.dcsctp_spec_lemmas.specs.spec.association.Effect.{Link, Effect, sends}
+use Rattle.dcsctp_theorem_association.proofs.Facts.{Behind, AllBehind, TrueContents, TruePast}
+use Rattle.dcsctp_theorem_association.proofs.Growth.{true_of}
+use Rattle.dcsctp_theorem_sockets.proofs.Deliver.{IsSent, sent_at, reads_as_sent}
+use Rattle.dcsctp_theorem_sockets.proofs.Follow.{Went}
 use Rattle.dcsctp_delivery_sockets.specs.Echoes.{MayFollow, AllMayFollow}
 use Rattle.dcsctp_delivery_sockets.proofs.Delivery.{DeliveryLaws}
 use Rattle.dcsctp_delivery_sockets.proofs.Known.{IsOwn}

@@ -1,10 +1,10 @@
 -- What a user reads is what its peer's user sent, throughout each run of two sockets, by what the sockets show.
 use Rattle.std.specs.Prelude.{List, [], ◌∷◌}
-use Rattle.dcsctp_machine.specs.declared.options.Options.{Options}
-use Rattle.dcsctp_machine.specs.declared.schedule.Side.{Side}
-use Rattle.dcsctp_machine.specs.Schedule.{AreHonest}
-use Rattle.dcsctp_machine.specs.Sockets.{Worked, Both, of_side, turns_after, SocketRun, acts_of}
-use Rattle.dcsctp_machine_refinement.specs.Agreement.{AreUsable, AreFresh}
+use Rattle.dcsctp_spec_lemmas.specs.types.declared.options.Options.{Options}
+use Rattle.dcsctp_spec_lemmas.specs.types.declared.schedule.Side.{Side}
+use Rattle.dcsctp_spec_lemmas.specs.types.Schedule.{AreHonest}
+use Rattle.dcsctp_spec_runs.specs.Sockets.{Worked, Both, of_side, turns_after, SocketRun, acts_of}
+use Rattle.dcsctp_theorem_sockets.specs.Agreement.{AreUsable, AreFresh}
 use Rattle.dcsctp_delivery_sockets.specs.Delivery.{AreInMemory, SendsLittle, NoneRefused, Delivers}
 use Rattle.dcsctp_delivery_shown.specs.Shown.{ShownTagsServeOnce}
 

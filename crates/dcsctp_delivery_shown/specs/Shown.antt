@@ -1,15 +1,15 @@
 -- The associations that a socket shows after each act, and that each verification tag serves one of them (RFC 9260, section 5.3.1).
 use Rattle.std.specs.Prelude.{◌≡◌, ◌≢◌, ◌⊎◌, Option, None, Some, List, [], ◌∷◌, map}
-use Rattle.dcsctp_machine.specs.declared.association.Association.{Association}
-use Rattle.dcsctp_machine.specs.declared.association.Held.{Held}
-use Rattle.dcsctp_machine.specs.declared.association.Pair.{Pair}
-use Rattle.dcsctp_machine.specs.declared.options.Options.{Options}
-use Rattle.dcsctp_machine.specs.declared.schedule.Side.{Side}
-use Rattle.dcsctp_machine.specs.declared.schedule.Side.TheVariants as sides
-use Rattle.dcsctp_machine.specs.Schedule.{AreHonest}
-use Rattle.dcsctp_machine.specs.Sockets.{Worked, Both, turns_after, SocketRun, acts_of, associations_of}
-use Rattle.dcsctp_machine.specs.control.Effect.{Link, link_of}
-use Rattle.dcsctp_machine_refinement.specs.Agreement.{AreUsable, AreFresh}
+use Rattle.dcsctp_spec_lemmas.specs.types.declared.association.Association.{Association}
+use Rattle.dcsctp_spec_lemmas.specs.types.declared.association.Held.{Held}
+use Rattle.dcsctp_spec_lemmas.specs.types.declared.association.Pair.{Pair}
+use Rattle.dcsctp_spec_lemmas.specs.types.declared.options.Options.{Options}
+use Rattle.dcsctp_spec_lemmas.specs.types.declared.schedule.Side.{Side}
+use Rattle.dcsctp_spec_lemmas.specs.types.declared.schedule.Side.TheVariants as sides
+use Rattle.dcsctp_spec_lemmas.specs.types.Schedule.{AreHonest}
+use Rattle.dcsctp_spec_runs.specs.Sockets.{Worked, Both, turns_after, SocketRun, acts_of, associations_of}
+use Rattle.dcsctp_spec_lemmas.specs.spec.association.Effect.{Link, link_of}
+use Rattle.dcsctp_theorem_sockets.specs.Agreement.{AreUsable, AreFresh}
 use Rattle.dcsctp_delivery_sockets.specs.Delivery.{TagsServeOnce}
 
 -- ---- what is shown

@@ -4,11 +4,12 @@ ghost use Rattle.dcsctp_delivery_shown.specs.Delivery.{UsersReadWhatWasSent};
 ghost use Rattle.dcsctp_delivery_shown.specs.Shown.{ShownTagsSuffice};
 
 use dcsctp_delivery_sockets::sockets_deliver;
-use dcsctp_machine::{
-    acts_are_controlled, admitted_packets_may_be_worked, answer_keeps_agreement,
-    chunks_are_controlled, offer_reads_back, packets_are_controlled,
+use dcsctp_spec_laws::{acts_are_controlled, chunks_are_controlled};
+use dcsctp_spec_runs::{
+    admitted_packets_may_be_worked, answer_keeps_agreement, offer_reads_back,
+    packets_are_controlled,
 };
-use dcsctp_machine_agreement::effects_mean;
+use dcsctp_theorem_association::effects_mean;
 use dcsctp_wire_laws::built_packet_reads_as_itself;
 
 /// If each verification tag serves one association among those that two sockets show after each act, it serves one

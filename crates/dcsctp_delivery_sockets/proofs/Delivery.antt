@@ -3,27 +3,27 @@ use Rattle.std.proofs.Common.{◌≡◌, ℕ, zero, suc, List, [], ◌∷◌, �
 use Rattle.std.specs.Prelude.{Option, None, Some}
 use Rattle.std.specs.List.{slice_get}
 use Rattle.std.proofs.lemmas.List.{append-nil}
-use Rattle.dcsctp_wire.specs.Content.{PacketContent}
-use Rattle.dcsctp_wire.specs.Format.{IsPacket}
-use Rattle.dcsctp_machine.specs.declared.options.Options.{Options}
-use Rattle.dcsctp_machine.specs.declared.schedule.Side.{Side}
-use Rattle.dcsctp_machine.specs.declared.schedule.Side.TheVariants as sides
-use Rattle.dcsctp_machine.specs.Schedule.{StepContent, call_step, delivery_step, ActContent, step_act, outside_act, IsHonestAct, AreHonest}
-use Rattle.dcsctp_machine.specs.Settings.{FitsOptions, wire_options, ports_of}
-use Rattle.dcsctp_machine.specs.CallTurns.{Turned, HandleInput, events_of}
-use Rattle.dcsctp_machine.specs.Endpoint.{Endpoint, fresh_endpoint}
-use Rattle.dcsctp_machine.specs.Event.{Event, sent, packets_in}
-use Rattle.dcsctp_machine.specs.Fitting.{OfSent, AllSent, FitsEndpoint, IsSendable}
-use Rattle.dcsctp_machine.specs.Laws.{AnswerKeepsAgreement}
-use Rattle.dcsctp_machine.specs.Packet.{packet_in, Emission, emission_bytes}
-use Rattle.dcsctp_machine.specs.Sockets.{Worked, Both, of_side, of_other, side_of, with_turns, turns_after, endpoint_after, packets_shown, DeliveryTurns, StepTurns, SocketRun, side_of_act, NextTurns, acts_of}
-use Rattle.dcsctp_machine.proofs.AlongLemmas.{run_along}
-use Rattle.dcsctp_machine_refinement.specs.Agreement.{AreUsable, AreFresh, noted_past}
-use Rattle.dcsctp_machine_refinement.proofs.Deliver.{IsSent, sent_at, reads_as_sent}
-use Rattle.dcsctp_machine_refinement.proofs.Moves.{Below}
-use Rattle.dcsctp_machine_refinement.proofs.Sent.{all_sent_map}
-use Rattle.dcsctp_machine_refinement.proofs.SocketsAgree.{Joined, joined}
-use Rattle.dcsctp_machine_refinement.proofs.SocketsAlone.{MoveLaws, of_moves}
+use Rattle.dcsctp_spec_lemmas.specs.wire.Content.{PacketContent}
+use Rattle.dcsctp_spec_lemmas.specs.wire.Format.{IsPacket}
+use Rattle.dcsctp_spec_lemmas.specs.types.declared.options.Options.{Options}
+use Rattle.dcsctp_spec_lemmas.specs.types.declared.schedule.Side.{Side}
+use Rattle.dcsctp_spec_lemmas.specs.types.declared.schedule.Side.TheVariants as sides
+use Rattle.dcsctp_spec_lemmas.specs.types.Schedule.{StepContent, call_step, delivery_step, ActContent, step_act, outside_act, IsHonestAct, AreHonest}
+use Rattle.dcsctp_spec_lemmas.specs.types.Settings.{FitsOptions, wire_options, ports_of}
+use Rattle.dcsctp_spec_lemmas.specs.spec.endpoint.CallTurns.{Turned, HandleInput, events_of}
+use Rattle.dcsctp_spec_lemmas.specs.spec.endpoint.Endpoint.{Endpoint, fresh_endpoint}
+use Rattle.dcsctp_spec_lemmas.specs.spec.endpoint.Event.{Event, sent, packets_in}
+use Rattle.dcsctp_spec_runs.specs.Fitting.{OfSent, AllSent, FitsEndpoint, IsSendable}
+use Rattle.dcsctp_spec_runs.specs.Laws.{AnswerKeepsAgreement}
+use Rattle.dcsctp_spec_lemmas.specs.spec.Packet.{packet_in, Emission, emission_bytes}
+use Rattle.dcsctp_spec_runs.specs.Sockets.{Worked, Both, of_side, of_other, side_of, with_turns, turns_after, endpoint_after, packets_shown, DeliveryTurns, StepTurns, SocketRun, side_of_act, NextTurns, acts_of}
+use Rattle.dcsctp_spec_runs.proofs.RunsAlong.{run_along}
+use Rattle.dcsctp_theorem_sockets.specs.Agreement.{AreUsable, AreFresh, noted_past}
+use Rattle.dcsctp_theorem_sockets.proofs.Deliver.{IsSent, sent_at, reads_as_sent}
+use Rattle.dcsctp_theorem_sockets.proofs.Moves.{Below}
+use Rattle.dcsctp_theorem_sockets.proofs.Sent.{all_sent_map}
+use Rattle.dcsctp_theorem_sockets.proofs.SocketsAgree.{Joined, joined}
+use Rattle.dcsctp_theorem_sockets.proofs.SocketsAlone.{MoveLaws, of_moves}
 use Rattle.dcsctp_delivery_sending.specs.Places as places
 use Rattle.dcsctp_delivery_associations.specs.Reads.{messages_of}
 use Rattle.dcsctp_delivery_directions.specs.Directions.{Delivered}

@@ -1,26 +1,26 @@
 -- The COOKIE ECHO that a socket sends goes to the tag of its cookie's maker.
 use Rattle.std.proofs.Common.{◌≡◌, refl, sym, subst, ℕ, List, [], ◌∷◌}
-use Rattle.dcsctp_machine.specs.declared.options.Options.{Options}
-use Rattle.dcsctp_machine.specs.declared.schedule.Side.{Side}
-use Rattle.dcsctp_machine.specs.declared.schedule.Side.TheVariants as sides
-use Rattle.dcsctp_machine.specs.Offer.{Offer, offer_of}
-use Rattle.dcsctp_machine.specs.Packet.{Content, init, init_ack, cookie_echo, cookie_ack, re_config, abort, shutdown, shutdown_ack, shutdown_complete, plain, Emission}
-use Rattle.dcsctp_machine.specs.CallTurns.{events_of}
-use Rattle.dcsctp_machine.specs.control.Effect.{Effect, sends, Change}
-use Rattle.dcsctp_machine.specs.Fitting.{AllSent}
-use Rattle.dcsctp_machine.specs.Laws.{AnswerKeepsAgreement}
-use Rattle.dcsctp_machine.specs.Past.{HasFreshTags}
-use Rattle.dcsctp_machine.specs.World.{SideState, after_changes, after_change, Which, at_a, at_b, Move, MoveChanges, Step, World, step_after, world_after, StepChanges, Run}
-use Rattle.dcsctp_machine.specs.Sockets.{Worked, Both, of_side, turns_after}
-use Rattle.dcsctp_machine_agreement.proofs.Agreement.{TrueWorld, FreshWorld}
-use Rattle.dcsctp_machine_agreement.proofs.Facts.{TrueFront, Behind, AllBehind, TrueContents, TruePast}
-use Rattle.dcsctp_machine_agreement.proofs.Growth.{true_of}
-use Rattle.dcsctp_machine_agreement.proofs.MovesKept.{TrueSide, move_true_after, true_beside, fresh_before_changes}
-use Rattle.dcsctp_machine_refinement.specs.Agreement.{AreFresh}
-use Rattle.dcsctp_machine_refinement.proofs.Follow.{Went}
-use Rattle.dcsctp_machine_refinement.proofs.Moves.{Below}
-use Rattle.dcsctp_machine_refinement.proofs.Sent.{all_sent_map}
-use Rattle.dcsctp_machine_refinement.proofs.SocketsAgree.{Joined, joined}
+use Rattle.dcsctp_spec_lemmas.specs.types.declared.options.Options.{Options}
+use Rattle.dcsctp_spec_lemmas.specs.types.declared.schedule.Side.{Side}
+use Rattle.dcsctp_spec_lemmas.specs.types.declared.schedule.Side.TheVariants as sides
+use Rattle.dcsctp_spec_lemmas.specs.types.Offer.{Offer, offer_of}
+use Rattle.dcsctp_spec_lemmas.specs.spec.Packet.{Content, init, init_ack, cookie_echo, cookie_ack, re_config, abort, shutdown, shutdown_ack, shutdown_complete, plain, Emission}
+use Rattle.dcsctp_spec_lemmas.specs.spec.endpoint.CallTurns.{events_of}
+use Rattle.dcsctp_spec_lemmas.specs.spec.association.Effect.{Effect, sends, Change}
+use Rattle.dcsctp_spec_runs.specs.Fitting.{AllSent}
+use Rattle.dcsctp_spec_runs.specs.Laws.{AnswerKeepsAgreement}
+use Rattle.dcsctp_spec_runs.specs.Past.{HasFreshTags}
+use Rattle.dcsctp_spec_runs.specs.World.{SideState, after_changes, after_change, Which, at_a, at_b, Move, MoveChanges, Step, World, step_after, world_after, StepChanges, Run}
+use Rattle.dcsctp_spec_runs.specs.Sockets.{Worked, Both, of_side, turns_after}
+use Rattle.dcsctp_theorem_association.proofs.Agreement.{TrueWorld, FreshWorld}
+use Rattle.dcsctp_theorem_association.proofs.Facts.{TrueFront, Behind, AllBehind, TrueContents, TruePast}
+use Rattle.dcsctp_theorem_association.proofs.Growth.{true_of}
+use Rattle.dcsctp_theorem_association.proofs.MovesKept.{TrueSide, move_true_after, true_beside, fresh_before_changes}
+use Rattle.dcsctp_theorem_sockets.specs.Agreement.{AreFresh}
+use Rattle.dcsctp_theorem_sockets.proofs.Follow.{Went}
+use Rattle.dcsctp_theorem_sockets.proofs.Moves.{Below}
+use Rattle.dcsctp_theorem_sockets.proofs.Sent.{all_sent_map}
+use Rattle.dcsctp_theorem_sockets.proofs.SocketsAgree.{Joined, joined}
 use Rattle.dcsctp_delivery_sockets.specs.Echoes.{FrontGoes, MayFollow, AllMayFollow, ContentsGo, GoesToMaker, EchoesGoToMakers}
 
 -- ---- what is true over a run of the machine

@@ -2,33 +2,33 @@
 use Rattle.std.proofs.Common.{◌≡◌, ◌==◌, ℕ, Bool, true, false, Some, List, [], ◌∷◌, ◌++◌, refl, sym, ◌∙◌, ap, subst}
 use Rattle.std.specs.Prelude.{if◌then◌else◌}
 use Rattle.std.proofs.lemmas.Bool.Decides.{Decides-eqb}
-use Rattle.dcsctp_wire.specs.declared.reconfiguration.ReconfigurationResponseResult.{ReconfigurationResponseResult}
-use Rattle.dcsctp_wire.specs.declared.reconfiguration.ReconfigurationResponseResult.TheVariants.{InProgress}
-use Rattle.dcsctp_machine.specs.declared.association.Held.{Held}
-use Rattle.dcsctp_machine.specs.declared.association.Pair.{Pair}
-use Rattle.dcsctp_machine.specs.declared.options.Options.{Options}
-use Rattle.dcsctp_machine.specs.CallTurns.{Turned, AlongTurns, after_all, effects_of}
-use Rattle.dcsctp_machine.specs.Endpoint.{Endpoint, Core, closed, cookie_wait, cookie_echoed, open_in, fresh_endpoint}
-use Rattle.dcsctp_machine.specs.Packet.{re_config}
-use Rattle.dcsctp_machine.specs.Past.{Each, InPlace, number_to_perform}
-use Rattle.dcsctp_machine.specs.Reconfiguration.{ResetParameter, outgoing_reset_request, reconfiguration_response}
-use Rattle.dcsctp_machine.specs.Settings.{SameOptions}
-use Rattle.dcsctp_machine.specs.World.{SideState, after_effects, ControlTurn, acted, worked, resumed, SideRun, side_after}
-use Rattle.dcsctp_machine.specs.control.Acts.{Act, connect, t1_expires, shut_down, step_of_shutdown, shutdown_repeats, abort_with, hands_over, flushes, request_again, act_change, chunk_change}
-use Rattle.dcsctp_machine.specs.control.Choices.{Choices, idle_choices}
-use Rattle.dcsctp_machine.specs.control.Effect.{Effect, performs, noted, Change}
-use Rattle.dcsctp_machine.specs.control.FlushChanges.{next_number}
-use Rattle.dcsctp_machine.specs.control.ResetChanges.{again, next, astray, place_of, Answered, repeated, outgoing_by, reset_sent}
-use Rattle.dcsctp_machine.specs.control.ResetChanges as resets
-use Rattle.dcsctp_machine.proofs.DeliveryLemmas.{longest_connects, chunk_same}
-use Rattle.dcsctp_machine.proofs.TurnLemmas.{same_after}
-use Rattle.dcsctp_machine_agreement.specs.OneSide.{Leaves, LeavesHeld}
-use Rattle.dcsctp_machine_agreement.proofs.Growth.{after_effects-append}
-use Rattle.dcsctp_machine_agreement.proofs.OneSideTurns.{effects_in_place, past_is_state}
-use Rattle.dcsctp_machine_refinement.proofs.Follow.{noted_after}
-use Rattle.dcsctp_machine_refinement.proofs.NotedLemmas.{number_to_accept-noted, in_place-noted}
-use Rattle.dcsctp_machine_refinement.proofs.SocketsAlone.{Moves, it_rests, it_moves}
-use Rattle.dcsctp_machine_refinement.proofs.TimeMoves.{longest_expires}
+use Rattle.dcsctp_spec_lemmas.specs.wire.declared.reconfiguration.ReconfigurationResponseResult.{ReconfigurationResponseResult}
+use Rattle.dcsctp_spec_lemmas.specs.wire.declared.reconfiguration.ReconfigurationResponseResult.TheVariants.{InProgress}
+use Rattle.dcsctp_spec_lemmas.specs.types.declared.association.Held.{Held}
+use Rattle.dcsctp_spec_lemmas.specs.types.declared.association.Pair.{Pair}
+use Rattle.dcsctp_spec_lemmas.specs.types.declared.options.Options.{Options}
+use Rattle.dcsctp_spec_lemmas.specs.spec.endpoint.CallTurns.{Turned, AlongTurns, after_all, effects_of}
+use Rattle.dcsctp_spec_lemmas.specs.spec.endpoint.Endpoint.{Endpoint, Core, closed, cookie_wait, cookie_echoed, open_in, fresh_endpoint}
+use Rattle.dcsctp_spec_lemmas.specs.spec.Packet.{re_config}
+use Rattle.dcsctp_spec_runs.specs.Past.{Each, InPlace, number_to_perform}
+use Rattle.dcsctp_spec_lemmas.specs.spec.Reconfiguration.{ResetParameter, outgoing_reset_request, reconfiguration_response}
+use Rattle.dcsctp_spec_lemmas.specs.types.Settings.{SameOptions}
+use Rattle.dcsctp_spec_runs.specs.World.{SideState, after_effects, ControlTurn, acted, worked, resumed, SideRun, side_after}
+use Rattle.dcsctp_spec_lemmas.specs.spec.association.Acts.{Act, connect, t1_expires, shut_down, step_of_shutdown, shutdown_repeats, abort_with, hands_over, flushes, request_again, act_change, chunk_change}
+use Rattle.dcsctp_spec_lemmas.specs.spec.association.Choices.{Choices, idle_choices}
+use Rattle.dcsctp_spec_lemmas.specs.spec.association.Effect.{Effect, performs, noted, Change}
+use Rattle.dcsctp_spec_lemmas.specs.spec.association.FlushChanges.{next_number}
+use Rattle.dcsctp_spec_lemmas.specs.spec.association.ResetChanges.{again, next, astray, place_of, Answered, repeated, outgoing_by, reset_sent}
+use Rattle.dcsctp_spec_lemmas.specs.spec.association.ResetChanges as resets
+use Rattle.dcsctp_spec_runs.proofs.DeliveryLemmas.{longest_connects, chunk_same}
+use Rattle.dcsctp_spec_laws.proofs.TurnLemmas.{same_after}
+use Rattle.dcsctp_theorem_association.specs.OneSide.{Leaves, LeavesHeld}
+use Rattle.dcsctp_theorem_association.proofs.Growth.{after_effects-append}
+use Rattle.dcsctp_theorem_association.proofs.OneSideTurns.{effects_in_place, past_is_state}
+use Rattle.dcsctp_theorem_sockets.proofs.Follow.{noted_after}
+use Rattle.dcsctp_theorem_sockets.proofs.NotedLemmas.{number_to_accept-noted, in_place-noted}
+use Rattle.dcsctp_theorem_sockets.proofs.SocketsAlone.{Moves, it_rests, it_moves}
+use Rattle.dcsctp_theorem_sockets.proofs.TimeMoves.{longest_expires}
 use Rattle.dcsctp_delivery_turns.specs.PeerRequests.{KnowsPeer, KnowsPeerIn}
 
 -- ---- a request in progress

@@ -2,25 +2,26 @@
 use Rattle.std.proofs.Common.{◌≡◌, ◌≢◌, ◌⊎◌, ℕ, Bool, true, false, ◌≤◌, ◌-◌, ◌^◌, List, [], ◌∷◌, ◌++◌, refl, sym, ap, arith, subst, inl, inr}
 use Rattle.std.specs.Prelude.{Some}
 use Rattle.std.specs.List.{AllByRecursion}
-use Rattle.dcsctp_wire.specs.Content.{PacketContent}
-use Rattle.dcsctp_wire.specs.Format.{IsPacket}
-use Rattle.dcsctp_machine.specs.declared.association.Pair.{Pair}
-use Rattle.dcsctp_machine.specs.declared.options.Options.{Options}
-use Rattle.dcsctp_machine.specs.Settings.{wire_options}
-use Rattle.dcsctp_machine.specs.Admission.{Admission, all_chunks, shutdown_acks_alone, refused, admits, shutdown_acks_in}
-use Rattle.dcsctp_machine.specs.CallTurns.{Turned, IsTurn, Turns, AlongTurns, AdmittedTurns, HandleInput, unreadable, readable, effects_of}
-use Rattle.dcsctp_machine.specs.Endpoint.{Endpoint, Core, closed, cookie_wait, cookie_echoed, open_in, established, shutdown_pending, shutdown_sent, shutdown_received, shutdown_ack_sent}
-use Rattle.dcsctp_machine.specs.Fitting.{FitsCore, FitsEndpoint, SendablePacket, IsSendable}
-use Rattle.dcsctp_machine.specs.Laws.{FitsPair, OfferReadsBack}
-use Rattle.dcsctp_machine.specs.Outcome.{Outcome}
-use Rattle.dcsctp_machine.specs.Packet.{Packet, packet_in, Emission}
-use Rattle.dcsctp_machine.specs.Past.{Has, Each}
-use Rattle.dcsctp_machine.specs.Turn.{Input, arrival, refusal, packet_begins, chunk_input, packet_ends, act_input, user_sets, user_sends, user_resets, user_takes, timer_expires, time_passes, restores, has_data, BeginTurn, unreadable_text}
-use Rattle.dcsctp_machine.specs.World.{after_effects}
-use Rattle.dcsctp_machine.specs.control.Effect.{Link, Effect, holds, completes, performs, link_of, link_in}
-use Rattle.dcsctp_machine_agreement.proofs.Growth.{after_effects-append, after_within}
-use Rattle.dcsctp_machine_refinement.proofs.Deliver.{Fits, chunk_turns_fit, packet_end_fits, nothing_ends, acks_sendable}
-use Rattle.dcsctp_machine_refinement.proofs.Signs.{among_after}
+use Rattle.dcsctp_spec_lemmas.specs.wire.Content.{PacketContent}
+use Rattle.dcsctp_spec_lemmas.specs.wire.Format.{IsPacket}
+use Rattle.dcsctp_spec_lemmas.specs.types.declared.association.Pair.{Pair}
+use Rattle.dcsctp_spec_lemmas.specs.types.declared.options.Options.{Options}
+use Rattle.dcsctp_spec_lemmas.specs.types.Settings.{wire_options}
+use Rattle.dcsctp_spec_lemmas.specs.spec.Admission.{Admission, all_chunks, shutdown_acks_alone, refused, admits, shutdown_acks_in}
+use Rattle.dcsctp_spec_lemmas.specs.spec.endpoint.CallTurns.{Turned, IsTurn, Turns, AlongTurns, AdmittedTurns, HandleInput, unreadable, readable, effects_of}
+use Rattle.dcsctp_spec_lemmas.specs.spec.endpoint.Endpoint.{Endpoint, Core, closed, cookie_wait, cookie_echoed, open_in, established, shutdown_pending, shutdown_sent, shutdown_received, shutdown_ack_sent}
+use Rattle.dcsctp_spec_runs.specs.Fitting.{FitsCore, FitsEndpoint, SendablePacket, IsSendable}
+use Rattle.dcsctp_spec_lemmas.specs.spec.CookieFits.{FitsPair}
+use Rattle.dcsctp_spec_runs.specs.Laws.{OfferReadsBack}
+use Rattle.dcsctp_spec_lemmas.specs.spec.endpoint.Outcome.{Outcome}
+use Rattle.dcsctp_spec_lemmas.specs.spec.Packet.{Packet, packet_in, Emission}
+use Rattle.dcsctp_spec_runs.specs.Past.{Has, Each}
+use Rattle.dcsctp_spec_lemmas.specs.spec.endpoint.Turn.{Input, arrival, refusal, packet_begins, chunk_input, packet_ends, act_input, user_sets, user_sends, user_resets, user_takes, timer_expires, time_passes, restores, has_data, BeginTurn, unreadable_text}
+use Rattle.dcsctp_spec_runs.specs.World.{after_effects}
+use Rattle.dcsctp_spec_lemmas.specs.spec.association.Effect.{Link, Effect, holds, completes, performs, link_of, link_in}
+use Rattle.dcsctp_theorem_association.proofs.Growth.{after_effects-append, after_within}
+use Rattle.dcsctp_theorem_sockets.proofs.Deliver.{Fits, chunk_turns_fit, packet_end_fits, nothing_ends, acks_sendable}
+use Rattle.dcsctp_theorem_sockets.proofs.Signs.{among_after}
 use Rattle.dcsctp_delivery_turns.specs.Actions.{came_by, IsOpening, Begun}
 use Rattle.dcsctp_delivery_associations.specs.Answered.{number_at}
 use Rattle.dcsctp_delivery_associations.specs.Ends.{NewPeer, NewTag}

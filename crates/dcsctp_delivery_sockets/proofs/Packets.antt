@@ -1,17 +1,17 @@
 -- What a receiver handles of a packet was sent in the association that handles it.
 use Rattle.std.proofs.Common.{◌≡◌, ◌≢◌, ℕ, Bool, true, false, cond, Option, None, Some, List, [], ◌∷◌, refl, sym, ◌∙◌, ap, subst, inl, inr}
 use Rattle.std.specs.Prelude.{◌⊎◌}
-use Rattle.dcsctp_wire.specs.Content.{ChunkContent, data_chunk, init_chunk, init_ack_chunk, sack_chunk, heartbeat_chunk, heartbeat_ack_chunk, abort_chunk, shutdown_chunk, shutdown_ack_chunk, error_chunk, cookie_echo_chunk, cookie_ack_chunk, shutdown_complete_chunk, i_data_chunk, re_config_chunk, forward_tsn_chunk, i_forward_tsn_chunk, unknown_chunk}
-use Rattle.dcsctp_machine.specs.declared.word.Word.{Word}
-use Rattle.dcsctp_machine.specs.declared.word.Word.TheVariants.{U64}
-use Rattle.dcsctp_machine.specs.Endpoint.{Endpoint, Core, closed, cookie_wait, cookie_echoed, open_in, own_tag}
-use Rattle.dcsctp_machine.specs.Outcome.{Outcome, quiet, fits}
-use Rattle.dcsctp_machine.specs.Packet.{Introduction, Content, init, init_ack, cookie_echo, cookie_ack, re_config, abort, shutdown, shutdown_ack, shutdown_complete, unknown, heartbeat, heartbeat_ack, unworked, plain, Emission}
-use Rattle.dcsctp_machine.specs.Reconfiguration.{ResetParameter}
-use Rattle.dcsctp_machine.specs.control.Effect.{Link, link_of, link_in}
-use Rattle.dcsctp_machine.specs.turns.FlushOutcomes.{Answer, flush_answered}
-use Rattle.dcsctp_machine.specs.turns.HandshakeOutcomes.{echo_emission, EchoAnswers, awaits_cookie_ack, InitAckAnswers, init_ack_by, InitAckTurn}
-use Rattle.dcsctp_machine.specs.Turn.{Input, Turn}
+use Rattle.dcsctp_spec_lemmas.specs.wire.Content.{ChunkContent, data_chunk, init_chunk, init_ack_chunk, sack_chunk, heartbeat_chunk, heartbeat_ack_chunk, abort_chunk, shutdown_chunk, shutdown_ack_chunk, error_chunk, cookie_echo_chunk, cookie_ack_chunk, shutdown_complete_chunk, i_data_chunk, re_config_chunk, forward_tsn_chunk, i_forward_tsn_chunk, unknown_chunk}
+use Rattle.dcsctp_spec_lemmas.specs.types.declared.word.Word.{Word}
+use Rattle.dcsctp_spec_lemmas.specs.types.declared.word.Word.TheVariants.{U64}
+use Rattle.dcsctp_spec_lemmas.specs.spec.endpoint.Endpoint.{Endpoint, Core, closed, cookie_wait, cookie_echoed, open_in, own_tag}
+use Rattle.dcsctp_spec_lemmas.specs.spec.endpoint.Outcome.{Outcome, quiet, fits}
+use Rattle.dcsctp_spec_lemmas.specs.spec.Packet.{Introduction, Content, init, init_ack, cookie_echo, cookie_ack, re_config, abort, shutdown, shutdown_ack, shutdown_complete, unknown, heartbeat, heartbeat_ack, unworked, plain, Emission}
+use Rattle.dcsctp_spec_lemmas.specs.spec.Reconfiguration.{ResetParameter}
+use Rattle.dcsctp_spec_lemmas.specs.spec.association.Effect.{Link, link_of, link_in}
+use Rattle.dcsctp_spec_lemmas.specs.spec.endpoint.FlushOutcomes.{Answer, flush_answered}
+use Rattle.dcsctp_spec_lemmas.specs.spec.endpoint.HandshakeOutcomes.{echo_emission, EchoAnswers, awaits_cookie_ack, InitAckAnswers, init_ack_by, InitAckTurn}
+use Rattle.dcsctp_spec_lemmas.specs.spec.endpoint.Turn.{Input, Turn}
 use Rattle.dcsctp_delivery_sending.specs.Places as places
 use Rattle.dcsctp_delivery_sending.specs.Flushes.{NoRequests, NoContent, NoData}
 use Rattle.dcsctp_delivery_turns.specs.Actions.{came_by, IsOpening, Becomes, goes_on, works_resets, ends, begins, IsCall}

@@ -1,28 +1,28 @@
 -- Each own request of a socket that ended as performed was performed by the other socket, or it is the 2^32nd of its association.
 use Rattle.std.proofs.Common.{◌≢◌, ℕ, List, [], ◌∷◌, ◌++◌, sym, subst, inl, inr, arith}
 use Rattle.std.specs.List.{AllByRecursion}
-use Rattle.dcsctp_machine.specs.declared.association.Pair.{Pair}
-use Rattle.dcsctp_machine.specs.declared.options.Options.{Options}
-use Rattle.dcsctp_machine.specs.declared.schedule.Side.{Side}
-use Rattle.dcsctp_machine.specs.declared.schedule.Side.TheVariants as sides
-use Rattle.dcsctp_machine.specs.Schedule.{AreHonest}
-use Rattle.dcsctp_machine.specs.Offer.{Offer, offer_of}
-use Rattle.dcsctp_machine.specs.CallTurns.{Turned, pairs_of}
-use Rattle.dcsctp_machine.specs.Laws.{AnswerKeepsAgreement}
-use Rattle.dcsctp_machine.specs.Past.{Has}
-use Rattle.dcsctp_machine.specs.Sockets.{Worked, Both, with_turns, turns_after, SocketRun, acts_of}
-use Rattle.dcsctp_machine.specs.World.{SideState, World, world_after}
-use Rattle.dcsctp_machine.specs.control.Effect.{Effect, completes, performs, noted}
-use Rattle.dcsctp_machine.proofs.TurnLemmas.{pairs_of-append}
-use Rattle.dcsctp_machine_agreement.proofs.Agreement.{TrueWorld}
-use Rattle.dcsctp_machine_agreement.proofs.Facts.{TruePast}
-use Rattle.dcsctp_machine_agreement.proofs.Growth.{true_of}
-use Rattle.dcsctp_machine_refinement.specs.Agreement.{HasDistinctTags, AreUsable, AreFresh, noted_past}
-use Rattle.dcsctp_machine_refinement.proofs.Follow.{Followed}
-use Rattle.dcsctp_machine_refinement.proofs.Moves.{Below}
-use Rattle.dcsctp_machine_refinement.proofs.NotedLemmas.{performed-noted}
-use Rattle.dcsctp_machine_refinement.proofs.OneSocket.{noted_happened}
-use Rattle.dcsctp_machine_refinement.proofs.SocketsAgree.{Joined, joined}
+use Rattle.dcsctp_spec_lemmas.specs.types.declared.association.Pair.{Pair}
+use Rattle.dcsctp_spec_lemmas.specs.types.declared.options.Options.{Options}
+use Rattle.dcsctp_spec_lemmas.specs.types.declared.schedule.Side.{Side}
+use Rattle.dcsctp_spec_lemmas.specs.types.declared.schedule.Side.TheVariants as sides
+use Rattle.dcsctp_spec_lemmas.specs.types.Schedule.{AreHonest}
+use Rattle.dcsctp_spec_lemmas.specs.types.Offer.{Offer, offer_of}
+use Rattle.dcsctp_spec_lemmas.specs.spec.endpoint.CallTurns.{Turned, pairs_of}
+use Rattle.dcsctp_spec_runs.specs.Laws.{AnswerKeepsAgreement}
+use Rattle.dcsctp_spec_runs.specs.Past.{Has}
+use Rattle.dcsctp_spec_runs.specs.Sockets.{Worked, Both, with_turns, turns_after, SocketRun, acts_of}
+use Rattle.dcsctp_spec_runs.specs.World.{SideState, World, world_after}
+use Rattle.dcsctp_spec_lemmas.specs.spec.association.Effect.{Effect, completes, performs, noted}
+use Rattle.dcsctp_spec_lemmas.proofs.TurnLists.{pairs_of-append}
+use Rattle.dcsctp_theorem_association.proofs.Agreement.{TrueWorld}
+use Rattle.dcsctp_theorem_association.proofs.Facts.{TruePast}
+use Rattle.dcsctp_theorem_association.proofs.Growth.{true_of}
+use Rattle.dcsctp_theorem_sockets.specs.Agreement.{HasDistinctTags, AreUsable, AreFresh, noted_past}
+use Rattle.dcsctp_theorem_sockets.proofs.Follow.{Followed}
+use Rattle.dcsctp_theorem_sockets.proofs.Moves.{Below}
+use Rattle.dcsctp_theorem_sockets.proofs.NotedLemmas.{performed-noted}
+use Rattle.dcsctp_theorem_sockets.proofs.OneSocket.{noted_happened}
+use Rattle.dcsctp_theorem_sockets.proofs.SocketsAgree.{Joined, joined}
 use Rattle.dcsctp_delivery_sockets.proofs.Echoes.{true_world}
 use Rattle.dcsctp_delivery_sockets.proofs.NewLinks.{AllPerformed}
 

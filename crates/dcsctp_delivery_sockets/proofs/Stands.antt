@@ -1,21 +1,22 @@
 -- What is known of all associations in one direction outlasts each act of either side.
 use Rattle.std.proofs.Common.{◌≡◌, ℕ, ◌<◌, ◌^◌, List, [], ◌∷◌, ◌++◌, length, refl, sym, ◌∙◌, ap, arith, subst}
-use Rattle.dcsctp_wire.specs.Content.{PacketContent}
-use Rattle.dcsctp_wire.specs.Format.{IsPacket}
-use Rattle.dcsctp_machine.specs.declared.options.Options.{Options}
-use Rattle.dcsctp_machine.specs.Schedule.{CallContent}
-use Rattle.dcsctp_machine.specs.Settings.{wire_options}
-use Rattle.dcsctp_machine.specs.CallTurns.{Turned, HandleInput, after_all, effects_of, events_of}
-use Rattle.dcsctp_machine.specs.Endpoint.{Endpoint, fresh_endpoint}
-use Rattle.dcsctp_machine.specs.Event.{packets_in}
-use Rattle.dcsctp_machine.specs.Packet.{packet_in, Emission}
-use Rattle.dcsctp_machine.specs.Past.{Each}
-use Rattle.dcsctp_machine.specs.Sockets.{UserTurns, endpoint_after}
-use Rattle.dcsctp_machine.specs.World.{after_effects}
-use Rattle.dcsctp_machine.specs.control.Effect.{Effect}
-use Rattle.dcsctp_machine.proofs.TurnLemmas.{after_all-append, events_of-append}
-use Rattle.dcsctp_machine_refinement.specs.Agreement.{noted_past}
-use Rattle.dcsctp_machine_refinement.proofs.Bursts.{packets_in-append}
+use Rattle.dcsctp_spec_lemmas.specs.wire.Content.{PacketContent}
+use Rattle.dcsctp_spec_lemmas.specs.wire.Format.{IsPacket}
+use Rattle.dcsctp_spec_lemmas.specs.types.declared.options.Options.{Options}
+use Rattle.dcsctp_spec_lemmas.specs.types.Schedule.{CallContent}
+use Rattle.dcsctp_spec_lemmas.specs.types.Settings.{wire_options}
+use Rattle.dcsctp_spec_lemmas.specs.spec.endpoint.CallTurns.{Turned, HandleInput, after_all, effects_of, events_of}
+use Rattle.dcsctp_spec_lemmas.specs.spec.endpoint.Endpoint.{Endpoint, fresh_endpoint}
+use Rattle.dcsctp_spec_lemmas.specs.spec.endpoint.Event.{packets_in}
+use Rattle.dcsctp_spec_lemmas.specs.spec.Packet.{packet_in, Emission}
+use Rattle.dcsctp_spec_runs.specs.Past.{Each}
+use Rattle.dcsctp_spec_lemmas.specs.spec.endpoint.UserTurns.{UserTurns}
+use Rattle.dcsctp_spec_runs.specs.Sockets.{endpoint_after}
+use Rattle.dcsctp_spec_runs.specs.World.{after_effects}
+use Rattle.dcsctp_spec_lemmas.specs.spec.association.Effect.{Effect}
+use Rattle.dcsctp_spec_lemmas.proofs.TurnLists.{after_all-append, events_of-append}
+use Rattle.dcsctp_theorem_sockets.specs.Agreement.{noted_past}
+use Rattle.dcsctp_theorem_sockets.proofs.Bursts.{packets_in-append}
 use Rattle.dcsctp_delivery_sending.specs.Log.{Message}
 use Rattle.dcsctp_delivery_sending.specs.Places as places
 use Rattle.dcsctp_delivery_turns.specs.Actions.{queued_after}

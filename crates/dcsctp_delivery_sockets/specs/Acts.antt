@@ -1,19 +1,19 @@
 -- What two sockets do one after another, and all their associations.
 use Rattle.std.specs.Prelude.{◌≡◌, ◌<◌, ◌^◌, ℕ, Some, List, [], ◌∷◌, ◌++◌, length}
 use Rattle.std.specs.List.{AllByRecursion}
-use Rattle.dcsctp_wire.specs.Content.{PacketContent}
-use Rattle.dcsctp_wire.specs.Format.{IsPacket}
-use Rattle.dcsctp_machine.specs.declared.options.Options.{Options}
-use Rattle.dcsctp_machine.specs.Schedule.{CallContent}
-use Rattle.dcsctp_machine.specs.Settings.{wire_options}
-use Rattle.dcsctp_machine.specs.CallTurns.{Turned, HandleInput, after_all, effects_of, events_of}
-use Rattle.dcsctp_machine.specs.Endpoint.{Endpoint}
-use Rattle.dcsctp_machine.specs.Event.{packets_in}
-use Rattle.dcsctp_machine.specs.Packet.{packet_in, Emission}
-use Rattle.dcsctp_machine.specs.Sockets.{UserTurns}
-use Rattle.dcsctp_machine.specs.Turn.{Turn}
-use Rattle.dcsctp_machine.specs.World.{after_effects}
-use Rattle.dcsctp_machine.specs.control.Effect.{Effect, link_of, link_in}
+use Rattle.dcsctp_spec_lemmas.specs.wire.Content.{PacketContent}
+use Rattle.dcsctp_spec_lemmas.specs.wire.Format.{IsPacket}
+use Rattle.dcsctp_spec_lemmas.specs.types.declared.options.Options.{Options}
+use Rattle.dcsctp_spec_lemmas.specs.types.Schedule.{CallContent}
+use Rattle.dcsctp_spec_lemmas.specs.types.Settings.{wire_options}
+use Rattle.dcsctp_spec_lemmas.specs.spec.endpoint.CallTurns.{Turned, HandleInput, after_all, effects_of, events_of}
+use Rattle.dcsctp_spec_lemmas.specs.spec.endpoint.Endpoint.{Endpoint}
+use Rattle.dcsctp_spec_lemmas.specs.spec.endpoint.Event.{packets_in}
+use Rattle.dcsctp_spec_lemmas.specs.spec.Packet.{packet_in, Emission}
+use Rattle.dcsctp_spec_lemmas.specs.spec.endpoint.UserTurns.{UserTurns}
+use Rattle.dcsctp_spec_lemmas.specs.spec.endpoint.Turn.{Turn}
+use Rattle.dcsctp_spec_runs.specs.World.{after_effects}
+use Rattle.dcsctp_spec_lemmas.specs.spec.association.Effect.{Effect, link_of, link_in}
 use Rattle.dcsctp_delivery_sending.specs.Log.{Message}
 use Rattle.dcsctp_delivery_sending.specs.Places as places
 use Rattle.dcsctp_delivery_turns.specs.Actions.{came_by, queued_after, IsOpening, Begun, IsCall}
@@ -35,7 +35,7 @@ AreTurns e [] = Unit {0}
 AreTurns e (turn ∷ turns) = Turn e turn.input turn.outcome × AreTurns turn.outcome.after turns
 
 -- Each input is a call, a timer or a chunk; and an association that begins has a peer of a new tag, and the matching one at the other side.
--- With interleaving no own request to reset streams is refused. Each that ends as performed was performed at the other side, or it is the
+-- With interleaving no own request to reset streams fails. Each that ends as performed was performed at the other side, or it is the
 -- 2^32nd of its association.
 abbrev pub AreNewPeers : List Effect → List Effect → Endpoint → List Turned → Type 0
 AreNewPeers past their_past e [] = Unit {0}

@@ -1,17 +1,17 @@
 -- What a user reads is what its peer's user sent, over every list of honest acts of two sockets, with interleaving or without.
 use Rattle.std.specs.Prelude.{◌≡◌, ◌≢◌, ◌⊎◌, ◌<◌, ◌-◌, ◌^◌, ℕ, List, length}
 use Rattle.std.specs.List.{AllByRecursion}
-use Rattle.dcsctp_machine.specs.declared.options.Options.{Options}
-use Rattle.dcsctp_machine.specs.declared.schedule.Side.{Side}
-use Rattle.dcsctp_machine.specs.Schedule.{CallContent, send_call, send_many_call, StepContent, call_step, ActContent, step_act, AreHonest}
-use Rattle.dcsctp_machine.specs.CallTurns.{Turned, AlongTurns, events_of}
-use Rattle.dcsctp_machine.specs.Endpoint.{Endpoint, fresh_endpoint}
-use Rattle.dcsctp_machine.specs.Event.{packets_in}
-use Rattle.dcsctp_machine.specs.Past.{Has, Each}
-use Rattle.dcsctp_machine.specs.Sockets.{Worked, Both, of_side, of_other, turns_after, SocketRun, acts_of}
-use Rattle.dcsctp_machine.specs.control.Effect.{Link, Effect, holds}
-use Rattle.dcsctp_machine.specs.transfer.Messages.{MessageContent}
-use Rattle.dcsctp_machine_refinement.specs.Agreement.{AreUsable, AreFresh, noted_past}
+use Rattle.dcsctp_spec_lemmas.specs.types.declared.options.Options.{Options}
+use Rattle.dcsctp_spec_lemmas.specs.types.declared.schedule.Side.{Side}
+use Rattle.dcsctp_spec_lemmas.specs.types.Schedule.{CallContent, send_call, send_many_call, StepContent, call_step, ActContent, step_act, AreHonest}
+use Rattle.dcsctp_spec_lemmas.specs.spec.endpoint.CallTurns.{Turned, AlongTurns, events_of}
+use Rattle.dcsctp_spec_lemmas.specs.spec.endpoint.Endpoint.{Endpoint, fresh_endpoint}
+use Rattle.dcsctp_spec_lemmas.specs.spec.endpoint.Event.{packets_in}
+use Rattle.dcsctp_spec_runs.specs.Past.{Has, Each}
+use Rattle.dcsctp_spec_runs.specs.Sockets.{Worked, Both, of_side, of_other, turns_after, SocketRun, acts_of}
+use Rattle.dcsctp_spec_lemmas.specs.spec.association.Effect.{Link, Effect, holds}
+use Rattle.dcsctp_spec_lemmas.specs.types.queues.Messages.{MessageContent}
+use Rattle.dcsctp_theorem_sockets.specs.Agreement.{AreUsable, AreFresh, noted_past}
 use Rattle.dcsctp_delivery_sending.specs.ChunkCounts.{chunks_to}
 use Rattle.dcsctp_delivery_directions.specs.Requests.{requests_to}
 use Rattle.dcsctp_delivery_associations.specs.Laws.{RefusesNone}

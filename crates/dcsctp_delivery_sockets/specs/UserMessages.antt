@@ -1,11 +1,11 @@
 -- What the user of a socket sends and reads, turn by turn, and when what one user read is what the other sent.
 use Rattle.std.specs.Prelude.{◌≡◌, ℕ, Option, None, Some, List, [], ◌∷◌, ◌++◌, slice_get}
-use Rattle.dcsctp_machine.specs.CallTurns.{Turned}
-use Rattle.dcsctp_machine.specs.Endpoint.{Endpoint}
-use Rattle.dcsctp_machine.specs.Turn.{Input, user_sends, user_takes}
-use Rattle.dcsctp_machine.specs.transfer.Messages.{MessageContent}
-use Rattle.dcsctp_machine.specs.transfer.Transfer.{Transfer}
-use Rattle.dcsctp_machine.specs.turns.MessageOutcomes.{MessageRefusal, Sending, sending_refusal, queue_one}
+use Rattle.dcsctp_spec_lemmas.specs.spec.endpoint.CallTurns.{Turned}
+use Rattle.dcsctp_spec_lemmas.specs.spec.endpoint.Endpoint.{Endpoint}
+use Rattle.dcsctp_spec_lemmas.specs.spec.endpoint.Turn.{Input, user_sends, user_takes}
+use Rattle.dcsctp_spec_lemmas.specs.types.queues.Messages.{MessageContent}
+use Rattle.dcsctp_spec_lemmas.specs.spec.queues.Transfer.{Transfer}
+use Rattle.dcsctp_spec_lemmas.specs.spec.endpoint.MessageOutcomes.{MessageRefusal, Sending, sending_refusal, queue_one}
 use Rattle.dcsctp_delivery_receiving.specs.Ready.{AreDistinct}
 
 -- ---- sent

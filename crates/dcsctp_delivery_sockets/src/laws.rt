@@ -5,11 +5,12 @@ ghost use Rattle.dcsctp_delivery_sockets.specs.Delivery.{SocketsDeliver};
 ghost use Rattle.dcsctp_delivery_sockets.specs.Echoes.{EchoesGoToMakers};
 ghost use Rattle.dcsctp_delivery_sockets.specs.Packets.{PacketsKeepEnds};
 
-use dcsctp_machine::{
-    acts_are_controlled, admitted_packets_may_be_worked, answer_keeps_agreement,
-    chunks_are_controlled, offer_reads_back, packets_are_controlled,
+use dcsctp_spec_laws::{acts_are_controlled, chunks_are_controlled};
+use dcsctp_spec_runs::{
+    admitted_packets_may_be_worked, answer_keeps_agreement, offer_reads_back,
+    packets_are_controlled,
 };
-use dcsctp_machine_agreement::effects_mean;
+use dcsctp_theorem_association::effects_mean;
 use dcsctp_wire_laws::built_packet_reads_as_itself;
 
 /// Each COOKIE ECHO that a socket sends goes to the tag that its cookie's maker had drawn, and is the first chunk

@@ -2,25 +2,25 @@
 use Rattle.dcsctp_delivery_directions.specs.Directions as directions
 use Rattle.std.proofs.Common.{◌≡◌, ◌<◌, ◌≤◌, ◌^◌, ℕ, zero, suc, Option, None, Some, List, [], ◌∷◌, length, refl, sym, ◌∙◌, ap, subst, inl, inr, arith}
 use Rattle.std.specs.List.{AllByRecursion}
-use Rattle.dcsctp_machine.specs.declared.options.Options.{Options}
-use Rattle.dcsctp_machine.specs.Endpoint.{Endpoint, Core, closed, cookie_wait, cookie_echoed, open_in, OutstandingRequest}
-use Rattle.dcsctp_machine.specs.Outcome.{Outcome}
-use Rattle.dcsctp_machine.specs.control.Effect.{link_in}
-use Rattle.dcsctp_machine.specs.Packet.{Content}
-use Rattle.dcsctp_machine.specs.Turn.{Input, arrival, refusal, packet_begins, chunk_input, packet_ends, act_input, user_sets, user_sends, user_resets, user_takes, timer_expires, time_passes, restores}
-use Rattle.dcsctp_machine.specs.transfer.SendQueue.{SendQueueState, restarted, empty_queue}
-use Rattle.dcsctp_machine.specs.transfer.Transfer.{Below}
-use Rattle.dcsctp_machine.specs.turns.MessageOutcomes.{MessageRefusal, Sending, sending_refusal, queue_one}
+use Rattle.dcsctp_spec_lemmas.specs.types.declared.options.Options.{Options}
+use Rattle.dcsctp_spec_lemmas.specs.spec.endpoint.Endpoint.{Endpoint, Core, closed, cookie_wait, cookie_echoed, open_in, OutstandingRequest}
+use Rattle.dcsctp_spec_lemmas.specs.spec.endpoint.Outcome.{Outcome}
+use Rattle.dcsctp_spec_lemmas.specs.spec.association.Effect.{link_in}
+use Rattle.dcsctp_spec_lemmas.specs.spec.Packet.{Content}
+use Rattle.dcsctp_spec_lemmas.specs.spec.endpoint.Turn.{Input, arrival, refusal, packet_begins, chunk_input, packet_ends, act_input, user_sets, user_sends, user_resets, user_takes, timer_expires, time_passes, restores}
+use Rattle.dcsctp_spec_lemmas.specs.spec.queues.SendQueue.{SendQueueState, restarted, empty_queue}
+use Rattle.dcsctp_spec_lemmas.specs.spec.queues.Transfer.{Below}
+use Rattle.dcsctp_spec_lemmas.specs.spec.endpoint.MessageOutcomes.{MessageRefusal, Sending, sending_refusal, queue_one}
 use Rattle.dcsctp_delivery_sending.specs.Log.{Fits, Message, new_history}
 use Rattle.dcsctp_delivery_turns.specs.Actions.{Inside, OwnEnds, PeerResets, queued_where, queued_together, queued_after, Begun}
-use Rattle.dcsctp_machine.specs.transfer.SendStreams.{stream_at}
+use Rattle.dcsctp_spec_lemmas.specs.types.queues.SendStreams.{stream_at}
 use Rattle.dcsctp_delivery_sending.specs.Pieces.{AllQueued, Ascend}
 use Rattle.dcsctp_delivery_sending.specs.Queueing.{QueueWaits}
 use Rattle.dcsctp_delivery_sending.proofs.KeptQueues.{restarted_hold}
 use Rattle.dcsctp_delivery_sending.proofs.Renumbered.{numbered_hold, numbered_kind}
 use Rattle.dcsctp_delivery_turns.specs.Runs.{new_direction}
 use Rattle.dcsctp_delivery_directions.specs.Directions.{Asking, nothing_asked, Run}
-use Rattle.dcsctp_machine.specs.Reconfiguration.{RequestedReset}
+use Rattle.dcsctp_spec_lemmas.specs.spec.Reconfiguration.{RequestedReset}
 use Rattle.dcsctp_delivery_turns.specs.Asking.{Own, own_in, AsksFit, SomeFit}
 use Rattle.dcsctp_delivery_turns.proofs.Fronts.{own_ends_fit, own_resets}
 

@@ -1,19 +1,19 @@
 -- What a flush leaves of the own requests to reset streams (RFC 6525, section 5.1.2).
 use Rattle.std.proofs.Common.{◌≡◌, ℕ, ◌+◌, ◌%◌, ◌^◌, suc, Bool, true, false, Option, None, Some, List, [], ◌∷◌, ◌++◌, length, length-append, map, refl, sym, ◌∙◌, ap, subst, append_assoc, arith}
 use Rattle.std.specs.Prelude.{take}
-use Rattle.dcsctp_machine.specs.declared.association.Held.{Held}
-use Rattle.dcsctp_machine.specs.Reconfiguration.{RequestedReset}
-use Rattle.dcsctp_machine.specs.Endpoint.{Endpoint, Core, closed, cookie_wait, cookie_echoed, open_in, OutstandingRequest, held_in}
-use Rattle.dcsctp_machine.specs.Packet.{Content, Emission}
-use Rattle.dcsctp_machine.specs.Event.{Event}
-use Rattle.dcsctp_machine.specs.transfer.OwnResets.{ready_streams}
-use Rattle.dcsctp_machine.specs.transfer.Retransmission.{RetransmissionState}
-use Rattle.dcsctp_machine.specs.transfer.SendQueue.{SendQueueState}
-use Rattle.dcsctp_machine.specs.transfer.Transfer.{Transfer, is_idle}
-use Rattle.dcsctp_machine.specs.turns.BegunResets.{BegunReset, streams_within, last_assigned_tsn, stream_field, begun_where, begun_in, held_asking, core_asking, after_begun}
-use Rattle.dcsctp_machine.specs.turns.FlushOutcomes.{told_event, Answer, answer_contents, filled, goes_out, asked, next_draft, flush_of, Ask, first_ask, later_ask, begun_at, GivesWhere, AnsweredBelow, Answered, Answers, at_limit, at_empty, after_packet, FlushAnswers, packets_allowed}
-use Rattle.dcsctp_machine.specs.turns.ReconfigurationOutcomes.{reset_again}
-use Rattle.dcsctp_machine.proofs.FlushKeeps.{later_begins}
+use Rattle.dcsctp_spec_lemmas.specs.types.declared.association.Held.{Held}
+use Rattle.dcsctp_spec_lemmas.specs.spec.Reconfiguration.{RequestedReset}
+use Rattle.dcsctp_spec_lemmas.specs.spec.endpoint.Endpoint.{Endpoint, Core, closed, cookie_wait, cookie_echoed, open_in, OutstandingRequest, held_in}
+use Rattle.dcsctp_spec_lemmas.specs.spec.Packet.{Content, Emission}
+use Rattle.dcsctp_spec_lemmas.specs.spec.endpoint.Event.{Event}
+use Rattle.dcsctp_spec_lemmas.specs.spec.queues.OwnResets.{ready_streams}
+use Rattle.dcsctp_spec_lemmas.specs.spec.queues.Retransmission.{RetransmissionState}
+use Rattle.dcsctp_spec_lemmas.specs.spec.queues.SendQueue.{SendQueueState}
+use Rattle.dcsctp_spec_lemmas.specs.spec.queues.Transfer.{Transfer, is_idle}
+use Rattle.dcsctp_spec_lemmas.specs.spec.endpoint.BegunResets.{BegunReset, streams_within, last_assigned_tsn, stream_field, begun_where, begun_in, held_asking, core_asking, after_begun}
+use Rattle.dcsctp_spec_lemmas.specs.spec.endpoint.FlushOutcomes.{told_event, Answer, answer_contents, filled, goes_out, asked, next_draft, flush_of, Ask, first_ask, later_ask, begun_at, GivesWhere, AnsweredBelow, Answered, Answers, at_limit, at_empty, after_packet, FlushAnswers, packets_allowed}
+use Rattle.dcsctp_spec_lemmas.specs.spec.endpoint.ReconfigurationOutcomes.{reset_again}
+use Rattle.dcsctp_spec_lemmas.proofs.FlushKeeps.{later_begins}
 use Rattle.dcsctp_delivery_sending.specs.Flushes.{begun_by}
 use Rattle.dcsctp_delivery_directions.specs.Directions.{Asking, asking_with}
 use Rattle.dcsctp_delivery_turns.specs.Asking.{Own, own_with, own_in, own_of, OutIs, IsAsking, AsksFit, AskingGrows}

@@ -1,40 +1,40 @@
 -- Which own request ends as performed in a turn.
-use Rattle.dcsctp_machine.specs.control.Effect as effects
+use Rattle.dcsctp_spec_lemmas.specs.spec.association.Effect as effects
 use Rattle.std.proofs.Common.{◌≡◌, ◌⊎◌, inl, inr, ℕ, Bool, true, false, cond, Option, None, Some, List, [], ◌∷◌, ◌++◌, refl, sym, ◌∙◌, ap, subst}
 use Rattle.std.proofs.lemmas.Bool.{eqb-true}
-use Rattle.dcsctp_wire.specs.declared.reconfiguration.ReconfigurationResponseResult.{ReconfigurationResponseResult}
-use Rattle.dcsctp_wire.specs.declared.reconfiguration.ReconfigurationResponseResult.TheVariants.{SuccessNothingToDo, SuccessPerformed, Denied, ErrorWrongSSN, ErrorRequestAlreadyInProgress, ErrorBadSequenceNumber, InProgress}
-use Rattle.dcsctp_machine.specs.declared.association.Pair.{Pair}
-use Rattle.dcsctp_machine.specs.declared.association.Held.{Held}
-use Rattle.dcsctp_machine.specs.declared.word.Word.{Word}
-use Rattle.dcsctp_machine.specs.declared.word.Word.TheVariants.{U32}
-use Rattle.dcsctp_machine.specs.Reconfiguration.{ResetParameter, outgoing_reset_request, incoming_reset_request, reconfiguration_response, other_reset_parameter}
-use Rattle.dcsctp_machine.specs.Packet.{Introduction, Content, init, init_ack, cookie_echo, cookie_ack, re_config, abort, shutdown, shutdown_ack, shutdown_complete, plain, Emission}
-use Rattle.dcsctp_machine.specs.Endpoint.{Endpoint, Core, closed, cookie_wait, cookie_echoed, open_in, established, shutdown_pending, shutdown_sent, shutdown_received, shutdown_ack_sent}
-use Rattle.dcsctp_machine.specs.Event.{Event}
-use Rattle.dcsctp_machine.specs.Outcome.{Outcome, quiet, sends, fits, emits, to_peer}
-use Rattle.dcsctp_machine.specs.Past.{Has}
-use Rattle.dcsctp_machine.specs.Controlled.{ControlledChunk, ControlledAct}
-use Rattle.dcsctp_machine.specs.Turn.{Input, arrival, refusal, packet_begins, chunk_input, packet_ends, act_input, user_sets, user_sends, user_resets, user_takes, timer_expires, time_passes, restores, has_data, ContentTurn, Turn}
-use Rattle.dcsctp_machine.specs.control.Acts.{Act, shutdown_repeats, flushes}
-use Rattle.dcsctp_machine.specs.control.Effect.{Effect, Change, link_of, link_in}
-use Rattle.dcsctp_machine.specs.control.ResetChanges.{Place, again, next, astray, place_of, worked, repeated, outgoing_by, incoming_by, informed_where, is_outstanding, WorkedParameters, work_parameters, work_chunk}
-use Rattle.dcsctp_machine.specs.turns.BegunResets.{BegunReset, begun_effects}
-use Rattle.dcsctp_machine.specs.turns.FlushOutcomes.{Answer, draft_to, first_ask, packets_allowed}
-use Rattle.dcsctp_machine.specs.turns.HandshakeOutcomes.{pair_from, renewed_pair, renewed_outcome, init_ack_emission, init_outcome}
-use Rattle.dcsctp_machine.specs.turns.OwnTimers.{timer_act}
-use Rattle.dcsctp_machine.specs.turns.ResetOutcomes.{requested_in, is_reached, worked_in, answered_in, told_of, resets_worked, responses_outcome, responses_by, ResponseAnswers, WorksResets, ResetTurn}
-use Rattle.dcsctp_machine.proofs.ControlEcho.{cookie_echo_controlled}
-use Rattle.dcsctp_machine.proofs.ControlHandshake.{init_ack_controlled, cookie_ack_controlled, abort_controlled}
-use Rattle.dcsctp_machine.proofs.ControlLemmas.{begin_stands, acts_are_controlled}
-use Rattle.dcsctp_machine.proofs.DataLemmas.{flushed_act, end_at, send_at, resets_at, take_at}
-use Rattle.dcsctp_machine.proofs.FlushKeeps.{begun_by, flush_keeps}
-use Rattle.dcsctp_machine.proofs.HeartbeatLemmas.{timer_controlled}
-use Rattle.dcsctp_machine.proofs.PlainLemmas.{plain_controlled}
-use Rattle.dcsctp_machine.proofs.ShutdownLemmas.{shutdown_controlled, shutdown_ack_controlled, shutdown_complete_controlled}
-use Rattle.dcsctp_machine_agreement.proofs.AnswerEndsTurns.{answers_end_requests}
-use Rattle.dcsctp_machine_agreement.specs.OneSide.{parameters_in, IsSuccess, HasResponse}
-use Rattle.dcsctp_machine_refinement.proofs.OneSocket.{noted_happened}
+use Rattle.dcsctp_spec_lemmas.specs.wire.declared.reconfiguration.ReconfigurationResponseResult.{ReconfigurationResponseResult}
+use Rattle.dcsctp_spec_lemmas.specs.wire.declared.reconfiguration.ReconfigurationResponseResult.TheVariants.{SuccessNothingToDo, SuccessPerformed, Denied, ErrorWrongSSN, ErrorRequestAlreadyInProgress, ErrorBadSequenceNumber, InProgress}
+use Rattle.dcsctp_spec_lemmas.specs.types.declared.association.Pair.{Pair}
+use Rattle.dcsctp_spec_lemmas.specs.types.declared.association.Held.{Held}
+use Rattle.dcsctp_spec_lemmas.specs.types.declared.word.Word.{Word}
+use Rattle.dcsctp_spec_lemmas.specs.types.declared.word.Word.TheVariants.{U32}
+use Rattle.dcsctp_spec_lemmas.specs.spec.Reconfiguration.{ResetParameter, outgoing_reset_request, incoming_reset_request, reconfiguration_response, other_reset_parameter}
+use Rattle.dcsctp_spec_lemmas.specs.spec.Packet.{Introduction, Content, init, init_ack, cookie_echo, cookie_ack, re_config, abort, shutdown, shutdown_ack, shutdown_complete, plain, Emission}
+use Rattle.dcsctp_spec_lemmas.specs.spec.endpoint.Endpoint.{Endpoint, Core, closed, cookie_wait, cookie_echoed, open_in, established, shutdown_pending, shutdown_sent, shutdown_received, shutdown_ack_sent}
+use Rattle.dcsctp_spec_lemmas.specs.spec.endpoint.Event.{Event}
+use Rattle.dcsctp_spec_lemmas.specs.spec.endpoint.Outcome.{Outcome, quiet, sends, fits, emits, to_peer}
+use Rattle.dcsctp_spec_runs.specs.Past.{Has}
+use Rattle.dcsctp_spec_lemmas.specs.spec.association.Controlled.{ControlledChunk, ControlledAct}
+use Rattle.dcsctp_spec_lemmas.specs.spec.endpoint.Turn.{Input, arrival, refusal, packet_begins, chunk_input, packet_ends, act_input, user_sets, user_sends, user_resets, user_takes, timer_expires, time_passes, restores, has_data, ContentTurn, Turn}
+use Rattle.dcsctp_spec_lemmas.specs.spec.association.Acts.{Act, shutdown_repeats, flushes}
+use Rattle.dcsctp_spec_lemmas.specs.spec.association.Effect.{Effect, Change, link_of, link_in}
+use Rattle.dcsctp_spec_lemmas.specs.spec.association.ResetChanges.{Place, again, next, astray, place_of, worked, repeated, outgoing_by, incoming_by, informed_where, is_outstanding, WorkedParameters, work_parameters, work_chunk}
+use Rattle.dcsctp_spec_lemmas.specs.spec.endpoint.BegunResets.{BegunReset, begun_effects}
+use Rattle.dcsctp_spec_lemmas.specs.spec.endpoint.FlushOutcomes.{Answer, draft_to, first_ask, packets_allowed}
+use Rattle.dcsctp_spec_lemmas.specs.spec.endpoint.HandshakeOutcomes.{pair_from, renewed_pair, renewed_outcome, init_ack_emission, init_outcome}
+use Rattle.dcsctp_spec_lemmas.specs.spec.endpoint.OwnTimers.{timer_act}
+use Rattle.dcsctp_spec_lemmas.specs.spec.endpoint.ResetOutcomes.{requested_in, is_reached, worked_in, answered_in, told_of, resets_worked, responses_outcome, responses_by, ResponseAnswers, WorksResets, ResetTurn}
+use Rattle.dcsctp_spec_lemmas.proofs.ControlEcho.{cookie_echo_controlled}
+use Rattle.dcsctp_spec_lemmas.proofs.ControlHandshake.{init_ack_controlled, cookie_ack_controlled, abort_controlled}
+use Rattle.dcsctp_spec_laws.proofs.ControlLemmas.{begin_stands, acts_are_controlled}
+use Rattle.dcsctp_spec_laws.proofs.DataLemmas.{flushed_act, end_at, send_at, resets_at, take_at}
+use Rattle.dcsctp_spec_lemmas.proofs.FlushKeeps.{begun_by, flush_keeps}
+use Rattle.dcsctp_spec_laws.proofs.HeartbeatLemmas.{timer_controlled}
+use Rattle.dcsctp_spec_laws.proofs.PlainLemmas.{plain_controlled}
+use Rattle.dcsctp_spec_laws.proofs.ShutdownLemmas.{shutdown_controlled, shutdown_ack_controlled, shutdown_complete_controlled}
+use Rattle.dcsctp_theorem_association.proofs.AnswerEndsTurns.{answers_end_requests}
+use Rattle.dcsctp_theorem_association.specs.OneSide.{parameters_in, IsSuccess, HasResponse}
+use Rattle.dcsctp_theorem_sockets.proofs.OneSocket.{noted_happened}
 use Rattle.dcsctp_delivery_turns.specs.Actions.{IsCall}
 use Rattle.dcsctp_delivery_turns.specs.Asking.{own_with, own_of, own_in}
 use Rattle.dcsctp_delivery_turns.specs.Completing.{EndsOwn, CompletesOwn}

@@ -1,26 +1,26 @@
 -- Events that are no packets, and what a tracker keeps.
 use Rattle.std.proofs.Common.{◌≡◌, ℕ, Bool, true, false, Option, None, Some, List, [], ◌∷◌, ◌++◌, map, refl, sym, ◌∙◌, ap, append-nil}
 use Rattle.std.specs.Prelude.{if◌then◌else◌}
-use Rattle.dcsctp_wire.specs.Content.{SackContent, sack_chunk}
-use Rattle.dcsctp_machine.specs.declared.association.Held.{Held}
-use Rattle.dcsctp_machine.specs.declared.tracking.AckState.{AckState}
-use Rattle.dcsctp_machine.specs.declared.tracking.AckState.TheVariants.{Idle, BecomingDelayed, Delayed, Immediate}
-use Rattle.dcsctp_machine.specs.Event.{Event, packets_in}
-use Rattle.dcsctp_machine.specs.Packet.{Content, unworked, Emission}
-use Rattle.dcsctp_machine.specs.Endpoint.{Endpoint, Core, closed, cookie_wait, cookie_echoed, open_in, held_in}
-use Rattle.dcsctp_machine.specs.Outcome.{Outcome}
-use Rattle.dcsctp_machine.specs.control.Choices.{plain_contents}
-use Rattle.dcsctp_machine.specs.transfer.Acknowledging.{ends_delivery, told_by, delivered}
-use Rattle.dcsctp_machine.specs.transfer.Items.{Item}
-use Rattle.dcsctp_machine.specs.transfer.OwnResets.{prepare_all_events}
-use Rattle.dcsctp_machine.specs.transfer.SendQueue.{SendQueueState}
-use Rattle.dcsctp_machine.specs.transfer.Tracker.{TrackerState, delayed_from}
-use Rattle.dcsctp_machine.specs.transfer.Transfer.{Transfer}
-use Rattle.dcsctp_machine.specs.turns.DataOutcomes.{with_transfer, FastRetransmits}
-use Rattle.dcsctp_machine.specs.turns.FlushOutcomes.{goes_out, draft_to, told_event}
-use Rattle.dcsctp_machine.specs.turns.MessageOutcomes.{MessageRefusal, refusal_events, sending_refusal, Sending, queue_by, queue_one, queue_all}
-use Rattle.dcsctp_machine.proofs.SendEventLemmas.{told_prepared}
-use Rattle.dcsctp_machine_refinement.proofs.Bursts.{packets_in-append, told_none}
+use Rattle.dcsctp_spec_lemmas.specs.wire.Content.{SackContent, sack_chunk}
+use Rattle.dcsctp_spec_lemmas.specs.types.declared.association.Held.{Held}
+use Rattle.dcsctp_spec_lemmas.specs.types.declared.tracking.AckState.{AckState}
+use Rattle.dcsctp_spec_lemmas.specs.types.declared.tracking.AckState.TheVariants.{Idle, BecomingDelayed, Delayed, Immediate}
+use Rattle.dcsctp_spec_lemmas.specs.spec.endpoint.Event.{Event, packets_in}
+use Rattle.dcsctp_spec_lemmas.specs.spec.Packet.{Content, unworked, Emission}
+use Rattle.dcsctp_spec_lemmas.specs.spec.endpoint.Endpoint.{Endpoint, Core, closed, cookie_wait, cookie_echoed, open_in, held_in}
+use Rattle.dcsctp_spec_lemmas.specs.spec.endpoint.Outcome.{Outcome}
+use Rattle.dcsctp_spec_lemmas.specs.spec.association.Choices.{plain_contents}
+use Rattle.dcsctp_spec_lemmas.specs.spec.queues.Acknowledging.{ends_delivery, told_by, delivered}
+use Rattle.dcsctp_spec_lemmas.specs.spec.queues.Items.{Item}
+use Rattle.dcsctp_spec_lemmas.specs.spec.queues.OwnResets.{prepare_all_events}
+use Rattle.dcsctp_spec_lemmas.specs.spec.queues.SendQueue.{SendQueueState}
+use Rattle.dcsctp_spec_lemmas.specs.spec.queues.Tracker.{TrackerState, delayed_from}
+use Rattle.dcsctp_spec_lemmas.specs.spec.queues.Transfer.{Transfer}
+use Rattle.dcsctp_spec_lemmas.specs.spec.endpoint.DataOutcomes.{with_transfer, FastRetransmits}
+use Rattle.dcsctp_spec_lemmas.specs.spec.endpoint.FlushOutcomes.{goes_out, draft_to, told_event}
+use Rattle.dcsctp_spec_lemmas.specs.spec.endpoint.MessageOutcomes.{MessageRefusal, refusal_events, sending_refusal, Sending, queue_by, queue_one, queue_all}
+use Rattle.dcsctp_spec_lemmas.proofs.SendEventLemmas.{told_prepared}
+use Rattle.dcsctp_theorem_sockets.proofs.Bursts.{packets_in-append, told_none}
 use Rattle.dcsctp_delivery_turns.specs.Actions.{NoEnd}
 use Rattle.dcsctp_delivery_turns.specs.Asking.{own_of}
 use Rattle.dcsctp_delivery_turns.specs.Tags.{IsPeerTag}

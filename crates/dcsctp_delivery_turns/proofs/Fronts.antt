@@ -1,12 +1,12 @@
 -- What a RE-CONFIG does before all else, as steps of both sides: the own request ends, and streams of the peer are reset.
 use Rattle.dcsctp_delivery_directions.specs.Directions as directions
 use Rattle.std.proofs.Common.{◌≡◌, ◌≤◌, ℕ, Bool, true, false, Option, None, Some, List, refl, sym, ◌∙◌, subst, arith}
-use Rattle.dcsctp_machine.specs.Packet.{Content}
-use Rattle.dcsctp_machine.specs.Reconfiguration.{RequestedReset}
-use Rattle.dcsctp_machine.specs.control.Effect.{Effect}
-use Rattle.dcsctp_machine.specs.transfer.Reassembly.{ReassemblyState, Leaves}
-use Rattle.dcsctp_machine.specs.transfer.Transfer.{Transfer}
-use Rattle.dcsctp_machine.specs.turns.ResetOutcomes.{has_completed, has_reset}
+use Rattle.dcsctp_spec_lemmas.specs.spec.Packet.{Content}
+use Rattle.dcsctp_spec_lemmas.specs.spec.Reconfiguration.{RequestedReset}
+use Rattle.dcsctp_spec_lemmas.specs.spec.association.Effect.{Effect}
+use Rattle.dcsctp_spec_lemmas.specs.spec.queues.Reassembly.{ReassemblyState, Leaves}
+use Rattle.dcsctp_spec_lemmas.specs.spec.queues.Transfer.{Transfer}
+use Rattle.dcsctp_spec_lemmas.specs.spec.endpoint.ResetOutcomes.{has_completed, has_reset}
 use Rattle.dcsctp_delivery_receiving.specs.Clear.{IsOwn}
 use Rattle.dcsctp_delivery_directions.specs.Directions.{Asking, all_ended, is_reached, Direction}
 use Rattle.dcsctp_delivery_turns.specs.Asking.{Own, OutIs, IsAsking, AsksFit}

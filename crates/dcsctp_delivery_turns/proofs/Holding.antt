@@ -1,30 +1,30 @@
 -- An association that a turn notes is there after it.
 use Rattle.std.proofs.Common.{◌≡◌, sym, ℕ, Bool, true, false, cond, Some, List, [], ◌∷◌, inl, inr, refl, subst}
-use Rattle.dcsctp_machine.specs.declared.association.Pair.{Pair}
-use Rattle.dcsctp_machine.specs.declared.word.Word.{Word}
-use Rattle.dcsctp_machine.specs.declared.word.Word.TheVariants.{U32}
-use Rattle.dcsctp_machine.specs.Packet.{Introduction, Content, init, init_ack, cookie_echo, cookie_ack, re_config, abort, shutdown, shutdown_ack, shutdown_complete, plain, Emission}
-use Rattle.dcsctp_machine.specs.Endpoint.{Endpoint, Core, closed, cookie_wait, cookie_echoed, open_in, established, shutdown_pending, shutdown_sent, shutdown_received, shutdown_ack_sent}
-use Rattle.dcsctp_machine.specs.Outcome.{Outcome, quiet, sends, fits, emits, to_peer}
-use Rattle.dcsctp_machine.specs.Past.{Has}
-use Rattle.dcsctp_machine.specs.Controlled.{IsControlled, ControlledChunk, ControlledAct}
-use Rattle.dcsctp_machine.specs.Turn.{Input, arrival, refusal, packet_begins, chunk_input, packet_ends, act_input, user_sets, user_sends, user_resets, user_takes, timer_expires, time_passes, restores, has_data, ContentTurn, Turn}
-use Rattle.dcsctp_machine.specs.World.{ControlTurn, acted, worked}
-use Rattle.dcsctp_machine.specs.control.Acts.{Act, shutdown_repeats, flushes}
-use Rattle.dcsctp_machine.specs.control.Effect.{Effect, draws, holds, ends, Change, link_in}
-use Rattle.dcsctp_machine.specs.turns.HandshakeOutcomes.{pair_from, renewed_pair, renewed_outcome, init_ack_emission, init_outcome}
-use Rattle.dcsctp_machine.specs.turns.OwnTimers.{timer_act}
-use Rattle.dcsctp_machine.proofs.ControlEcho.{cookie_echo_controlled}
-use Rattle.dcsctp_machine.proofs.ControlHandshake.{init_ack_controlled, cookie_ack_controlled, abort_controlled}
-use Rattle.dcsctp_machine.proofs.ControlLemmas.{begin_stands, acts_are_controlled}
-use Rattle.dcsctp_machine.proofs.DataLemmas.{flushed_act, end_at, send_at, resets_at, take_at}
-use Rattle.dcsctp_machine.proofs.HeartbeatLemmas.{timer_controlled}
-use Rattle.dcsctp_machine.proofs.PlainLemmas.{plain_controlled}
-use Rattle.dcsctp_machine.proofs.ResetLemmas.{reset_controlled}
-use Rattle.dcsctp_machine.proofs.ShutdownLemmas.{shutdown_controlled, shutdown_ack_controlled, shutdown_complete_controlled}
-use Rattle.dcsctp_machine_agreement.proofs.MeaningTurns.{effects_mean}
-use Rattle.dcsctp_machine_agreement.specs.OneSide.{Means}
-use Rattle.dcsctp_machine_refinement.proofs.OneSocket.{noted_happened}
+use Rattle.dcsctp_spec_lemmas.specs.types.declared.association.Pair.{Pair}
+use Rattle.dcsctp_spec_lemmas.specs.types.declared.word.Word.{Word}
+use Rattle.dcsctp_spec_lemmas.specs.types.declared.word.Word.TheVariants.{U32}
+use Rattle.dcsctp_spec_lemmas.specs.spec.Packet.{Introduction, Content, init, init_ack, cookie_echo, cookie_ack, re_config, abort, shutdown, shutdown_ack, shutdown_complete, plain, Emission}
+use Rattle.dcsctp_spec_lemmas.specs.spec.endpoint.Endpoint.{Endpoint, Core, closed, cookie_wait, cookie_echoed, open_in, established, shutdown_pending, shutdown_sent, shutdown_received, shutdown_ack_sent}
+use Rattle.dcsctp_spec_lemmas.specs.spec.endpoint.Outcome.{Outcome, quiet, sends, fits, emits, to_peer}
+use Rattle.dcsctp_spec_runs.specs.Past.{Has}
+use Rattle.dcsctp_spec_lemmas.specs.spec.association.Controlled.{IsControlled, ControlledChunk, ControlledAct}
+use Rattle.dcsctp_spec_lemmas.specs.spec.endpoint.Turn.{Input, arrival, refusal, packet_begins, chunk_input, packet_ends, act_input, user_sets, user_sends, user_resets, user_takes, timer_expires, time_passes, restores, has_data, ContentTurn, Turn}
+use Rattle.dcsctp_spec_runs.specs.World.{ControlTurn, acted, worked}
+use Rattle.dcsctp_spec_lemmas.specs.spec.association.Acts.{Act, shutdown_repeats, flushes}
+use Rattle.dcsctp_spec_lemmas.specs.spec.association.Effect.{Effect, draws, holds, ends, Change, link_in}
+use Rattle.dcsctp_spec_lemmas.specs.spec.endpoint.HandshakeOutcomes.{pair_from, renewed_pair, renewed_outcome, init_ack_emission, init_outcome}
+use Rattle.dcsctp_spec_lemmas.specs.spec.endpoint.OwnTimers.{timer_act}
+use Rattle.dcsctp_spec_lemmas.proofs.ControlEcho.{cookie_echo_controlled}
+use Rattle.dcsctp_spec_lemmas.proofs.ControlHandshake.{init_ack_controlled, cookie_ack_controlled, abort_controlled}
+use Rattle.dcsctp_spec_laws.proofs.ControlLemmas.{begin_stands, acts_are_controlled}
+use Rattle.dcsctp_spec_laws.proofs.DataLemmas.{flushed_act, end_at, send_at, resets_at, take_at}
+use Rattle.dcsctp_spec_laws.proofs.HeartbeatLemmas.{timer_controlled}
+use Rattle.dcsctp_spec_laws.proofs.PlainLemmas.{plain_controlled}
+use Rattle.dcsctp_spec_laws.proofs.ResetLemmas.{reset_controlled}
+use Rattle.dcsctp_spec_laws.proofs.ShutdownLemmas.{shutdown_controlled, shutdown_ack_controlled, shutdown_complete_controlled}
+use Rattle.dcsctp_theorem_association.proofs.MeaningTurns.{effects_mean}
+use Rattle.dcsctp_theorem_association.specs.OneSide.{Means}
+use Rattle.dcsctp_theorem_sockets.proofs.OneSocket.{noted_happened}
 use Rattle.dcsctp_delivery_turns.specs.Actions.{IsCall}
 use Rattle.dcsctp_delivery_turns.specs.Holding.{HoldsMean, EndsMean}
 

@@ -3,21 +3,21 @@ use Rattle.dcsctp_delivery_turns.specs.Actions as actions
 use Rattle.std.proofs.Common.{◌≡◌, ◌<◌, ◌==◌, ℕ, Bool, true, false, Option, None, Some, List, [], ◌∷◌, ◌++◌, length, refl, sym, ◌∙◌, subst, ap, arith}
 use Rattle.std.specs.Prelude.{if◌then◌else◌}
 use Rattle.std.specs.List.{AllByRecursion}
-use Rattle.dcsctp_machine.specs.Event.{packets_in}
-use Rattle.dcsctp_machine.specs.Packet.{Content, Emission}
-use Rattle.dcsctp_machine.specs.Endpoint.{Endpoint, Core, held_in}
-use Rattle.dcsctp_machine.specs.Outcome.{Outcome}
-use Rattle.dcsctp_machine.specs.transfer.Messages.{MessageContent}
-use Rattle.dcsctp_machine.specs.transfer.OwnResets.{prepared_all, prepare_all_events}
-use Rattle.dcsctp_machine.specs.transfer.Transfer.{Transfer}
-use Rattle.dcsctp_machine.specs.turns.DataOutcomes.{TakeWhere, TakeTurn}
-use Rattle.dcsctp_machine.specs.turns.FlushOutcomes.{Answer}
-use Rattle.dcsctp_machine.specs.turns.MessageOutcomes.{MessageRefusal, empty_payload, sending_refusal, Sending, name_of, queue_by, queue_one, queue_all, takes_any, SendAnswers, send_by, SendTurn}
-use Rattle.dcsctp_machine.specs.turns.PreparedResets.{ResetRefusal, reset_refusal, with_queue, OwnResetsWhere, OwnResetsTurn}
-use Rattle.dcsctp_machine_refinement.proofs.Bursts.{packets_in-append}
+use Rattle.dcsctp_spec_lemmas.specs.spec.endpoint.Event.{packets_in}
+use Rattle.dcsctp_spec_lemmas.specs.spec.Packet.{Content, Emission}
+use Rattle.dcsctp_spec_lemmas.specs.spec.endpoint.Endpoint.{Endpoint, Core, held_in}
+use Rattle.dcsctp_spec_lemmas.specs.spec.endpoint.Outcome.{Outcome}
+use Rattle.dcsctp_spec_lemmas.specs.types.queues.Messages.{MessageContent}
+use Rattle.dcsctp_spec_lemmas.specs.spec.queues.OwnResets.{prepared_all, prepare_all_events}
+use Rattle.dcsctp_spec_lemmas.specs.spec.queues.Transfer.{Transfer}
+use Rattle.dcsctp_spec_lemmas.specs.spec.endpoint.DataOutcomes.{TakeWhere, TakeTurn}
+use Rattle.dcsctp_spec_lemmas.specs.spec.endpoint.FlushOutcomes.{Answer}
+use Rattle.dcsctp_spec_lemmas.specs.spec.endpoint.MessageOutcomes.{MessageRefusal, empty_payload, sending_refusal, Sending, name_of, queue_by, queue_one, queue_all, takes_any, SendAnswers, send_by, SendTurn}
+use Rattle.dcsctp_spec_lemmas.specs.spec.endpoint.PreparedResets.{ResetRefusal, reset_refusal, with_queue, OwnResetsWhere, OwnResetsTurn}
+use Rattle.dcsctp_theorem_sockets.proofs.Bursts.{packets_in-append}
 use Rattle.dcsctp_delivery_sending.specs.Log.{Fits, Message}
 use Rattle.dcsctp_delivery_turns.specs.Actions.{IsCalm, Inside, inside, ledger_of, with_below, Actions, nothing, further, Made, Makes, MakesAlso, Becomes, goes_on, queued_where, queued_together, with_first, read_where}
-use Rattle.dcsctp_machine.specs.control.Effect.{link_in}
+use Rattle.dcsctp_spec_lemmas.specs.spec.association.Effect.{link_in}
 use Rattle.dcsctp_delivery_turns.specs.Tags.{IsPeerTag}
 use Rattle.dcsctp_delivery_turns.specs.Asking.{Own, AsksFit}
 use Rattle.dcsctp_delivery_directions.specs.Directions.{Asking}

@@ -1,8 +1,8 @@
 -- The actions of a socket leave how its queue numbers messages.
 use Rattle.std.proofs.Common.{◌≡◌, ℕ, Option, refl, ◌∙◌, ap}
-use Rattle.dcsctp_machine.specs.Packet.{Content}
-use Rattle.dcsctp_machine.specs.transfer.Transfer.{Below}
-use Rattle.dcsctp_machine.specs.turns.FlushOutcomes.{first_ask, packets_allowed}
+use Rattle.dcsctp_spec_lemmas.specs.spec.Packet.{Content}
+use Rattle.dcsctp_spec_lemmas.specs.spec.queues.Transfer.{Below}
+use Rattle.dcsctp_spec_lemmas.specs.spec.endpoint.FlushOutcomes.{first_ask, packets_allowed}
 use Rattle.dcsctp_delivery_sending.proofs.NextIdentifiers.{flush_kind}
 use Rattle.dcsctp_delivery_sending.proofs.Prepared.{preparing_kind}
 use Rattle.dcsctp_delivery_sending.proofs.Settings.{setting_kind}

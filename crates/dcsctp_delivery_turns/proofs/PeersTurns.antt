@@ -1,15 +1,15 @@
 -- Each turn, as what it does with the peer's requests to reset streams.
 use Rattle.std.proofs.Common.{◌≡◌, ℕ, Option, None, Some, List, inl, inr, refl, sym, subst, ap}
-use Rattle.dcsctp_machine.specs.declared.association.Held.{Held}
-use Rattle.dcsctp_machine.specs.declared.association.Pair.{Pair}
-use Rattle.dcsctp_machine.specs.Endpoint.{Endpoint, Core, closed, cookie_wait, cookie_echoed, open_in}
-use Rattle.dcsctp_machine.specs.Outcome.{Outcome}
-use Rattle.dcsctp_machine.specs.Packet.{Content, init, init_ack, cookie_echo, cookie_ack, re_config, abort, shutdown, shutdown_ack, shutdown_complete, plain}
-use Rattle.dcsctp_machine.specs.Reconfiguration.{ResetParameter, RequestedReset}
-use Rattle.dcsctp_machine.specs.Turn.{Input, arrival, refusal, packet_begins, chunk_input, packet_ends, act_input, user_sets, user_sends, user_resets, user_takes, timer_expires, time_passes, restores, Turn}
-use Rattle.dcsctp_machine.specs.control.Effect.{Effect, Link, link_of, link_in}
-use Rattle.dcsctp_machine.specs.transfer.Transfer.{Transfer}
-use Rattle.dcsctp_machine.specs.turns.ResetOutcomes.{WorksResets, ResetTurn}
+use Rattle.dcsctp_spec_lemmas.specs.types.declared.association.Held.{Held}
+use Rattle.dcsctp_spec_lemmas.specs.types.declared.association.Pair.{Pair}
+use Rattle.dcsctp_spec_lemmas.specs.spec.endpoint.Endpoint.{Endpoint, Core, closed, cookie_wait, cookie_echoed, open_in}
+use Rattle.dcsctp_spec_lemmas.specs.spec.endpoint.Outcome.{Outcome}
+use Rattle.dcsctp_spec_lemmas.specs.spec.Packet.{Content, init, init_ack, cookie_echo, cookie_ack, re_config, abort, shutdown, shutdown_ack, shutdown_complete, plain}
+use Rattle.dcsctp_spec_lemmas.specs.spec.Reconfiguration.{ResetParameter, RequestedReset}
+use Rattle.dcsctp_spec_lemmas.specs.spec.endpoint.Turn.{Input, arrival, refusal, packet_begins, chunk_input, packet_ends, act_input, user_sets, user_sends, user_resets, user_takes, timer_expires, time_passes, restores, Turn}
+use Rattle.dcsctp_spec_lemmas.specs.spec.association.Effect.{Effect, Link, link_of, link_in}
+use Rattle.dcsctp_spec_lemmas.specs.spec.queues.Transfer.{Transfer}
+use Rattle.dcsctp_spec_lemmas.specs.spec.endpoint.ResetOutcomes.{WorksResets, ResetTurn}
 use Rattle.dcsctp_delivery_turns.specs.Actions.{came_by, IsCalm, IsCall}
 use Rattle.dcsctp_delivery_turns.specs.PeerRequests.{NoneAsked, KnowsPeer, KnowsPeerIn, IsPlainRequest, PeerTurns, asks_nothing, begins_anew, PeersTurn, CalmAsksNothing, UnlinkedAsksNothing, EndsAskNothing}
 use Rattle.dcsctp_delivery_turns.proofs.AskedResets.{request_turns}

@@ -1,11 +1,11 @@
 -- What leaves what a socket has received as it is.
 use Rattle.std.proofs.Common.{◌≡◌, ℕ, Bool, true, false, Option, None, Some, List, refl, ◌∙◌, ap, subst}
-use Rattle.dcsctp_machine.specs.Endpoint.{Endpoint}
-use Rattle.dcsctp_machine.specs.Packet.{Plain, Emission}
-use Rattle.dcsctp_machine.specs.transfer.Tracker.{TrackerState}
-use Rattle.dcsctp_machine.specs.transfer.Transfer.{Transfer, Below, is_idle}
-use Rattle.dcsctp_machine.specs.turns.FlushOutcomes.{Answer, answer_contents, filled, asked, next_draft, flush_of, Ask, later_ask, room_in, wants_sack, Acknowledges, GivesWhere, AnsweredBelow, Answered, Answers, at_limit, at_empty, after_packet}
-use Rattle.dcsctp_machine.specs.turns.TransferMoves.{ReceivesWhere, MovesWhere, timed_by}
+use Rattle.dcsctp_spec_lemmas.specs.spec.endpoint.Endpoint.{Endpoint}
+use Rattle.dcsctp_spec_lemmas.specs.spec.Packet.{Plain, Emission}
+use Rattle.dcsctp_spec_lemmas.specs.spec.queues.Tracker.{TrackerState}
+use Rattle.dcsctp_spec_lemmas.specs.spec.queues.Transfer.{Transfer, Below, is_idle}
+use Rattle.dcsctp_spec_lemmas.specs.spec.endpoint.FlushOutcomes.{Answer, answer_contents, filled, asked, next_draft, flush_of, Ask, later_ask, room_in, wants_sack, Acknowledges, GivesWhere, AnsweredBelow, Answered, Answers, at_limit, at_empty, after_packet}
+use Rattle.dcsctp_spec_lemmas.specs.spec.endpoint.TransferMoves.{ReceivesWhere, MovesWhere, timed_by}
 use Rattle.dcsctp_delivery_sending.proofs.Packets.{out_below}
 
 -- ---- what data and acknowledgements leave

@@ -1,22 +1,22 @@
 -- A turn, as what it does to runs of the direction on which the socket receives.
 use Rattle.std.proofs.Common.{◌≡◌, ℕ, Bool, true, false, None, Some, List, [], ◌++◌, refl, sym, ◌⊎◌, ap, subst, inl, inr}
-use Rattle.dcsctp_machine.specs.declared.options.Options.{Options}
-use Rattle.dcsctp_machine.specs.Endpoint.{Endpoint}
-use Rattle.dcsctp_machine.specs.Event.{packets_in}
-use Rattle.dcsctp_machine.specs.Outcome.{Outcome}
-use Rattle.dcsctp_machine.specs.Turn.{Input}
-use Rattle.dcsctp_machine.specs.transfer.SendQueue.{empty_queue}
-use Rattle.dcsctp_machine.specs.transfer.Transfer.{Transfer, Below}
+use Rattle.dcsctp_spec_lemmas.specs.types.declared.options.Options.{Options}
+use Rattle.dcsctp_spec_lemmas.specs.spec.endpoint.Endpoint.{Endpoint}
+use Rattle.dcsctp_spec_lemmas.specs.spec.endpoint.Event.{packets_in}
+use Rattle.dcsctp_spec_lemmas.specs.spec.endpoint.Outcome.{Outcome}
+use Rattle.dcsctp_spec_lemmas.specs.spec.endpoint.Turn.{Input}
+use Rattle.dcsctp_spec_lemmas.specs.spec.queues.SendQueue.{empty_queue}
+use Rattle.dcsctp_spec_lemmas.specs.spec.queues.Transfer.{Transfer, Below}
 use Rattle.dcsctp_delivery_turns.specs.Actions.{ledger_of, Inside, inside, Made, Makes, MakesAlso, IsOpening, begun_transfer, came_by, queued_after, read_after, peer_tag, Begun, begun_below, Becomes, goes_on, works_resets, ends, begins, IsCalm}
 use Rattle.dcsctp_delivery_turns.specs.Sides.{WasSent, receiving, ReceivingSteps}
-use Rattle.dcsctp_machine.specs.control.Effect.{link_of, link_in}
-use Rattle.dcsctp_machine.specs.transfer.Messages.{MessageContent}
+use Rattle.dcsctp_spec_lemmas.specs.spec.association.Effect.{link_of, link_in}
+use Rattle.dcsctp_spec_lemmas.specs.types.queues.Messages.{MessageContent}
 use Rattle.dcsctp_delivery_turns.specs.Runs.{new_direction, OpensSmall, PerformsNewest, performed_where, ReceiverTurns, receiver_goes_on, receiver_ends, receiver_begins, Opens, IdleTurns, idle_stays, idle_begins}
 use Rattle.dcsctp_delivery_directions.specs.Directions.{Asking, nothing_asked, Direction, Run}
 use Rattle.dcsctp_delivery_turns.proofs.Sides.{steps_go_on, actions_receive}
 use Rattle.dcsctp_delivery_turns.proofs.Idle.{actions_none, read_none, opening_sent}
-use Rattle.dcsctp_machine.specs.Reconfiguration.{RequestedReset}
-use Rattle.dcsctp_machine.specs.turns.ResetOutcomes.{has_reset}
+use Rattle.dcsctp_spec_lemmas.specs.spec.Reconfiguration.{RequestedReset}
+use Rattle.dcsctp_spec_lemmas.specs.spec.endpoint.ResetOutcomes.{has_reset}
 use Rattle.dcsctp_delivery_turns.specs.Asking.{own_of, SomeFit}
 use Rattle.dcsctp_delivery_turns.proofs.Fronts.{front_none, resetting, unperformed, front_receives}
 use Rattle.dcsctp_delivery_turns.proofs.Beginnings.{nothing_fits, unlinked_fits, worked_fits}

@@ -1,29 +1,29 @@
 -- The turn of RE-CONFIG, as actions (RFC 6525, section 5.2).
-use Rattle.dcsctp_machine.specs.control.Effect as effects
+use Rattle.dcsctp_spec_lemmas.specs.spec.association.Effect as effects
 use Rattle.std.proofs.Common.{◌≡◌, ℕ, Bool, true, false, Option, None, Some, List, [], ◌∷◌, ◌++◌, refl, sym, ◌∙◌, subst, ap}
-use Rattle.dcsctp_machine.specs.declared.association.Pair.{Pair}
-use Rattle.dcsctp_machine.specs.declared.association.Held.{Held}
-use Rattle.dcsctp_machine.specs.declared.kinds.ErrorKind.TheVariants.{ProtocolViolation}
-use Rattle.dcsctp_machine.specs.Event.{Event, error, packets_in}
-use Rattle.dcsctp_machine.specs.Packet.{Content, re_config, Emission}
-use Rattle.dcsctp_machine.specs.Reconfiguration.{RequestedReset, ResetParameter}
-use Rattle.dcsctp_machine.specs.Endpoint.{Endpoint, Core, closed, cookie_wait, cookie_echoed, open_in, OutstandingRequest}
-use Rattle.dcsctp_machine.specs.Outcome.{Outcome, still, to_peer}
-use Rattle.dcsctp_machine.specs.control.Effect.{Effect}
-use Rattle.dcsctp_machine.specs.control.ResetChanges.{WorkedParameters}
-use Rattle.dcsctp_machine.specs.transfer.Transfer.{Transfer, Below}
-use Rattle.dcsctp_machine.specs.turns.FlushOutcomes.{Answer, draft_to, flush_of, first_ask, packets_allowed}
-use Rattle.dcsctp_machine.specs.turns.ReconfigurationOutcomes.{reset_again}
-use Rattle.dcsctp_machine.specs.turns.ResetOutcomes.{own_moved, waiting, has_completed, requested_in, worked_in, has_reset, answers_in_progress, ResetsBelow, OwnAnswer, unanswered, retried, was_performed, has_failed, answered_in, own_streams, their_streams, reset_events, told_of, resets_worked, reset_refusal_text, responses_outcome, responses_by, ResponseAnswers, WorksResets, ResetTurn, is_reached, core_with}
-use Rattle.dcsctp_machine_refinement.proofs.Bursts.{packets_in-append, emits_core}
+use Rattle.dcsctp_spec_lemmas.specs.types.declared.association.Pair.{Pair}
+use Rattle.dcsctp_spec_lemmas.specs.types.declared.association.Held.{Held}
+use Rattle.dcsctp_spec_lemmas.specs.types.declared.kinds.ErrorKind.TheVariants.{ProtocolViolation}
+use Rattle.dcsctp_spec_lemmas.specs.spec.endpoint.Event.{Event, error, packets_in}
+use Rattle.dcsctp_spec_lemmas.specs.spec.Packet.{Content, re_config, Emission}
+use Rattle.dcsctp_spec_lemmas.specs.spec.Reconfiguration.{RequestedReset, ResetParameter}
+use Rattle.dcsctp_spec_lemmas.specs.spec.endpoint.Endpoint.{Endpoint, Core, closed, cookie_wait, cookie_echoed, open_in, OutstandingRequest}
+use Rattle.dcsctp_spec_lemmas.specs.spec.endpoint.Outcome.{Outcome, still, to_peer}
+use Rattle.dcsctp_spec_lemmas.specs.spec.association.Effect.{Effect}
+use Rattle.dcsctp_spec_lemmas.specs.spec.association.ResetChanges.{WorkedParameters}
+use Rattle.dcsctp_spec_lemmas.specs.spec.queues.Transfer.{Transfer, Below}
+use Rattle.dcsctp_spec_lemmas.specs.spec.endpoint.FlushOutcomes.{Answer, draft_to, flush_of, first_ask, packets_allowed}
+use Rattle.dcsctp_spec_lemmas.specs.spec.endpoint.ReconfigurationOutcomes.{reset_again}
+use Rattle.dcsctp_spec_lemmas.specs.spec.endpoint.ResetOutcomes.{own_moved, waiting, has_completed, requested_in, worked_in, has_reset, answers_in_progress, ResetsBelow, OwnAnswer, unanswered, retried, was_performed, has_failed, answered_in, own_streams, their_streams, reset_events, told_of, resets_worked, reset_refusal_text, responses_outcome, responses_by, ResponseAnswers, WorksResets, ResetTurn, is_reached, core_with}
+use Rattle.dcsctp_theorem_sockets.proofs.Bursts.{packets_in-append, emits_core}
 use Rattle.dcsctp_delivery_turns.specs.Actions.{Inside, inside, Makes, has_refused, OwnEnds, unended, committed, rolled_back, PeerResets, unreset, absent, deferred, reset_now, works_resets}
 use Rattle.dcsctp_delivery_turns.specs.Asking.{Own, own_with, own_in, own_of}
 use Rattle.std.specs.Option.{option_map}
-use Rattle.dcsctp_machine.proofs.FlushKeeps.{begun_by, flush_keeps}
+use Rattle.dcsctp_spec_lemmas.proofs.FlushKeeps.{begun_by, flush_keeps}
 use Rattle.dcsctp_delivery_sending.specs.Flushes.{NoRequests}
-use Rattle.dcsctp_machine.proofs.ResetLemmas.{KeepsPeer, chunk_brings, worked_keeps}
-use Rattle.dcsctp_machine.specs.declared.capabilities.Capabilities.{Capabilities}
-use Rattle.dcsctp_machine.specs.control.Effect.{Link, link_of, link_in}
+use Rattle.dcsctp_spec_laws.proofs.ResetLemmas.{KeepsPeer, chunk_brings, worked_keeps}
+use Rattle.dcsctp_spec_lemmas.specs.types.declared.capabilities.Capabilities.{Capabilities}
+use Rattle.dcsctp_spec_lemmas.specs.spec.association.Effect.{Link, link_of, link_in}
 use Rattle.dcsctp_delivery_turns.proofs.Tags.{flush_link}
 use Rattle.dcsctp_delivery_turns.specs.Tags.{IsPeerTag}
 use Rattle.dcsctp_delivery_turns.proofs.Actions.{emits_link, Goes, MakesTo, both, rests, silent, emitted, flushed}

@@ -1,7 +1,7 @@
 -- The laws of turns, as what they do to runs of two directions.
 use Rattle.dcsctp_delivery_directions.specs.Directions as directions
 use Rattle.std.proofs.Common.{None, [], sym, subst}
-use Rattle.dcsctp_machine.specs.transfer.SendQueue.{empty_queue}
+use Rattle.dcsctp_spec_lemmas.specs.spec.queues.SendQueue.{empty_queue}
 use Rattle.dcsctp_delivery_turns.specs.Runs.{SendersGoOn, SendersBegin, SendersBeginAnew, ReceiversGoOn, ReceiversBegin}
 use Rattle.dcsctp_delivery_turns.proofs.Turns.{turns_are_actions}
 use Rattle.dcsctp_delivery_turns.proofs.Beginnings.{fresh_waits, anew_runs}

@@ -2,23 +2,23 @@
 use Rattle.dcsctp_delivery_directions.specs.Directions as directions
 use Rattle.std.proofs.Common.{◌≡◌, ◌<◌, ◌^◌, ℕ, Option, None, Some, List, [], ◌++◌, length, refl, sym, ◌∙◌, subst, arith}
 use Rattle.std.specs.List.{AllByRecursion}
-use Rattle.dcsctp_machine.specs.declared.options.Options.{Options}
-use Rattle.dcsctp_machine.specs.Endpoint.{Endpoint}
-use Rattle.dcsctp_machine.specs.Event.{packets_in}
-use Rattle.dcsctp_machine.specs.Outcome.{Outcome}
-use Rattle.dcsctp_machine.specs.Packet.{Emission}
-use Rattle.dcsctp_machine.specs.Turn.{Input}
-use Rattle.dcsctp_machine.specs.transfer.Transfer.{Below}
+use Rattle.dcsctp_spec_lemmas.specs.types.declared.options.Options.{Options}
+use Rattle.dcsctp_spec_lemmas.specs.spec.endpoint.Endpoint.{Endpoint}
+use Rattle.dcsctp_spec_lemmas.specs.spec.endpoint.Event.{packets_in}
+use Rattle.dcsctp_spec_lemmas.specs.spec.endpoint.Outcome.{Outcome}
+use Rattle.dcsctp_spec_lemmas.specs.spec.Packet.{Emission}
+use Rattle.dcsctp_spec_lemmas.specs.spec.endpoint.Turn.{Input}
+use Rattle.dcsctp_spec_lemmas.specs.spec.queues.Transfer.{Below}
 use Rattle.dcsctp_delivery_sending.specs.Log.{Fits, Message}
 use Rattle.dcsctp_delivery_turns.specs.Actions.{ledger_of, Inside, inside, Made, MakesAlso, came_by, queued_after, read_after, peer_tag, begun_below, Becomes, goes_on, works_resets, ends, begins}
 use Rattle.dcsctp_delivery_sending.specs.Queueing.{QueueWaits}
 use Rattle.dcsctp_delivery_turns.specs.Addressed.{AreAddressed}
-use Rattle.dcsctp_machine.specs.control.Effect.{link_in}
-use Rattle.dcsctp_machine.specs.transfer.Messages.{MessageContent}
+use Rattle.dcsctp_spec_lemmas.specs.spec.association.Effect.{link_in}
+use Rattle.dcsctp_spec_lemmas.specs.types.queues.Messages.{MessageContent}
 use Rattle.dcsctp_delivery_turns.specs.Runs.{sender_at, IsBetween, as_it_was, OpensSmall, EndsPerformed, SenderTurns, run_goes_on, run_ends, run_begins}
 use Rattle.dcsctp_delivery_directions.specs.Directions.{Asking, nothing_asked, Direction, Run, IsAwaited}
 use Rattle.dcsctp_delivery_turns.proofs.Sides.{steps_go_on, actions_send}
-use Rattle.dcsctp_machine.specs.Reconfiguration.{RequestedReset}
+use Rattle.dcsctp_spec_lemmas.specs.spec.Reconfiguration.{RequestedReset}
 use Rattle.dcsctp_delivery_turns.specs.Asking.{Own, own_of, AsksFit, AskingGrows}
 use Rattle.dcsctp_delivery_turns.proofs.Numbering.{actions_kind}
 use Rattle.dcsctp_delivery_turns.proofs.Fronts.{sending_by, front_sends}

@@ -1,20 +1,20 @@
 -- The turns of a shutdown, as actions.
-use Rattle.dcsctp_machine.specs.Event as events
+use Rattle.dcsctp_spec_lemmas.specs.spec.endpoint.Event as events
 use Rattle.std.proofs.Common.{◌≡◌, ℕ, Bool, true, false, Option, [], ◌∷◌, refl, sym, subst, Some, ap, ◌∙◌}
-use Rattle.dcsctp_machine.specs.declared.association.Pair.{Pair}
-use Rattle.dcsctp_machine.specs.declared.association.Held.{Held}
-use Rattle.dcsctp_machine.specs.Packet.{Content, shutdown, shutdown_ack, shutdown_complete}
-use Rattle.dcsctp_machine.specs.Endpoint.{Endpoint, Core, closed, cookie_wait, cookie_echoed, open_in, OpenPhase, established, shutdown_pending, shutdown_sent, shutdown_received, shutdown_ack_sent}
-use Rattle.dcsctp_machine.specs.Outcome.{Outcome, sends, to_peer}
-use Rattle.dcsctp_machine.specs.Turn.{BeginTurn}
-use Rattle.dcsctp_machine.specs.turns.EndOutcomes.{reflected_outcome}
-use Rattle.dcsctp_machine.specs.turns.ShutdownOutcomes.{phase_at, received_tsn, is_all_acknowledged, step_by, step_outcome, t1_stopped, shut_down_outcome, shutdown_outcome, shutdown_ack_outcome, completed_outcome, shutdown_complete_outcome, t2_goes_on, sent_again, t2_again_outcome}
-use Rattle.dcsctp_machine.specs.control.Effect.{link_of, link_in}
+use Rattle.dcsctp_spec_lemmas.specs.types.declared.association.Pair.{Pair}
+use Rattle.dcsctp_spec_lemmas.specs.types.declared.association.Held.{Held}
+use Rattle.dcsctp_spec_lemmas.specs.spec.Packet.{Content, shutdown, shutdown_ack, shutdown_complete}
+use Rattle.dcsctp_spec_lemmas.specs.spec.endpoint.Endpoint.{Endpoint, Core, closed, cookie_wait, cookie_echoed, open_in, OpenPhase, established, shutdown_pending, shutdown_sent, shutdown_received, shutdown_ack_sent}
+use Rattle.dcsctp_spec_lemmas.specs.spec.endpoint.Outcome.{Outcome, sends, to_peer}
+use Rattle.dcsctp_spec_lemmas.specs.spec.endpoint.Turn.{BeginTurn}
+use Rattle.dcsctp_spec_lemmas.specs.spec.endpoint.EndOutcomes.{reflected_outcome}
+use Rattle.dcsctp_spec_lemmas.specs.spec.endpoint.ShutdownOutcomes.{phase_at, received_tsn, is_all_acknowledged, step_by, step_outcome, t1_stopped, shut_down_outcome, shutdown_outcome, shutdown_ack_outcome, completed_outcome, shutdown_complete_outcome, t2_goes_on, sent_again, t2_again_outcome}
+use Rattle.dcsctp_spec_lemmas.specs.spec.association.Effect.{link_of, link_in}
 use Rattle.dcsctp_delivery_turns.specs.Tags.{IsPeerTag}
 use Rattle.dcsctp_delivery_turns.specs.Actions.{IsCalm, Inside, inside, Makes, goes_on, ends}
 use Rattle.dcsctp_delivery_turns.specs.Asking.{Own, own_with, own_in, own_of}
-use Rattle.dcsctp_machine.specs.transfer.Transfer.{Below}
-use Rattle.dcsctp_machine.specs.Packet.{Emission}
+use Rattle.dcsctp_spec_lemmas.specs.spec.queues.Transfer.{Below}
+use Rattle.dcsctp_spec_lemmas.specs.spec.Packet.{Emission}
 use Rattle.std.proofs.Common.{List}
 use Rattle.dcsctp_delivery_turns.proofs.Actions.{Goes, MakesTo, rests, spoken, ended}
 

@@ -1,19 +1,19 @@
 -- The turns of a shutdown, and ends: no request of the peer is accepted or performed.
 use Rattle.std.proofs.Common.{ℕ, Bool, true, false, List, [], refl}
-use Rattle.dcsctp_machine.specs.Cause.{Cause}
-use Rattle.dcsctp_machine.specs.declared.association.Held.{Held}
-use Rattle.dcsctp_machine.specs.declared.association.Pair.{Pair}
-use Rattle.dcsctp_machine.specs.declared.ends.AbortReason.{AbortReason}
-use Rattle.dcsctp_machine.specs.Endpoint.{Endpoint, Core, closed, cookie_wait, cookie_echoed, open_in, OpenPhase, established, shutdown_pending, shutdown_sent, shutdown_received, shutdown_ack_sent}
-use Rattle.dcsctp_machine.specs.Event as events
-use Rattle.dcsctp_machine.specs.Event.{Event, connected, connection_restarted, aborted}
-use Rattle.dcsctp_machine.specs.Outcome.{Outcome, quiet, sends, emits, to_peer}
-use Rattle.dcsctp_machine.specs.Packet.{shutdown_complete}
-use Rattle.dcsctp_machine.specs.Turn.{BeginTurn}
-use Rattle.dcsctp_machine.specs.turns.EndOutcomes.{abort_outcome, abort_to, aborting_outcome, end_of}
-use Rattle.dcsctp_machine.specs.turns.HandoverOutcomes.{hand_over_outcome}
-use Rattle.dcsctp_machine.specs.turns.ShutdownOutcomes.{phase_at, is_all_acknowledged, step_by, step_outcome, step_from, t1_stopped, shut_down_outcome, shutdown_outcome, shutdown_ack_outcome, shutdown_complete_outcome, sent_again}
-use Rattle.dcsctp_machine.specs.turns.TimerOutcomes.{t1_gives_up_outcome}
+use Rattle.dcsctp_spec_lemmas.specs.spec.endpoint.Cause.{Cause}
+use Rattle.dcsctp_spec_lemmas.specs.types.declared.association.Held.{Held}
+use Rattle.dcsctp_spec_lemmas.specs.types.declared.association.Pair.{Pair}
+use Rattle.dcsctp_spec_lemmas.specs.types.declared.ends.AbortReason.{AbortReason}
+use Rattle.dcsctp_spec_lemmas.specs.spec.endpoint.Endpoint.{Endpoint, Core, closed, cookie_wait, cookie_echoed, open_in, OpenPhase, established, shutdown_pending, shutdown_sent, shutdown_received, shutdown_ack_sent}
+use Rattle.dcsctp_spec_lemmas.specs.spec.endpoint.Event as events
+use Rattle.dcsctp_spec_lemmas.specs.spec.endpoint.Event.{Event, connected, connection_restarted, aborted}
+use Rattle.dcsctp_spec_lemmas.specs.spec.endpoint.Outcome.{Outcome, quiet, sends, emits, to_peer}
+use Rattle.dcsctp_spec_lemmas.specs.spec.Packet.{shutdown_complete}
+use Rattle.dcsctp_spec_lemmas.specs.spec.endpoint.Turn.{BeginTurn}
+use Rattle.dcsctp_spec_lemmas.specs.spec.endpoint.EndOutcomes.{abort_outcome, abort_to, aborting_outcome, end_of}
+use Rattle.dcsctp_spec_lemmas.specs.spec.endpoint.HandoverOutcomes.{hand_over_outcome}
+use Rattle.dcsctp_spec_lemmas.specs.spec.endpoint.ShutdownOutcomes.{phase_at, is_all_acknowledged, step_by, step_outcome, step_from, t1_stopped, shut_down_outcome, shutdown_outcome, shutdown_ack_outcome, shutdown_complete_outcome, sent_again}
+use Rattle.dcsctp_spec_lemmas.specs.spec.endpoint.TimerOutcomes.{t1_gives_up_outcome}
 use Rattle.dcsctp_delivery_turns.proofs.Waiting.{AsksNothing, as_this, rests, said, emitted, ended}
 
 -- ---- shutdown

@@ -1,21 +1,21 @@
 -- The turns of the handshake: no request of the peer is accepted or performed.
 use Rattle.std.proofs.Common.{◌≡◌, ◌⊎◌, ℕ, Bool, true, false, cond, Option, None, Some, Result, Ok, Err, List, [], ◌∷◌, refl, inl, inr}
-use Rattle.dcsctp_machine.specs.Cookie.{Cookie}
-use Rattle.dcsctp_machine.specs.declared.association.Pair.{Pair}
-use Rattle.dcsctp_machine.specs.declared.word.Word.{Word}
-use Rattle.dcsctp_machine.specs.declared.word.Word.TheVariants.{U32, U64}
-use Rattle.dcsctp_machine.specs.Endpoint.{Endpoint, Core, closed, cookie_wait, cookie_echoed, open_in, established, shutdown_pending, shutdown_sent, shutdown_received, shutdown_ack_sent}
-use Rattle.dcsctp_machine.specs.Event.{Event, connected, connection_restarted, aborted}
-use Rattle.dcsctp_machine.specs.Outcome.{Outcome, quiet, emits, fits, drawing, to_peer}
-use Rattle.dcsctp_machine.specs.Packet.{Introduction, Content, cookie_echo, shutdown_ack, Emission}
-use Rattle.dcsctp_machine.specs.control.CookieEchoChanges.{held_by_cookie, Resolution, establish_new, restart, simultaneous_init, discard, maintain_existing, invalid_tag, stale}
-use Rattle.dcsctp_machine.specs.control.Effect.{link_of, link_in}
-use Rattle.dcsctp_machine.specs.control.HandshakeChanges.{held_by_init_ack}
-use Rattle.dcsctp_machine.specs.transfer.SendQueue.{SendQueueState, restarted, numbered_for}
-use Rattle.dcsctp_machine.specs.turns.CookieEchoOutcomes.{acknowledgement, EstablishAnswers, establish_by, established_by, interleaves, queue_kept, queue_begun, RestartAnswers, restart_by_where, MaintainAnswers, maintain_by, ResolvedAnswers, resolved_by, EchoedAnswers, cookie_echo_by, resolved_now, window_by_cookie}
-use Rattle.dcsctp_machine.specs.turns.FlushOutcomes.{Answer, draft_to, flush_answered}
-use Rattle.dcsctp_machine.specs.turns.HandshakeOutcomes.{pair_from, renewed_pair, init_ack_emission, init_outcome, init_emission, awaits_init_ack, connect_outcome, awaits_cookie_ack, echo_emission, EchoAnswers, InitAckAnswers, accepted_init_ack_by, init_ack_by, connected_after, CookieAckAnswers, cookie_ack_by, abort_emission, no_cookie_text}
-use Rattle.dcsctp_machine.specs.turns.TimerOutcomes.{AgainAnswers, again_by}
+use Rattle.dcsctp_spec_lemmas.specs.spec.Cookie.{Cookie}
+use Rattle.dcsctp_spec_lemmas.specs.types.declared.association.Pair.{Pair}
+use Rattle.dcsctp_spec_lemmas.specs.types.declared.word.Word.{Word}
+use Rattle.dcsctp_spec_lemmas.specs.types.declared.word.Word.TheVariants.{U32, U64}
+use Rattle.dcsctp_spec_lemmas.specs.spec.endpoint.Endpoint.{Endpoint, Core, closed, cookie_wait, cookie_echoed, open_in, established, shutdown_pending, shutdown_sent, shutdown_received, shutdown_ack_sent}
+use Rattle.dcsctp_spec_lemmas.specs.spec.endpoint.Event.{Event, connected, connection_restarted, aborted}
+use Rattle.dcsctp_spec_lemmas.specs.spec.endpoint.Outcome.{Outcome, quiet, emits, fits, drawing, to_peer}
+use Rattle.dcsctp_spec_lemmas.specs.spec.Packet.{Introduction, Content, cookie_echo, shutdown_ack, Emission}
+use Rattle.dcsctp_spec_lemmas.specs.spec.association.CookieEchoChanges.{held_by_cookie, Resolution, establish_new, restart, simultaneous_init, discard, maintain_existing, invalid_tag, stale}
+use Rattle.dcsctp_spec_lemmas.specs.spec.association.Effect.{link_of, link_in}
+use Rattle.dcsctp_spec_lemmas.specs.spec.association.HandshakeChanges.{held_by_init_ack}
+use Rattle.dcsctp_spec_lemmas.specs.spec.queues.SendQueue.{SendQueueState, restarted, numbered_for}
+use Rattle.dcsctp_spec_lemmas.specs.spec.endpoint.CookieEchoOutcomes.{acknowledgement, EstablishAnswers, establish_by, established_by, interleaves, queue_kept, queue_begun, RestartAnswers, restart_by_where, MaintainAnswers, maintain_by, ResolvedAnswers, resolved_by, EchoedAnswers, cookie_echo_by, resolved_now, window_by_cookie}
+use Rattle.dcsctp_spec_lemmas.specs.spec.endpoint.FlushOutcomes.{Answer, draft_to, flush_answered}
+use Rattle.dcsctp_spec_lemmas.specs.spec.endpoint.HandshakeOutcomes.{pair_from, renewed_pair, init_ack_emission, init_outcome, init_emission, awaits_init_ack, connect_outcome, awaits_cookie_ack, echo_emission, EchoAnswers, InitAckAnswers, accepted_init_ack_by, init_ack_by, connected_after, CookieAckAnswers, cookie_ack_by, abort_emission, no_cookie_text}
+use Rattle.dcsctp_spec_lemmas.specs.spec.endpoint.TimerOutcomes.{AgainAnswers, again_by}
 use Rattle.dcsctp_delivery_turns.specs.Actions.{Begun, begun_transfer, IsOpening}
 use Rattle.dcsctp_delivery_turns.proofs.Tags.{flush_link}
 use Rattle.dcsctp_delivery_turns.proofs.Waiting.{AsksNothing, rests, said, emitted, flushed, flushed_behind, ended}

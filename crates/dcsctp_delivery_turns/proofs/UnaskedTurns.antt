@@ -1,25 +1,25 @@
 -- Each turn in which no RE-CONFIG is handled: no request of the peer is accepted or performed.
-use Rattle.dcsctp_machine.specs.declared.ends.AbortReason.TheVariants as reasons
+use Rattle.dcsctp_spec_lemmas.specs.types.declared.ends.AbortReason.TheVariants as reasons
 use Rattle.std.proofs.Common.{◌==◌, ℕ, Bool, true, false, cond, Option, None, Some, List, [], refl, sym, subst}
-use Rattle.dcsctp_wire.specs.Content.{ParameterContent, data_chunk, sack_chunk, error_chunk, i_data_chunk, forward_tsn_chunk, i_forward_tsn_chunk}
-use Rattle.dcsctp_machine.specs.Cause.{Cause}
-use Rattle.dcsctp_machine.specs.Cookie.{cookie_at}
-use Rattle.dcsctp_machine.specs.declared.association.Held.{Held}
-use Rattle.dcsctp_machine.specs.declared.ends.Violation.{Violation}
-use Rattle.dcsctp_machine.specs.Endpoint.{Endpoint, Core, closed, cookie_wait, cookie_echoed, open_in, OutstandingRequest, held_in}
-use Rattle.dcsctp_machine.specs.Outcome.{Outcome, still, to_peer}
-use Rattle.dcsctp_machine.specs.Packet.{Content, init, init_ack, cookie_echo, cookie_ack, re_config, abort, shutdown, shutdown_ack, shutdown_complete, Plain, plain, unknown, heartbeat, heartbeat_ack, unworked}
-use Rattle.dcsctp_machine.specs.Reconfiguration.{RequestedReset}
-use Rattle.dcsctp_machine.specs.Turn.{Input, arrival, refusal, packet_begins, chunk_input, packet_ends, act_input, user_sets, user_sends, user_resets, user_takes, timer_expires, time_passes, restores, has_data, ContentTurn, ActTurn, Turn}
-use Rattle.dcsctp_machine.specs.control.Acts.{Act, connect, t1_expires, shut_down, step_of_shutdown, shutdown_repeats, abort_with, hands_over, flushes, request_again}
-use Rattle.dcsctp_machine.specs.control.FlushChanges.{reset_request}
-use Rattle.dcsctp_machine.specs.transfer.Arrivals.{data_arrival, i_data_arrival, skipped_in, messages_skipped_in}
-use Rattle.dcsctp_machine.specs.turns.HeartbeatOutcomes.{heartbeat_outcome, info_in, counter_of, answered, heartbeat_ack_outcome, interval_expired, beating, heartbeat_emission, interval_outcome, is_exhausted}
-use Rattle.dcsctp_machine.specs.turns.OwnTimers.{OwnTimer, acknowledgement_delay, retransmission, heartbeat_interval, heartbeat_timeout, reconfiguration, TimerTurn}
-use Rattle.dcsctp_machine.specs.turns.PlainOutcomes.{PlainTurnBy, violation_at, is_reported, after_unknown, unknown_bytes, unknown_told, error_outcome}
-use Rattle.dcsctp_machine.specs.turns.ReconfigurationOutcomes.{reset_again, request_emitted, request_unless, request_errors, request_expired, reconfiguration_outcome}
-use Rattle.dcsctp_machine.specs.turns.ShutdownOutcomes.{t2_goes_on}
-use Rattle.dcsctp_machine.specs.turns.TimerOutcomes.{t1_goes_on}
+use Rattle.dcsctp_spec_lemmas.specs.wire.Content.{ParameterContent, data_chunk, sack_chunk, error_chunk, i_data_chunk, forward_tsn_chunk, i_forward_tsn_chunk}
+use Rattle.dcsctp_spec_lemmas.specs.spec.endpoint.Cause.{Cause}
+use Rattle.dcsctp_spec_lemmas.specs.spec.Cookie.{cookie_at}
+use Rattle.dcsctp_spec_lemmas.specs.types.declared.association.Held.{Held}
+use Rattle.dcsctp_spec_lemmas.specs.types.declared.ends.Violation.{Violation}
+use Rattle.dcsctp_spec_lemmas.specs.spec.endpoint.Endpoint.{Endpoint, Core, closed, cookie_wait, cookie_echoed, open_in, OutstandingRequest, held_in}
+use Rattle.dcsctp_spec_lemmas.specs.spec.endpoint.Outcome.{Outcome, still, to_peer}
+use Rattle.dcsctp_spec_lemmas.specs.spec.Packet.{Content, init, init_ack, cookie_echo, cookie_ack, re_config, abort, shutdown, shutdown_ack, shutdown_complete, Plain, plain, unknown, heartbeat, heartbeat_ack, unworked}
+use Rattle.dcsctp_spec_lemmas.specs.spec.Reconfiguration.{RequestedReset}
+use Rattle.dcsctp_spec_lemmas.specs.spec.endpoint.Turn.{Input, arrival, refusal, packet_begins, chunk_input, packet_ends, act_input, user_sets, user_sends, user_resets, user_takes, timer_expires, time_passes, restores, has_data, ContentTurn, ActTurn, Turn}
+use Rattle.dcsctp_spec_lemmas.specs.spec.association.Acts.{Act, connect, t1_expires, shut_down, step_of_shutdown, shutdown_repeats, abort_with, hands_over, flushes, request_again}
+use Rattle.dcsctp_spec_lemmas.specs.spec.association.FlushChanges.{reset_request}
+use Rattle.dcsctp_spec_lemmas.specs.spec.queues.Arrivals.{data_arrival, i_data_arrival, skipped_in, messages_skipped_in}
+use Rattle.dcsctp_spec_lemmas.specs.spec.endpoint.HeartbeatOutcomes.{heartbeat_outcome, info_in, counter_of, answered, heartbeat_ack_outcome, interval_expired, beating, heartbeat_emission, interval_outcome, is_exhausted}
+use Rattle.dcsctp_spec_lemmas.specs.spec.endpoint.OwnTimers.{OwnTimer, acknowledgement_delay, retransmission, heartbeat_interval, heartbeat_timeout, reconfiguration, TimerTurn}
+use Rattle.dcsctp_spec_lemmas.specs.spec.endpoint.PlainOutcomes.{PlainTurnBy, violation_at, is_reported, after_unknown, unknown_bytes, unknown_told, error_outcome}
+use Rattle.dcsctp_spec_lemmas.specs.spec.endpoint.ReconfigurationOutcomes.{reset_again, request_emitted, request_unless, request_errors, request_expired, reconfiguration_outcome}
+use Rattle.dcsctp_spec_lemmas.specs.spec.endpoint.ShutdownOutcomes.{t2_goes_on}
+use Rattle.dcsctp_spec_lemmas.specs.spec.endpoint.TimerOutcomes.{t1_goes_on}
 use Rattle.dcsctp_delivery_turns.specs.Actions.{IsCalm, IsCall, came_by}
 use Rattle.dcsctp_delivery_turns.proofs.Unasked.{flush_asks, data_asks, forward_asks, sack_asks, end_asks, take_asks, delay_asks, loss_asks, send_asks, own_resets_ask}
 use Rattle.dcsctp_delivery_turns.proofs.Waiting.{all_wait, AsksNothing, as_this, rests, said, emitted}

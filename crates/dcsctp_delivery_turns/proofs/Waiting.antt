@@ -1,23 +1,23 @@
 -- What waits for a reset, where no request of the peer is handled.
-use Rattle.dcsctp_machine.specs.control.Effect as effects
+use Rattle.dcsctp_spec_lemmas.specs.spec.association.Effect as effects
 use Rattle.std.proofs.Common.{◌≡◌, ℕ, Bool, true, false, cond, Option, None, Some, List, [], ◌∷◌, ◌++◌, length, refl, sym, ◌∙◌, subst, ap}
-use Rattle.dcsctp_machine.specs.declared.arrivals.SkippedTo.{SkippedTo}
-use Rattle.dcsctp_machine.specs.declared.word.Word.{Word}
-use Rattle.dcsctp_machine.specs.Endpoint.{Endpoint}
-use Rattle.dcsctp_machine.specs.Event.{Event}
-use Rattle.dcsctp_machine.specs.Outcome.{Outcome, still, quiet, sends, emits, fits, behind}
-use Rattle.dcsctp_machine.specs.Packet.{Emission}
-use Rattle.dcsctp_machine.specs.control.Effect.{Effect}
-use Rattle.dcsctp_machine.specs.transfer.Arrivals.{Arrival}
-use Rattle.dcsctp_machine.specs.transfer.IncomingStreams.{ChunkModel}
-use Rattle.dcsctp_machine.specs.transfer.Reassembly.{DeferralModel, WaitingModel, ReassemblyState, can_count, is_deferred, is_forward_deferred, with_waiting, arrived, skipping, AddsData, SkipsData, is_above_watermark}
-use Rattle.dcsctp_machine.specs.transfer.Tracker.{is_new_tsn, is_forward, is_valid_tsn}
-use Rattle.dcsctp_machine.specs.transfer.Transfer.{Transfer, Below}
-use Rattle.dcsctp_machine.specs.turns.BegunResets.{BegunReset, begun_effects}
-use Rattle.dcsctp_machine.specs.turns.EndOutcomes.{ended_outcome}
-use Rattle.dcsctp_machine.specs.turns.FlushOutcomes.{Answer, answer_contents, filled, asked, next_draft, flush_of, FlushAnswers, Ask, first_ask, later_ask, AnsweredBelow, Answered, Answers, at_limit, at_empty, after_packet, packets_allowed}
-use Rattle.dcsctp_machine.specs.turns.TransferMoves.{AddsWhere, ReceivesWhere, ReceivesData, SkipsWhere, MovesWhere, MovesForward}
-use Rattle.dcsctp_machine.proofs.FlushKeeps.{begun_by, flush_keeps}
+use Rattle.dcsctp_spec_lemmas.specs.types.declared.arrivals.SkippedTo.{SkippedTo}
+use Rattle.dcsctp_spec_lemmas.specs.types.declared.word.Word.{Word}
+use Rattle.dcsctp_spec_lemmas.specs.spec.endpoint.Endpoint.{Endpoint}
+use Rattle.dcsctp_spec_lemmas.specs.spec.endpoint.Event.{Event}
+use Rattle.dcsctp_spec_lemmas.specs.spec.endpoint.Outcome.{Outcome, still, quiet, sends, emits, fits, behind}
+use Rattle.dcsctp_spec_lemmas.specs.spec.Packet.{Emission}
+use Rattle.dcsctp_spec_lemmas.specs.spec.association.Effect.{Effect}
+use Rattle.dcsctp_spec_lemmas.specs.spec.queues.Arrivals.{Arrival}
+use Rattle.dcsctp_spec_lemmas.specs.spec.queues.IncomingStreams.{ChunkModel}
+use Rattle.dcsctp_spec_lemmas.specs.spec.queues.Reassembly.{DeferralModel, WaitingModel, ReassemblyState, can_count, is_deferred, is_forward_deferred, with_waiting, arrived, skipping, AddsData, SkipsData, is_above_watermark}
+use Rattle.dcsctp_spec_lemmas.specs.spec.queues.Tracker.{is_new_tsn, is_forward, is_valid_tsn}
+use Rattle.dcsctp_spec_lemmas.specs.spec.queues.Transfer.{Transfer, Below}
+use Rattle.dcsctp_spec_lemmas.specs.spec.endpoint.BegunResets.{BegunReset, begun_effects}
+use Rattle.dcsctp_spec_lemmas.specs.spec.endpoint.EndOutcomes.{ended_outcome}
+use Rattle.dcsctp_spec_lemmas.specs.spec.endpoint.FlushOutcomes.{Answer, answer_contents, filled, asked, next_draft, flush_of, FlushAnswers, Ask, first_ask, later_ask, AnsweredBelow, Answered, Answers, at_limit, at_empty, after_packet, packets_allowed}
+use Rattle.dcsctp_spec_lemmas.specs.spec.endpoint.TransferMoves.{AddsWhere, ReceivesWhere, ReceivesData, SkipsWhere, MovesWhere, MovesForward}
+use Rattle.dcsctp_spec_lemmas.proofs.FlushKeeps.{begun_by, flush_keeps}
 use Rattle.dcsctp_delivery_sending.proofs.Packets.{out_below}
 use Rattle.dcsctp_delivery_turns.specs.PeerRequests.{NoneAsked, SameWaits}
 use Rattle.dcsctp_delivery_turns.proofs.Received.{flush_left}

@@ -2,40 +2,41 @@
 -- the one on which it receives (specs/Sides).
 use Rattle.std.specs.Prelude.{◌≡◌, ◌≢◌, ◌<◌, ◌⊎◌, ℕ, Bool, true, false, Option, None, Some, List, [], ◌∷◌, ◌++◌, length}
 use Rattle.std.specs.List.{AllByRecursion}
-use Rattle.dcsctp_wire.specs.Content.{DataContent, IDataContent, SackContent, data_chunk, i_data_chunk, forward_tsn_chunk, i_forward_tsn_chunk}
-use Rattle.dcsctp_machine.specs.declared.association.Held.{Held}
-use Rattle.dcsctp_machine.specs.declared.association.Pair.{Pair}
-use Rattle.dcsctp_machine.specs.Endpoint.{Endpoint, Core, closed, cookie_wait, cookie_echoed, open_in}
-use Rattle.dcsctp_machine.specs.Event.{packets_in}
-use Rattle.dcsctp_machine.specs.Outcome.{Outcome}
-use Rattle.dcsctp_machine.specs.Packet.{Content, re_config, init, init_ack, cookie_echo, abort, shutdown_complete, Plain, unworked, plain, Emission}
-use Rattle.dcsctp_machine.specs.Turn.{Input, chunk_input, act_input, user_sends, user_takes, restores, Turn}
-use Rattle.dcsctp_machine.specs.control.Acts.{request_again}
-use Rattle.dcsctp_machine.specs.control.Choices.{plain_contents}
-use Rattle.dcsctp_machine.specs.control.Effect.{Effect, holds, fails, link_of, link_in}
-use Rattle.dcsctp_machine.specs.transfer.Acknowledging.{is_sack_valid}
-use Rattle.dcsctp_machine.specs.transfer.Arrivals.{data_arrival, i_data_arrival, skipped_in, messages_skipped_in}
-use Rattle.dcsctp_machine.specs.transfer.AtOnce.{SendsAtOnce}
-use Rattle.dcsctp_machine.specs.transfer.Chunks.{AreChunks}
-use Rattle.dcsctp_machine.specs.transfer.Messages.{MessageContent}
-use Rattle.dcsctp_machine.specs.transfer.OwnResets.{prepared_all, queue_committed, queue_rolled_back}
-use Rattle.dcsctp_machine.specs.transfer.Reassembly.{ReassemblyState, with_ready, deferring, Leaves}
-use Rattle.dcsctp_machine.specs.transfer.Retransmission.{RetransmissionState}
-use Rattle.dcsctp_machine.specs.transfer.SendQueue.{SendQueueState, restarted, numbered_for}
-use Rattle.dcsctp_machine.specs.transfer.Tracker.{TrackerState}
-use Rattle.dcsctp_machine.specs.transfer.Transfer.{Transfer, Below, new_transfer}
-use Rattle.dcsctp_machine.specs.turns.FlushOutcomes.{Answer, FlushAnswers, flush_of}
-use Rattle.dcsctp_machine.specs.turns.MessageOutcomes.{MessageRefusal, Sending, sending_queued, sending_refusal, queue_one}
-use Rattle.dcsctp_machine.specs.turns.ResetOutcomes.{has_completed, has_reset, requested_in}
-use Rattle.dcsctp_machine.specs.turns.SettingOutcomes.{Setting, set_in_queue}
-use Rattle.dcsctp_machine.specs.turns.TransferMoves.{ReceivesData, MovesForward, TakesSack, lost_all}
+use Rattle.dcsctp_spec_lemmas.specs.wire.Content.{DataContent, IDataContent, SackContent, data_chunk, i_data_chunk, forward_tsn_chunk, i_forward_tsn_chunk}
+use Rattle.dcsctp_spec_lemmas.specs.types.declared.association.Held.{Held}
+use Rattle.dcsctp_spec_lemmas.specs.types.declared.association.Pair.{Pair}
+use Rattle.dcsctp_spec_lemmas.specs.spec.endpoint.Endpoint.{Endpoint, Core, closed, cookie_wait, cookie_echoed, open_in}
+use Rattle.dcsctp_spec_lemmas.specs.spec.endpoint.Event.{packets_in}
+use Rattle.dcsctp_spec_lemmas.specs.spec.endpoint.Outcome.{Outcome}
+use Rattle.dcsctp_spec_lemmas.specs.spec.Packet.{Content, re_config, init, init_ack, cookie_echo, abort, shutdown_complete, Plain, unworked, plain, Emission}
+use Rattle.dcsctp_spec_lemmas.specs.spec.endpoint.Turn.{Input, chunk_input, act_input, user_sends, user_takes, restores, Turn}
+use Rattle.dcsctp_spec_lemmas.specs.spec.association.Acts.{request_again}
+use Rattle.dcsctp_spec_lemmas.specs.spec.association.Choices.{plain_contents}
+use Rattle.dcsctp_spec_lemmas.specs.spec.association.Effect.{Effect, holds, fails, link_of, link_in}
+use Rattle.dcsctp_spec_lemmas.specs.spec.queues.Acknowledging.{is_sack_valid}
+use Rattle.dcsctp_spec_lemmas.specs.spec.queues.Arrivals.{data_arrival, i_data_arrival, skipped_in, messages_skipped_in}
+use Rattle.dcsctp_spec_lemmas.specs.spec.queues.AtOnce.{SendsAtOnce}
+use Rattle.dcsctp_spec_lemmas.specs.spec.queues.Chunks.{AreChunks}
+use Rattle.dcsctp_spec_lemmas.specs.types.queues.Messages.{MessageContent}
+use Rattle.dcsctp_spec_lemmas.specs.spec.queues.OwnResets.{prepared_all, queue_committed, queue_rolled_back}
+use Rattle.dcsctp_spec_lemmas.specs.spec.queues.Reassembly.{ReassemblyState, with_ready, deferring, Leaves}
+use Rattle.dcsctp_spec_lemmas.specs.spec.queues.Retransmission.{RetransmissionState}
+use Rattle.dcsctp_spec_lemmas.specs.spec.queues.SendQueue.{SendQueueState, restarted, numbered_for}
+use Rattle.dcsctp_spec_lemmas.specs.spec.queues.Tracker.{TrackerState}
+use Rattle.dcsctp_spec_lemmas.specs.spec.queues.Transfer.{Transfer, Below, new_transfer}
+use Rattle.dcsctp_spec_lemmas.specs.spec.endpoint.FlushOutcomes.{Answer, FlushAnswers, flush_of}
+use Rattle.dcsctp_spec_lemmas.specs.spec.endpoint.MessageOutcomes.{MessageRefusal, Sending, sending_queued, sending_refusal, queue_one}
+use Rattle.dcsctp_spec_lemmas.specs.spec.endpoint.ResetOutcomes.{has_completed, has_reset, requested_in}
+use Rattle.dcsctp_spec_lemmas.specs.types.Setting.{Setting}
+use Rattle.dcsctp_spec_lemmas.specs.spec.endpoint.SettingOutcomes.{set_in_queue}
+use Rattle.dcsctp_spec_lemmas.specs.spec.endpoint.TransferMoves.{ReceivesData, MovesForward, TakesSack, lost_all}
 use Rattle.dcsctp_delivery_sending.specs.Log.{Fits, Message}
 use Rattle.dcsctp_delivery_sending.specs.Flushes.{NoData, begun_by}
 use Rattle.dcsctp_delivery_sending.specs.Queueing.{message_of}
-use Rattle.dcsctp_machine.specs.Reconfiguration.{RequestedReset, ResetParameter}
-use Rattle.dcsctp_machine.specs.control.FlushChanges.{reset_request}
-use Rattle.dcsctp_machine.specs.turns.BegunResets.{BegunReset}
-use Rattle.dcsctp_machine.specs.turns.ReconfigurationOutcomes.{reset_again}
+use Rattle.dcsctp_spec_lemmas.specs.spec.Reconfiguration.{RequestedReset, ResetParameter}
+use Rattle.dcsctp_spec_lemmas.specs.spec.association.FlushChanges.{reset_request}
+use Rattle.dcsctp_spec_lemmas.specs.spec.endpoint.BegunResets.{BegunReset}
+use Rattle.dcsctp_spec_lemmas.specs.spec.endpoint.ReconfigurationOutcomes.{reset_again}
 use Rattle.dcsctp_delivery_sending.specs.Places.{Has}
 use Rattle.dcsctp_delivery_directions.specs.Directions.{Asking, asking_with, is_reached}
 use Rattle.dcsctp_delivery_turns.specs.Asking.{Own, own_of, AsksFit, AskingGrows}

@@ -1,8 +1,8 @@
 -- Where a socket's packets with data go, and under which tag they are handled (RFC 9260, section 8.5).
 use Rattle.std.specs.Prelude.{◌≡◌, ◌⊎◌, ℕ, false, Option, List, [], ◌∷◌}
-use Rattle.dcsctp_machine.specs.Admission.{all_chunks, admits, is_echo_in_front}
-use Rattle.dcsctp_machine.specs.Endpoint.{Core, own_tag}
-use Rattle.dcsctp_machine.specs.Packet.{Content, Packet, Emission}
+use Rattle.dcsctp_spec_lemmas.specs.spec.Admission.{all_chunks, admits, is_echo_in_front}
+use Rattle.dcsctp_spec_lemmas.specs.spec.endpoint.Endpoint.{Core, own_tag}
+use Rattle.dcsctp_spec_lemmas.specs.spec.Packet.{Content, Packet, Emission}
 use Rattle.dcsctp_delivery_turns.specs.Actions.{Ledger, NoEnd, Actions}
 use Rattle.dcsctp_delivery_sending.specs.Flushes.{NoData}
 

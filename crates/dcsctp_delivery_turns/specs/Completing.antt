@@ -1,11 +1,11 @@
 -- An own request to reset streams that ends as performed is the one that had no end (RFC 6525, section 5.2.7).
 use Rattle.std.specs.Prelude.{◌≡◌, ℕ, Some}
-use Rattle.dcsctp_machine.specs.declared.association.Pair.{Pair}
-use Rattle.dcsctp_machine.specs.Endpoint.{Endpoint}
-use Rattle.dcsctp_machine.specs.Outcome.{Outcome}
-use Rattle.dcsctp_machine.specs.Past.{Has}
-use Rattle.dcsctp_machine.specs.Turn.{Input, Turn}
-use Rattle.dcsctp_machine.specs.control.Effect.{Link, completes, link_in}
+use Rattle.dcsctp_spec_lemmas.specs.types.declared.association.Pair.{Pair}
+use Rattle.dcsctp_spec_lemmas.specs.spec.endpoint.Endpoint.{Endpoint}
+use Rattle.dcsctp_spec_lemmas.specs.spec.endpoint.Outcome.{Outcome}
+use Rattle.dcsctp_spec_runs.specs.Past.{Has}
+use Rattle.dcsctp_spec_lemmas.specs.spec.endpoint.Turn.{Input, Turn}
+use Rattle.dcsctp_spec_lemmas.specs.spec.association.Effect.{Link, completes, link_in}
 use Rattle.dcsctp_delivery_turns.specs.Actions.{IsCall}
 use Rattle.dcsctp_delivery_turns.specs.Asking.{Own, own_of}
 

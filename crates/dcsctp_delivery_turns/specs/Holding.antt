@@ -1,10 +1,10 @@
 -- An association that a turn notes is there after it.
 use Rattle.std.specs.Prelude.{◌≡◌, Some}
-use Rattle.dcsctp_machine.specs.Endpoint.{Endpoint, closed}
-use Rattle.dcsctp_machine.specs.Outcome.{Outcome}
-use Rattle.dcsctp_machine.specs.Past.{Has}
-use Rattle.dcsctp_machine.specs.Turn.{Input, Turn}
-use Rattle.dcsctp_machine.specs.control.Effect.{Link, holds, ends, link_in}
+use Rattle.dcsctp_spec_lemmas.specs.spec.endpoint.Endpoint.{Endpoint, closed}
+use Rattle.dcsctp_spec_lemmas.specs.spec.endpoint.Outcome.{Outcome}
+use Rattle.dcsctp_spec_runs.specs.Past.{Has}
+use Rattle.dcsctp_spec_lemmas.specs.spec.endpoint.Turn.{Input, Turn}
+use Rattle.dcsctp_spec_lemmas.specs.spec.association.Effect.{Link, holds, ends, link_in}
 use Rattle.dcsctp_delivery_turns.specs.Actions.{IsCall}
 
 -- An association that is noted in a turn is there after it.

@@ -3,7 +3,7 @@
 #![tactic(auto)]
 
 ghost use Rattle.std.specs.Prelude.{◌≡◌, [], OnOk, IfOk};
-ghost use Rattle.dcsctp_machine.specs.TimeTurns.{next_moment};
+ghost use Rattle.dcsctp_spec.specs.endpoint.TimeTurns.{next_moment};
 
 use dcsctp_socket::{
     DcSctpSocket, Message, Options, PpId, SendError, SendOptions, Socket, SocketEvent, SocketFault,

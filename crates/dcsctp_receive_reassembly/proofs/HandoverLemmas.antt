@@ -7,10 +7,10 @@ use Rattle.std.specs.Ordering.{nat_cmp}
 use Rattle.std.proofs.lemmas.Bool.Decides.{nat_tests}
 use Rattle.std.proofs.lemmas.Cmp.{nat_cmp_total}
 use Rattle.std.proofs.lemmas.Map.Entries.{sum_by-insert_entry}
-use Rattle.dcsctp_machine.specs.declared.snapshot.HandoverOrderedStream.{HandoverOrderedStream}
-use Rattle.dcsctp_machine.specs.transfer.Incoming.{stream_on}
-use Rattle.dcsctp_machine.specs.transfer.IncomingStreams.{StreamModel, new_stream, stream_bytes, streams_bytes}
-use Rattle.dcsctp_machine.specs.transfer.ReceivedParts.{restored_stream}
+use Rattle.dcsctp_api.specs.types.declared.snapshot.HandoverOrderedStream.{HandoverOrderedStream}
+use Rattle.dcsctp_api.specs.spec.queues.Incoming.{stream_on}
+use Rattle.dcsctp_api.specs.spec.queues.IncomingStreams.{StreamModel, new_stream, stream_bytes, streams_bytes}
+use Rattle.dcsctp_api.specs.spec.queues.ReceivedParts.{restored_stream}
 use Rattle.dcsctp_receive_reassembly.specs.declared.stream.Stream.{Stream}
 use Rattle.dcsctp_receive_reassembly.specs.Handover.{restored_over}
 use Rattle.dcsctp_receive_reassembly.specs.Reassembly.{entry_of}

@@ -9,10 +9,10 @@ use Rattle.std.proofs.lemmas.List.Sorted.{searched, IsNonDecreasingBy-from_sort,
 use Rattle.std.proofs.lemmas.List.Folds.{list_any_at, list_any_none}
 use Rattle.std.proofs.lemmas.List.Elements.{All-from_get_or}
 use Rattle.std.proofs.lemmas.Bool.{eqb-true, eq-eqb, ne_eqb}
-use Rattle.dcsctp_machine.specs.declared.ids.StreamId.{StreamId}
-use Rattle.dcsctp_machine.specs.Ids.{stream_numbers}
+use Rattle.dcsctp_api.specs.types.declared.ids.StreamId.{StreamId}
+use Rattle.dcsctp_api.specs.types.Ids.{stream_numbers}
 use Rattle.dcsctp_receive_reassembly.specs.NamedStreams.{IsSortedFrom}
-use Rattle.dcsctp_machine.specs.transfer.Reassembly.{names_stream}
+use Rattle.dcsctp_api.specs.spec.queues.Reassembly.{names_stream}
 
 -- one number more
 pub numbers_more : (streams : List StreamId) (i : ℕ) (d : StreamId) (numbers : List ℕ) → i < length streams → numbers ≡ stream_numbers (take i streams) → numbers ++ (get_or streams i d).0 ∷ [] ≡ stream_numbers (take (i + 1) streams)

@@ -3,8 +3,8 @@ use Rattle.std.proofs.Common.{◌≡◌, ℕ, zero, suc, ◌+◌, ◌-◌, Bool,
 use Rattle.std.specs.Prelude.{slice_get, is_some}
 use Rattle.std.proofs.lemmas.List.Sums.{sum_by-append, sum_by-cons, sum_by-take-drop}
 use Rattle.std.proofs.lemmas.List.Concat.{length-flat_map}
-use Rattle.dcsctp_machine.specs.transfer.Runs.{Assembled, part_dropped, part_kept, message_whole, entry_before, RunModel, PartModel, AddsPart, AddsAt, merged, run_before, run_behind, following, preceding, follows, precedes, front_end, back_start, chosen, with_part, without_runs}
-use Rattle.dcsctp_machine.specs.transfer.Runs.{payloads_bytes, run_bytes, runs_bytes}
+use Rattle.dcsctp_api.specs.spec.queues.Runs.{Assembled, part_dropped, part_kept, message_whole, entry_before, RunModel, PartModel, AddsPart, AddsAt, merged, run_before, run_behind, following, preceding, follows, precedes, front_end, back_start, chosen, with_part, without_runs}
+use Rattle.dcsctp_api.specs.spec.queues.Runs.{payloads_bytes, run_bytes, runs_bytes}
 
 abbrev bytes_of : Option RunModel → ℕ
 bytes_of None = 0

@@ -9,9 +9,9 @@ use Rattle.std.specs.declared.cmp.Ordering.TheVariants.{Less, Equal, Greater}
 use Rattle.std.proofs.lemmas.Map.Lookups.{exact_unsigned}
 use Rattle.dcsctp_receive_reassembly.specs.declared.stream.Stream.{Stream}
 use Rattle.dcsctp_receive_reassembly.specs.Streams.{stream_of}
-use Rattle.dcsctp_machine.specs.transfer.IncomingStreams.{new_stream}
+use Rattle.dcsctp_api.specs.spec.queues.IncomingStreams.{new_stream}
 use Rattle.dcsctp_receive_reassembly.specs.Reassembly.{entry_of}
-use Rattle.dcsctp_machine.specs.transfer.Incoming.{stream_on, stream_or_new}
+use Rattle.dcsctp_api.specs.spec.queues.Incoming.{stream_on, stream_or_new}
 
 pub lookup-mapped : (test : ℕ → Bool) (entries : List (ℕ × Stream)) → lookup test (map entry_of entries) ≡ option_map stream_of (lookup test entries)
 lookup-mapped test [] = refl

@@ -11,9 +11,9 @@ use Rattle.std.proofs.Common.{Vec, Global}
 use Rattle.std.specs.Map.{lookup, set_value, remove_entry}
 use Rattle.std.proofs.lemmas.List.{map-append, take-map, drop-map, length-map}
 use Rattle.std.proofs.lemmas.Bool.Decides.{nat_tests}
-use Rattle.dcsctp_receive_entries.specs.Entries.{Ascends, count_up_to, HasKey, Splits}
-use Rattle.dcsctp_machine.specs.transfer.Runs.{entry_before, RunModel, PartModel, holds, holds_some, is_held_before, single_run, merged, with_part, without_runs, IsPlace, StartsUpTo, StartsBehind}
-use Rattle.dcsctp_receive_entries.proofs.EntryLemmas.{remove_at, set_at, lookup_at, find_key, lookup_split, get-map, entry_before-map, count_places, key_from_some, cmp_less, cmp_greater, get_behind_put, put_over_next, put_again, get_before_taken, link_next, ordered_at}
+use Rattle.dcsctp_receive_ordered_map.specs.Entries.{Ascends, count_up_to, HasKey, Splits}
+use Rattle.dcsctp_api.specs.spec.queues.Runs.{entry_before, RunModel, PartModel, holds, holds_some, is_held_before, single_run, merged, with_part, without_runs, IsPlace, StartsUpTo, StartsBehind}
+use Rattle.dcsctp_receive_ordered_map.proofs.EntryLemmas.{remove_at, set_at, lookup_at, find_key, lookup_split, get-map, entry_before-map, count_places, key_from_some, cmp_less, cmp_greater, get_behind_put, put_over_next, put_again, get_before_taken, link_next, ordered_at}
 use Rattle.dcsctp_receive_reassembly.specs.declared.runs.Run.{Run}
 use Rattle.dcsctp_receive_reassembly.specs.Runs.{run_of, BeginsAt, RoomIn, HasRoom}
 

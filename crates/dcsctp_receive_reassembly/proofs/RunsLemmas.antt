@@ -5,7 +5,7 @@ use Rattle.std.specs.Option.{option_map}
 use Rattle.std.proofs.lemmas.Bool.{and_left, and_right, not_from_true}
 use Rattle.std.proofs.lemmas.List.{take-append-drop}
 use Rattle.std.proofs.lemmas.Bool.Decides.{nat_tests}
-use Rattle.dcsctp_machine.specs.transfer.Runs.{part_dropped, part_kept, message_whole, entry_before, RunModel, PartModel, IsPlace, is_held_before, AddsPart, is_whole, whole_run, merged, with_part, without_runs, follows, precedes, following, preceding, run_before, run_behind}
+use Rattle.dcsctp_api.specs.spec.queues.Runs.{part_dropped, part_kept, message_whole, entry_before, RunModel, PartModel, IsPlace, is_held_before, AddsPart, is_whole, whole_run, merged, with_part, without_runs, follows, precedes, following, preceding, run_before, run_behind}
 use Rattle.dcsctp_receive_reassembly.specs.declared.runs.Whole.{Whole}
 use Rattle.dcsctp_receive_reassembly.specs.Runs.{BeginsIf, whole_of}
 

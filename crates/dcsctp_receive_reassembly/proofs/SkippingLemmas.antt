@@ -4,14 +4,14 @@ use Rattle.std.specs.Prelude.{IsSome, nat_le}
 use Rattle.std.specs.BTreeMap.{BTreeMap, get}
 use Rattle.std.specs.Ordering.{nat_cmp}
 use Rattle.std.proofs.lemmas.List.{append_assoc, append-nil, length-map}
-use Rattle.dcsctp_machine.specs.declared.arrivals.SkippedTo.{SkippedTo}
-use Rattle.dcsctp_machine.specs.declared.arrivals.SkippedTo.TheVariants.{Ssn, Mid}
+use Rattle.dcsctp_api.specs.types.declared.arrivals.SkippedTo.{SkippedTo}
+use Rattle.dcsctp_api.specs.types.declared.arrivals.SkippedTo.TheVariants.{Ssn, Mid}
 use Rattle.dcsctp_receive_reassembly.specs.declared.incoming.Incoming.{Incoming}
 use Rattle.dcsctp_receive_reassembly.specs.declared.stream.Stream.{Stream}
-use Rattle.dcsctp_machine.specs.transfer.Incoming.{is_named, IncomingModel, stream_on, skipped_on, skipped_by, deliveries_by, SkipsOne, SkipsAll}
-use Rattle.dcsctp_machine.specs.transfer.Numbers.{number_near, short_number_near}
-use Rattle.dcsctp_machine.specs.transfer.Runs.{WholeModel}
-use Rattle.dcsctp_machine.specs.transfer.IncomingStreams.{StreamModel, new_stream, delivered_as, due, not_due, next_after, next_past, deliveries_from, skipped, skipped_stream, skip_deliveries}
+use Rattle.dcsctp_api.specs.spec.queues.Incoming.{is_named, IncomingModel, stream_on, skipped_on, skipped_by, deliveries_by, SkipsOne, SkipsAll}
+use Rattle.dcsctp_api.specs.spec.queues.Numbers.{number_near, short_number_near}
+use Rattle.dcsctp_api.specs.spec.queues.Runs.{WholeModel}
+use Rattle.dcsctp_api.specs.spec.queues.IncomingStreams.{StreamModel, new_stream, delivered_as, due, not_due, next_after, next_past, deliveries_from, skipped, skipped_stream, skip_deliveries}
 use Rattle.dcsctp_receive_reassembly.specs.Reassembly.{Balances}
 use Rattle.dcsctp_receive_reassembly.specs.Skipping.{AllMade, room_for}
 

@@ -4,18 +4,18 @@ use Rattle.std.specs.Prelude.{nat_le, nat_lt, not}
 use Rattle.std.specs.List.{filter}
 use Rattle.std.proofs.lemmas.List.Sums.{sum_by-append, sum_by-cons, sum_by-take-drop}
 use Rattle.std.proofs.lemmas.Bool.Decides.{nat_tests}
-use Rattle.dcsctp_machine.specs.transfer.Messages.{MessageContent}
-use Rattle.dcsctp_machine.specs.declared.arrivals.Numbering.{Numbering}
-use Rattle.dcsctp_machine.specs.declared.arrivals.Numbering.TheVariants.{Ordered, Unordered, InterleavedOrdered, InterleavedUnordered}
-use Rattle.dcsctp_machine.specs.declared.arrivals.SkippedTo.{SkippedTo}
-use Rattle.dcsctp_machine.specs.declared.arrivals.SkippedTo.TheVariants.{Ssn, Mid}
-use Rattle.dcsctp_machine.specs.declared.arrivals.Taken.{Taken}
-use Rattle.dcsctp_machine.specs.transfer.Numbers.{number_near, short_number_near}
-use Rattle.dcsctp_machine.specs.transfer.Runs.{Assembled, part_dropped, part_kept, message_whole, run_bytes, runs_bytes, wholes_bytes}
-use Rattle.dcsctp_machine.specs.transfer.IncomingStreams.{stream_bytes, ready_bytes}
-use Rattle.dcsctp_machine.specs.transfer.Runs.{RunModel, PartModel, WholeModel, behind_place}
+use Rattle.dcsctp_api.specs.types.queues.Messages.{MessageContent}
+use Rattle.dcsctp_api.specs.types.declared.arrivals.Numbering.{Numbering}
+use Rattle.dcsctp_api.specs.types.declared.arrivals.Numbering.TheVariants.{Ordered, Unordered, InterleavedOrdered, InterleavedUnordered}
+use Rattle.dcsctp_api.specs.types.declared.arrivals.SkippedTo.{SkippedTo}
+use Rattle.dcsctp_api.specs.types.declared.arrivals.SkippedTo.TheVariants.{Ssn, Mid}
+use Rattle.dcsctp_api.specs.types.declared.arrivals.Taken.{Taken}
+use Rattle.dcsctp_api.specs.spec.queues.Numbers.{number_near, short_number_near}
+use Rattle.dcsctp_api.specs.spec.queues.Runs.{Assembled, part_dropped, part_kept, message_whole, run_bytes, runs_bytes, wholes_bytes}
+use Rattle.dcsctp_api.specs.spec.queues.IncomingStreams.{stream_bytes, ready_bytes}
+use Rattle.dcsctp_api.specs.spec.queues.Runs.{RunModel, PartModel, WholeModel, behind_place}
 use Rattle.dcsctp_receive_reassembly.specs.Runs.{up_to_place}
-use Rattle.dcsctp_machine.specs.transfer.IncomingStreams.{StreamModel, ChunkModel, delivered_as, due, not_due, next_after, next_past, deliveries_from, ready_with, TakesWhole, WaitsAmong, OrderedOutcome, TakesOrdered, TakesAhead, is_waiting, UnorderedOutcome, TakesUnordered, TakesInOrder, TakesOutOfOrder, TakesApart, TakesNumbered, TakesOnStream, skipped, skip_deliveries, skip_bytes}
+use Rattle.dcsctp_api.specs.spec.queues.IncomingStreams.{StreamModel, ChunkModel, delivered_as, due, not_due, next_after, next_past, deliveries_from, ready_with, TakesWhole, WaitsAmong, OrderedOutcome, TakesOrdered, TakesAhead, is_waiting, UnorderedOutcome, TakesUnordered, TakesInOrder, TakesOutOfOrder, TakesApart, TakesNumbered, TakesOnStream, skipped, skip_deliveries, skip_bytes}
 use Rattle.dcsctp_receive_reassembly.proofs.PartBytes.{PartCounted, part_counted}
 
 abbrev size_of_message : MessageContent → ℕ

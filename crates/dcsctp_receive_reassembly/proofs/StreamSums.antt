@@ -10,11 +10,11 @@ use Rattle.std.proofs.lemmas.Cmp.{nat_cmp_total}
 use Rattle.std.proofs.lemmas.List.Sums.{sum_by-cons}
 use Rattle.std.proofs.lemmas.Map.Entries.{sum_by-insert_entry, sum_by-remove_entry, sum_by-set_value}
 use Rattle.dcsctp_receive_reassembly.specs.declared.stream.Stream.{Stream}
-use Rattle.dcsctp_machine.specs.transfer.IncomingStreams.{stream_bytes, streams_bytes}
-use Rattle.dcsctp_machine.specs.transfer.IncomingStreams.{StreamModel, new_stream}
+use Rattle.dcsctp_api.specs.spec.queues.IncomingStreams.{stream_bytes, streams_bytes}
+use Rattle.dcsctp_api.specs.spec.queues.IncomingStreams.{StreamModel, new_stream}
 use Rattle.dcsctp_receive_reassembly.specs.Streams.{stream_of}
 use Rattle.dcsctp_receive_reassembly.specs.Reassembly.{entry_of}
-use Rattle.dcsctp_machine.specs.transfer.Incoming.{stream_on}
+use Rattle.dcsctp_api.specs.spec.queues.Incoming.{stream_on}
 use Rattle.dcsctp_receive_reassembly.proofs.ReassemblyLemmas.{stream_on-get, stream_on-other, same_key}
 
 abbrev pub bytes_of : Stream → ℕ

@@ -8,13 +8,13 @@ use Rattle.std.specs.declared.cmp.Ordering.TheVariants.{Less, Equal, Greater}
 use Rattle.std.specs.Map.{lookup, remove_entry}
 use Rattle.std.proofs.lemmas.List.{map-append, take-map, drop-map, length-map}
 use Rattle.std.proofs.lemmas.Bool.Decides.{nat_tests}
-use Rattle.dcsctp_machine.specs.transfer.Messages.{MessageContent}
-use Rattle.dcsctp_receive_entries.specs.Entries.{Ascends, count_up_to, Splits}
-use Rattle.dcsctp_receive_entries.proofs.EntryLemmas.{split_from_none, lookup_at, remove_at, set_at, get_put, put_again, count_within, insert_new}
-use Rattle.dcsctp_machine.specs.declared.arrivals.Taken.{Taken}
+use Rattle.dcsctp_api.specs.types.queues.Messages.{MessageContent}
+use Rattle.dcsctp_receive_ordered_map.specs.Entries.{Ascends, count_up_to, Splits}
+use Rattle.dcsctp_receive_ordered_map.proofs.EntryLemmas.{split_from_none, lookup_at, remove_at, set_at, get_put, put_again, count_within, insert_new}
+use Rattle.dcsctp_api.specs.types.declared.arrivals.Taken.{Taken}
 use Rattle.dcsctp_receive_reassembly.specs.declared.stream.Waiting.{Waiting}
-use Rattle.dcsctp_machine.specs.transfer.Runs.{PartModel, WholeModel}
-use Rattle.dcsctp_machine.specs.transfer.IncomingStreams.{StreamModel, is_waiting, is_due, NumberedBelow, NumberedFrom, IsTurn, WaitsAmong, TakesOrdered, TakesAhead, TakesWhole}
+use Rattle.dcsctp_api.specs.spec.queues.Runs.{PartModel, WholeModel}
+use Rattle.dcsctp_api.specs.spec.queues.IncomingStreams.{StreamModel, is_waiting, is_due, NumberedBelow, NumberedFrom, IsTurn, WaitsAmong, TakesOrdered, TakesAhead, TakesWhole}
 use Rattle.dcsctp_receive_reassembly.specs.Streams.{waits_as, HoldsPlace}
 
 -- ---- the first message that waits

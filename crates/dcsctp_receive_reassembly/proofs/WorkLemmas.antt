@@ -5,8 +5,8 @@ use Rattle.std.proofs.lemmas.List.{append_assoc}
 use Rattle.std.proofs.lemmas.List.Sums.{sum_by-cons}
 use Rattle.std.proofs.lemmas.Bool.Decides.{nat_tests}
 use Rattle.dcsctp_receive_reassembly.specs.declared.reassembly_queue.Deferred.{Deferred}
-use Rattle.dcsctp_machine.specs.transfer.Incoming.{IncomingModel}
-use Rattle.dcsctp_machine.specs.transfer.Reassembly.{WaitingModel, waiting_bytes, Handles, HandlesAll}
+use Rattle.dcsctp_api.specs.spec.queues.Incoming.{IncomingModel}
+use Rattle.dcsctp_api.specs.spec.queues.Reassembly.{WaitingModel, waiting_bytes, Handles, HandlesAll}
 use Rattle.dcsctp_receive_reassembly.specs.Queue.{waiting_of}
 
 -- One more is handled.

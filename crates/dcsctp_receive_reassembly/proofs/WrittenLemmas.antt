@@ -3,12 +3,12 @@ use Rattle.std.proofs.Common.{◌≡◌, ◌==◌, ℕ, Bool, true, false, map, 
 use Rattle.std.specs.BTreeMap.{BTreeMap, is_at, UpdatesBy}
 use Rattle.std.specs.Ordering.{nat_cmp}
 use Rattle.std.proofs.lemmas.Bool.Decides.{nat_tests}
-use Rattle.dcsctp_machine.specs.declared.arrivals.SkippedTo.{SkippedTo}
+use Rattle.dcsctp_api.specs.types.declared.arrivals.SkippedTo.{SkippedTo}
 use Rattle.dcsctp_receive_reassembly.specs.declared.stream.Stream.{Stream}
 use Rattle.dcsctp_receive_reassembly.specs.Streams.{stream_of}
-use Rattle.dcsctp_machine.specs.transfer.IncomingStreams.{new_stream, skipped, skipped_stream}
+use Rattle.dcsctp_api.specs.spec.queues.IncomingStreams.{new_stream, skipped, skipped_stream}
 use Rattle.dcsctp_receive_reassembly.specs.Reassembly.{entry_of}
-use Rattle.dcsctp_machine.specs.transfer.Incoming.{stream_on, skipped_on}
+use Rattle.dcsctp_api.specs.spec.queues.Incoming.{stream_on, skipped_on}
 use Rattle.dcsctp_receive_reassembly.proofs.ReassemblyLemmas.{stream_on-get, stream_on-same, same_key}
 use Rattle.dcsctp_receive_reassembly.proofs.StreamSums.{Written}
 

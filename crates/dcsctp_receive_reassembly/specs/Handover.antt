@@ -1,8 +1,8 @@
 -- Streams that are restored one after the other.
 use Rattle.std.specs.Prelude.{ℕ, ◌==◌, List, [], ◌∷◌, if◌then◌else◌}
-use Rattle.dcsctp_machine.specs.declared.snapshot.HandoverOrderedStream.{HandoverOrderedStream}
-use Rattle.dcsctp_machine.specs.transfer.IncomingStreams.{StreamModel}
-use Rattle.dcsctp_machine.specs.transfer.ReceivedParts.{restored_stream}
+use Rattle.dcsctp_api.specs.types.declared.snapshot.HandoverOrderedStream.{HandoverOrderedStream}
+use Rattle.dcsctp_api.specs.spec.queues.IncomingStreams.{StreamModel}
+use Rattle.dcsctp_api.specs.spec.queues.ReceivedParts.{restored_stream}
 
 -- the stream that the list has under an identifier, or this one if it has none
 abbrev pub restored_over : List HandoverOrderedStream → ℕ → StreamModel → StreamModel

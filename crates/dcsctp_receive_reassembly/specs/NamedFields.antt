@@ -1,5 +1,5 @@
 -- What is true of the fields of named streams at all times.
-use Rattle.dcsctp_machine.specs.Ids.{stream_numbers}
+use Rattle.dcsctp_api.specs.types.Ids.{stream_numbers}
 use Rattle.dcsctp_receive_reassembly.specs.declared.named.NamedStreams.TheInside.{Inside}
 use Rattle.dcsctp_receive_reassembly.specs.NamedStreams.{IsSortedFrom}
 

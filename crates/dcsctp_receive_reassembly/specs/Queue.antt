@@ -1,11 +1,11 @@
 -- The reassembly queue in memory, as the machine has it.
 use Rattle.std.specs.Prelude.{◌≡◌, map}
-use Rattle.dcsctp_machine.specs.transfer.Reassembly.{ReassemblyState, WaitingModel, DeferralModel, arrived, skipping}
+use Rattle.dcsctp_api.specs.spec.queues.Reassembly.{ReassemblyState, WaitingModel, DeferralModel, arrived, skipping}
 use Rattle.dcsctp_receive_reassembly.specs.declared.reassembly_queue.Deferred.{Deferred}
 use Rattle.dcsctp_receive_reassembly.specs.declared.reassembly_queue.Deferred.TheVariants.{Data as DeferredData, ForwardTsn}
 use Rattle.dcsctp_receive_reassembly.specs.declared.reassembly_queue.Deferral.{Deferral}
 use Rattle.dcsctp_receive_reassembly.specs.Streams.{chunk_of}
-use Rattle.dcsctp_machine.specs.transfer.Incoming.{SameIncoming}
+use Rattle.dcsctp_api.specs.spec.queues.Incoming.{SameIncoming}
 
 abbrev pub waiting_of : Deferred → WaitingModel
 waiting_of (DeferredData tsn chunk) = arrived tsn (chunk_of chunk)

@@ -1,12 +1,12 @@
 -- What was received and not taken yet, in memory, as the machine has it.
 use Rattle.std.specs.Prelude.{◌≡◌, ℕ, ◌+◌, ◌≤◌, map}
-use Rattle.dcsctp_machine.specs.transfer.Messages.{message_content}
+use Rattle.dcsctp_api.specs.types.queues.Messages.{message_content}
 use Rattle.dcsctp_receive_reassembly.specs.declared.stream.Stream.{Stream}
 use Rattle.dcsctp_receive_reassembly.specs.declared.incoming.Incoming.{Incoming}
 use Rattle.dcsctp_receive_reassembly.specs.Runs.{run_of}
-use Rattle.dcsctp_machine.specs.transfer.IncomingStreams.{StreamModel}
+use Rattle.dcsctp_api.specs.spec.queues.IncomingStreams.{StreamModel}
 use Rattle.dcsctp_receive_reassembly.specs.Streams.{stream_of}
-use Rattle.dcsctp_machine.specs.transfer.Incoming.{IncomingModel, held_bytes}
+use Rattle.dcsctp_api.specs.spec.queues.Incoming.{IncomingModel, held_bytes}
 
 abbrev pub entry_of : ℕ × Stream → ℕ × StreamModel
 entry_of entry = (entry.0, stream_of entry.1)

@@ -4,8 +4,8 @@ use denote.Ref.{Bor}
 use Rattle.std.specs.VecDeque.{deque_capacity}
 use Rattle.std.specs.BTreeMap.{BTreeMap, get}
 use Rattle.std.specs.Ordering.{nat_cmp}
-use Rattle.dcsctp_machine.specs.transfer.Runs.{RunModel, PartModel, WholeModel}
-use Rattle.dcsctp_machine.specs.transfer.Runs.{Assembled as AssembledModel, part_dropped, part_kept, message_whole}
+use Rattle.dcsctp_api.specs.spec.queues.Runs.{RunModel, PartModel, WholeModel}
+use Rattle.dcsctp_api.specs.spec.queues.Runs.{Assembled as AssembledModel, part_dropped, part_kept, message_whole}
 use Rattle.dcsctp_receive_reassembly.specs.declared.runs.Run.{Run}
 use Rattle.dcsctp_receive_reassembly.specs.declared.runs.Part.{Part}
 use Rattle.dcsctp_receive_reassembly.specs.declared.runs.Whole.{Whole}

@@ -2,9 +2,9 @@
 use Rattle.std.specs.Prelude.{ℕ, ◌+◌, List, [], ◌∷◌, length, IsSome}
 use Rattle.std.specs.BTreeMap.{BTreeMap, get}
 use Rattle.std.specs.Ordering.{nat_cmp}
-use Rattle.dcsctp_machine.specs.declared.arrivals.SkippedTo.{SkippedTo}
+use Rattle.dcsctp_api.specs.types.declared.arrivals.SkippedTo.{SkippedTo}
 use Rattle.dcsctp_receive_reassembly.specs.declared.stream.Stream.{Stream}
-use Rattle.dcsctp_machine.specs.transfer.IncomingStreams.{StreamModel, skipped_stream}
+use Rattle.dcsctp_api.specs.spec.queues.IncomingStreams.{StreamModel, skipped_stream}
 
 -- Is there a stream for each entry?
 abbrev pub AllMade : List SkippedTo → BTreeMap ℕ Stream → Type 0

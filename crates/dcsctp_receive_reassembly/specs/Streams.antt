@@ -6,10 +6,10 @@ use Rattle.dcsctp_receive_reassembly.specs.declared.stream.Waiting.{Waiting}
 use Rattle.std.specs.BTreeMap.{is_at}
 use Rattle.std.specs.Map.{lookup}
 use Rattle.std.specs.Ordering.{nat_cmp}
-use Rattle.dcsctp_receive_entries.specs.Entries.{Ascends, count_up_to}
-use Rattle.dcsctp_machine.specs.transfer.Runs.{WholeModel}
+use Rattle.dcsctp_receive_ordered_map.specs.Entries.{Ascends, count_up_to}
+use Rattle.dcsctp_api.specs.spec.queues.Runs.{WholeModel}
 use Rattle.dcsctp_receive_reassembly.specs.Runs.{run_of}
-use Rattle.dcsctp_machine.specs.transfer.IncomingStreams.{StreamModel, ChunkModel}
+use Rattle.dcsctp_api.specs.spec.queues.IncomingStreams.{StreamModel, ChunkModel}
 
 -- a message that waits, by its number
 abbrev pub waits_as : ℕ × Waiting → WholeModel

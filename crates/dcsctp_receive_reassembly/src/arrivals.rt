@@ -3,8 +3,8 @@
 ghost use Rattle.std.specs.Prelude.{◌≡◌, IfOk};
 ghost use Rattle.dcsctp_receive_reassembly.specs.Streams.{chunk_of};
 
+use dcsctp_api::types::Numbering;
 use dcsctp_api::{PpId, StreamId};
-use dcsctp_machine::Numbering;
 use std::alloc::{AllocError, Global};
 
 /// What a DATA or I-DATA chunk carries: a message or a part of one.

@@ -1,16 +1,16 @@
 //! What a snapshot has of the streams on which messages were received, and the streams that are made from it.
 
 ghost use Rattle.std.specs.Prelude.{◌≡◌, ℕ, ◌≤◌, map, [], ◌∷◌, IfOk, OnOk};
-ghost use Rattle.dcsctp_machine.specs.transfer.Incoming.{stream_on};
-ghost use Rattle.dcsctp_machine.specs.transfer.IncomingStreams.{streams_bytes};
-ghost use Rattle.dcsctp_machine.specs.transfer.ReceivedParts.{ordered_stream, restored_stream};
+ghost use Rattle.dcsctp_api.specs.spec.queues.Incoming.{stream_on};
+ghost use Rattle.dcsctp_api.specs.spec.queues.IncomingStreams.{streams_bytes};
+ghost use Rattle.dcsctp_api.specs.spec.queues.ReceivedParts.{ordered_stream, restored_stream};
 ghost use Rattle.dcsctp_receive_reassembly.specs.Handover.{restored_over};
 ghost use Rattle.dcsctp_receive_reassembly.specs.Reassembly.{entry_of};
 ghost use Rattle.dcsctp_receive_reassembly.specs.Streams.{stream_of};
 
 use crate::stream::{FIRST_NUMBER, Stream};
 use dcsctp_api::StreamId;
-use dcsctp_machine::HandoverOrderedStream;
+use dcsctp_api::types::HandoverOrderedStream;
 use std::alloc::{AllocError, Global};
 use std::collections::BTreeMap;
 

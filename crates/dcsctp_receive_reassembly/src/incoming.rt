@@ -6,20 +6,20 @@ ghost use Rattle.std.specs.BTreeMap.{get};
 ghost use Rattle.std.specs.List.{list_any};
 ghost use Rattle.std.specs.Ordering.{nat_cmp};
 ghost use Rattle.dcsctp_receive_reassembly.specs.Held.{capped};
-ghost use Rattle.dcsctp_machine.specs.transfer.IncomingStreams.{ready_bytes, streams_bytes};
-ghost use Rattle.dcsctp_machine.specs.transfer.Messages.{message_content};
-ghost use Rattle.dcsctp_machine.specs.transfer.Readiness.{holds_parts, is_unassembled};
+ghost use Rattle.dcsctp_api.specs.spec.queues.IncomingStreams.{ready_bytes, streams_bytes};
+ghost use Rattle.dcsctp_api.specs.types.queues.Messages.{message_content};
+ghost use Rattle.dcsctp_api.specs.spec.queues.Readiness.{holds_parts, is_unassembled};
 ghost use Rattle.dcsctp_receive_reassembly.specs.Streams.{chunk_of};
-ghost use Rattle.dcsctp_machine.specs.transfer.IncomingStreams.{TakesOnStream};
+ghost use Rattle.dcsctp_api.specs.spec.queues.IncomingStreams.{TakesOnStream};
 ghost use Rattle.dcsctp_receive_reassembly.specs.Reassembly.{incoming_of, entry_of, Balances};
-ghost use Rattle.dcsctp_machine.specs.transfer.Incoming.{AreInOrder, stream_on, nothing, received_more, KeepsStreams, SameIncoming, TakesUnorderedData, TakesStreamData, TakesChunk, TakesData};
+ghost use Rattle.dcsctp_api.specs.spec.queues.Incoming.{AreInOrder, stream_on, nothing, received_more, KeepsStreams, SameIncoming, TakesUnorderedData, TakesStreamData, TakesChunk, TakesData};
 
 use crate::arrivals::Data;
 use crate::numbers::number_near;
 use crate::runs::Run;
 use crate::stream::{FIRST_NUMBER, Stream, part_of_data, take_unordered};
+use dcsctp_api::types::{Numbering, SkippedTo, Taken};
 use dcsctp_api::{Message, StreamId};
-use dcsctp_machine::{Numbering, SkippedTo, Taken};
 use std::alloc::{AllocError, Global};
 use std::collections::{BTreeMap, VecDeque};
 

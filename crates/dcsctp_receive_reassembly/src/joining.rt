@@ -25,12 +25,12 @@ ghost use Rattle.std.specs.Option.{option_map};
 ghost use Rattle.std.specs.VecDeque.{deque_capacity};
 ghost use Rattle.std.specs.BTreeMap.{IsOrdered, get, is_at};
 ghost use Rattle.std.specs.Ordering.{nat_cmp};
-ghost use Rattle.dcsctp_receive_entries.specs.Entries.{count_up_to};
-ghost use Rattle.dcsctp_machine.specs.transfer.Runs.{entry_before, PartModel, whole_run, follows, precedes, following, run_behind, single_run, merged, is_whole, joined_bytes, with_part, without_runs, holds_some, is_held_before, AddsPart};
+ghost use Rattle.dcsctp_receive_ordered_map.specs.Entries.{count_up_to};
+ghost use Rattle.dcsctp_api.specs.spec.queues.Runs.{entry_before, PartModel, whole_run, follows, precedes, following, run_behind, single_run, merged, is_whole, joined_bytes, with_part, without_runs, holds_some, is_held_before, AddsPart};
 ghost use Rattle.dcsctp_receive_reassembly.specs.Runs.{assembled_of, run_of, part_of, whole_of, lent_run, BeginsAt, BeginsIf, HasRoom, IsOfMessage};
 
 use crate::runs::{Assembled, Part, Run, Whole, holds, run_up_to, size_of_run};
-use dcsctp_receive_entries::{entry_behind, put_entry};
+use dcsctp_receive_ordered_map::{entry_behind, put_entry};
 use std::alloc::{AllocError, Global};
 use std::collections::{BTreeMap, VecDeque};
 

@@ -15,5 +15,5 @@ mod skipping;
 mod stream;
 
 pub use arrivals::Data;
-pub use dcsctp_machine::{Numbering, SkippedTo};
+pub use dcsctp_api::types::{Numbering, SkippedTo};
 pub use reassembly_queue::ReassemblyQueue;

@@ -1,9 +1,9 @@
 //! The streams that a reset names (RFC 6525, section 4.1). A stream is found by binary search.
 
 ghost use Rattle.std.specs.Prelude.{◌≡◌, IfOk};
-ghost use Rattle.dcsctp_machine.specs.Ids.{stream_numbers};
+ghost use Rattle.dcsctp_api.specs.types.Ids.{stream_numbers};
 ghost use Rattle.dcsctp_receive_reassembly.specs.NamedStreams.{IsSortedFrom};
-ghost use Rattle.dcsctp_machine.specs.transfer.Reassembly.{names_stream};
+ghost use Rattle.dcsctp_api.specs.spec.queues.Reassembly.{names_stream};
 
 use dcsctp_api::StreamId;
 use std::alloc::{AllocError, Global};
@@ -20,7 +20,7 @@ pub struct NamedStreams {
 
 impl Model for NamedStreams {
     ghost use Rattle.std.specs.Prelude.{ℕ, List};
-    ghost use Rattle.dcsctp_machine.specs.Ids.{stream_numbers};
+    ghost use Rattle.dcsctp_api.specs.types.Ids.{stream_numbers};
     ghost use Rattle.dcsctp_receive_reassembly.specs.NamedFields.{IsSearchable};
 
     ghost Value = { List ℕ };

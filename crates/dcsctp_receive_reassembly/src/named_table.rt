@@ -2,8 +2,8 @@
 //! time, and nothing is allocated.
 
 ghost use Rattle.std.specs.Prelude.{◌≡◌, ◌==◌, ◌||◌, ℕ, false};
-ghost use Rattle.dcsctp_machine.specs.Ids.{stream_numbers};
-ghost use Rattle.dcsctp_machine.specs.transfer.Incoming.{is_named};
+ghost use Rattle.dcsctp_api.specs.types.Ids.{stream_numbers};
+ghost use Rattle.dcsctp_api.specs.spec.queues.Incoming.{is_named};
 ghost use Rattle.dcsctp_receive_reassembly.specs.NamedStreams.{marks};
 
 use crate::runs::Numbers;

@@ -2,7 +2,7 @@
 //! first from it on.
 
 ghost use Rattle.std.specs.Prelude.{◌≡◌, ◌+◌, ◌%◌, ◌^◌, ◌<◌, ◌≤◌};
-ghost use Rattle.dcsctp_machine.specs.transfer.Numbers.{number_near, short_number_near, short_number_from, fragment_place, is_tsn_beyond};
+ghost use Rattle.dcsctp_api.specs.spec.queues.Numbers.{number_near, short_number_near, short_number_from, fragment_place, is_tsn_beyond};
 
 /// The number that a 32-bit number stands for. The two agree modulo 2^32.
 pub fn number_near(reference: u64, number: u32) -> u64

@@ -4,12 +4,12 @@
 
 ghost use Rattle.std.specs.Prelude.{◌≡◌, ◌==◌, ◌+◌, ◌≤◌, true, false, map, length, [], IsOk, OnOk, OnErr, IsSome};
 ghost use Rattle.std.specs.List.{list_any, sum_by};
-ghost use Rattle.dcsctp_machine.specs.Ids.{stream_numbers};
+ghost use Rattle.dcsctp_api.specs.types.Ids.{stream_numbers};
 ghost use Rattle.dcsctp_receive_reassembly.specs.Reassembly.{incoming_of};
-ghost use Rattle.dcsctp_machine.specs.transfer.Incoming.{held_bytes, AreInOrder, SameIncoming, TakesData};
-ghost use Rattle.dcsctp_machine.specs.transfer.Reassembly.{names_stream, waiting_bytes, Handles, HandlesAll, HandlesFront};
+ghost use Rattle.dcsctp_api.specs.spec.queues.Incoming.{held_bytes, AreInOrder, SameIncoming, TakesData};
+ghost use Rattle.dcsctp_api.specs.spec.queues.Reassembly.{names_stream, waiting_bytes, Handles, HandlesAll, HandlesFront};
 ghost use Rattle.dcsctp_receive_reassembly.specs.Queue.{waiting_of};
-ghost use Rattle.dcsctp_machine.specs.transfer.Messages.{message_content};
+ghost use Rattle.dcsctp_api.specs.types.queues.Messages.{message_content};
 ghost use Rattle.dcsctp_receive_reassembly.specs.Streams.{chunk_of};
 
 use crate::arrivals::Data;
@@ -18,8 +18,8 @@ use crate::incoming::Incoming;
 use crate::named::NamedStreams;
 use crate::numbers::is_tsn_beyond;
 use crate::stream::FIRST_NUMBER;
+use dcsctp_api::types::{HandoverReadiness, HandoverReceive, SkippedTo};
 use dcsctp_api::{Message, StreamId};
-use dcsctp_machine::{HandoverReadiness, HandoverReceive, SkippedTo};
 use std::alloc::{AllocError, Global};
 use std::collections::VecDeque;
 use std::fmt;
@@ -51,7 +51,7 @@ pub struct ReassemblyQueue {
 
 impl Model for ReassemblyQueue {
     ghost use Rattle.std.specs.Option.{option_map};
-    ghost use Rattle.dcsctp_machine.specs.transfer.Reassembly.{ReassemblyState};
+    ghost use Rattle.dcsctp_api.specs.spec.queues.Reassembly.{ReassemblyState};
     ghost use Rattle.dcsctp_receive_reassembly.specs.Queue.{deferral_of};
     ghost use Rattle.dcsctp_receive_reassembly.specs.Reassembly.{incoming_of};
 
@@ -81,10 +81,10 @@ impl fmt::Debug for ReassemblyQueue {
 
 impl ReassemblyQueue {
     ghost use Rattle.std.specs.Prelude.{◌*◌, nat_le, ◌∷◌, IfSome, IfNone};
-    ghost use Rattle.dcsctp_machine.specs.transfer.Reassembly.{new_reassembly, is_above_watermark, with_ready, queued_bytes, remaining_bytes, can_count, is_deferred, with_deferred, AddsData, SkipsData, with_deferred_forward, is_forward_deferred, deferring, Leaves, StaysDeferred};
-    ghost use Rattle.dcsctp_machine.specs.transfer.Readiness.{reassembly_readiness};
-    ghost use Rattle.dcsctp_machine.specs.transfer.ReceivedParts.{with_reassembly, RestoresReassembly};
-    ghost use Rattle.dcsctp_machine.specs.Snapshot.{received_part};
+    ghost use Rattle.dcsctp_api.specs.spec.queues.Reassembly.{new_reassembly, is_above_watermark, with_ready, queued_bytes, remaining_bytes, can_count, is_deferred, with_deferred, AddsData, SkipsData, with_deferred_forward, is_forward_deferred, deferring, Leaves, StaysDeferred};
+    ghost use Rattle.dcsctp_api.specs.spec.queues.Readiness.{reassembly_readiness};
+    ghost use Rattle.dcsctp_api.specs.spec.queues.ReceivedParts.{with_reassembly, RestoresReassembly};
+    ghost use Rattle.dcsctp_api.specs.types.Snapshot.{received_part};
     ghost use Rattle.dcsctp_receive_reassembly.specs.Queue.{SameQueue};
 
     /// Nothing was received yet, and at most `max_size` bytes are kept. Allocates nothing.

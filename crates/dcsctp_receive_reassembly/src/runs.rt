@@ -5,14 +5,14 @@ ghost use Rattle.std.specs.Prelude.{◌≡◌, ℕ, Bool, map, nat_le, not};
 ghost use Rattle.std.specs.List.{filter};
 ghost use Rattle.std.specs.BTreeMap.{IsOrdered};
 ghost use Rattle.std.specs.Ordering.{nat_cmp};
-ghost use Rattle.dcsctp_receive_entries.specs.Entries.{count_up_to};
-ghost use Rattle.dcsctp_machine.specs.transfer.Runs.{entry_before, holds, behind_place};
+ghost use Rattle.dcsctp_receive_ordered_map.specs.Entries.{count_up_to};
+ghost use Rattle.dcsctp_api.specs.spec.queues.Runs.{entry_before, holds, behind_place};
 ghost use Rattle.dcsctp_receive_reassembly.specs.Runs.{run_of, lent_run, begins_up_to, up_to_place};
 ghost use Rattle.dcsctp_receive_reassembly.specs.Held.{capped};
-ghost use Rattle.dcsctp_machine.specs.transfer.Runs.{payloads_bytes, runs_bytes};
+ghost use Rattle.dcsctp_api.specs.spec.queues.Runs.{payloads_bytes, runs_bytes};
 
 use dcsctp_api::PpId;
-use dcsctp_receive_entries::entry_up_to;
+use dcsctp_receive_ordered_map::entry_up_to;
 use std::collections::{BTreeMap, VecDeque};
 
 /// A part of a message, at its place among the parts of its stream.

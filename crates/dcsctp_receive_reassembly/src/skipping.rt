@@ -5,13 +5,13 @@ ghost use Rattle.std.specs.Prelude.{◌≡◌, ◌==◌, ℕ, ◌+◌, ◌-◌, 
 ghost use Rattle.std.specs.VecDeque.{deque_len, deque_capacity};
 ghost use Rattle.std.specs.BTreeMap.{get};
 ghost use Rattle.std.specs.Ordering.{nat_cmp};
-ghost use Rattle.dcsctp_machine.specs.Ids.{stream_numbers};
+ghost use Rattle.dcsctp_api.specs.types.Ids.{stream_numbers};
 ghost use Rattle.dcsctp_receive_reassembly.specs.Held.{capped};
-ghost use Rattle.dcsctp_machine.specs.transfer.Incoming.{is_named, stream_on, KeepsStreams, SameIncoming, skipped_on, SkipsOne, SkipsAll, MovesTo, MovesOn, ResetsAll, ResetsEach, ResetsStreams};
-ghost use Rattle.dcsctp_machine.specs.transfer.IncomingStreams.{ready_bytes, stream_bytes, streams_bytes};
-ghost use Rattle.dcsctp_machine.specs.transfer.Runs.{behind_place};
-ghost use Rattle.dcsctp_machine.specs.transfer.Messages.{message_content};
-ghost use Rattle.dcsctp_machine.specs.transfer.IncomingStreams.{new_stream, skipped_stream, skipped, skip_deliveries, skip_bytes};
+ghost use Rattle.dcsctp_api.specs.spec.queues.Incoming.{is_named, stream_on, KeepsStreams, SameIncoming, skipped_on, SkipsOne, SkipsAll, MovesTo, MovesOn, ResetsAll, ResetsEach, ResetsStreams};
+ghost use Rattle.dcsctp_api.specs.spec.queues.IncomingStreams.{ready_bytes, stream_bytes, streams_bytes};
+ghost use Rattle.dcsctp_api.specs.spec.queues.Runs.{behind_place};
+ghost use Rattle.dcsctp_api.specs.types.queues.Messages.{message_content};
+ghost use Rattle.dcsctp_api.specs.spec.queues.IncomingStreams.{new_stream, skipped_stream, skipped, skip_deliveries, skip_bytes};
 ghost use Rattle.dcsctp_receive_reassembly.specs.Reassembly.{incoming_of, entry_of, Balances};
 ghost use Rattle.dcsctp_receive_reassembly.specs.Skipping.{AllMade, room_for};
 
@@ -20,8 +20,8 @@ use crate::named_table::NamedTable;
 use crate::numbers::number_near;
 use crate::runs::{drop_messages, drop_places, size_of_runs};
 use crate::stream::Stream;
+use dcsctp_api::types::SkippedTo;
 use dcsctp_api::{Message, StreamId};
-use dcsctp_machine::SkippedTo;
 use std::alloc::{AllocError, Global};
 use std::collections::{BTreeMap, VecDeque};
 

@@ -7,20 +7,20 @@ ghost use Rattle.std.specs.BTreeMap.{btree_map_len, get};
 ghost use Rattle.std.specs.Ordering.{nat_cmp};
 ghost use Rattle.dcsctp_receive_reassembly.specs.Runs.{run_of, part_of, whole_of};
 ghost use Rattle.dcsctp_receive_reassembly.specs.Held.{capped};
-ghost use Rattle.dcsctp_machine.specs.transfer.Runs.{runs_bytes, wholes_bytes};
-ghost use Rattle.dcsctp_machine.specs.transfer.IncomingStreams.{stream_bytes};
-ghost use Rattle.dcsctp_machine.specs.transfer.Messages.{MessageContent, message_content};
-ghost use Rattle.dcsctp_machine.specs.transfer.Readiness.{holds_parts};
+ghost use Rattle.dcsctp_api.specs.spec.queues.Runs.{runs_bytes, wholes_bytes};
+ghost use Rattle.dcsctp_api.specs.spec.queues.IncomingStreams.{stream_bytes};
+ghost use Rattle.dcsctp_api.specs.types.queues.Messages.{MessageContent, message_content};
+ghost use Rattle.dcsctp_api.specs.spec.queues.Readiness.{holds_parts};
 ghost use Rattle.dcsctp_receive_reassembly.specs.declared.stream.Waiting.{Waiting};
 ghost use Rattle.dcsctp_receive_reassembly.specs.Streams.{stream_of, waits_as, HoldsPlace, chunk_of};
-ghost use Rattle.dcsctp_machine.specs.transfer.IncomingStreams.{is_waiting, is_due, delivered_from, deliveries_from, delivered_as, next_after, ready_with, NothingTaken, WaitsAmong, TakesOrdered, TakesAhead, TakesUnordered, next_past, runs_up_to, skipped, skipped_in_order, skipped_out_of_order, skip_deliveries, skip_bytes, data_part, TakesOnStream, new_stream};
+ghost use Rattle.dcsctp_api.specs.spec.queues.IncomingStreams.{is_waiting, is_due, delivered_from, deliveries_from, delivered_as, next_after, ready_with, NothingTaken, WaitsAmong, TakesOrdered, TakesAhead, TakesUnordered, next_past, runs_up_to, skipped, skipped_in_order, skipped_out_of_order, skip_deliveries, skip_bytes, data_part, TakesOnStream, new_stream};
 
 use crate::arrivals::Data;
 use crate::joining::add_part;
 use crate::numbers::{fragment_place, number_near, short_number_from, short_number_near};
 use crate::runs::{Assembled, Part, Run, UpTo, Whole, drop_messages, size_of_runs};
+use dcsctp_api::types::{Numbering, SkippedTo, Taken};
 use dcsctp_api::{Message, PpId, StreamId};
-use dcsctp_machine::{Numbering, SkippedTo, Taken};
 use std::alloc::{AllocError, Global};
 use std::collections::{BTreeMap, VecDeque};
 

@@ -2,7 +2,7 @@
 
 use crate::receiver::Receiver;
 use dcsctp_api::StreamId;
-use dcsctp_machine::HandoverOrderedStream;
+use dcsctp_api::types::HandoverOrderedStream;
 use dcsctp_receive_reassembly::Numbering;
 use dcsctp_testing::{Row, Takes, run_steps};
 use std::alloc::AllocGlobal;

@@ -3,7 +3,7 @@
 use crate::arrivals::Part::{First, Last, Whole};
 use crate::arrivals::Step::{Add, Begins, Counts, Gives, Restores, Rests, Shows, Skips};
 use crate::arrivals::{Step, run};
-use dcsctp_machine::HandoverOrderedStream;
+use dcsctp_api::types::HandoverOrderedStream;
 use dcsctp_receive_reassembly::Numbering::{InterleavedOrdered, Ordered, Unordered};
 
 #[test]

@@ -1,8 +1,8 @@
 //! A reassembly queue, as the tests of this crate use it. Each check notes in the row what fails.
 
 use crate::arrivals::Part;
+use dcsctp_api::types::{HandoverOrderedStream, HandoverReceive};
 use dcsctp_api::{Message, PpId, StreamId};
-use dcsctp_machine::{HandoverOrderedStream, HandoverReceive};
 use dcsctp_receive_reassembly::{Data, Numbering, ReassemblyQueue, SkippedTo};
 use dcsctp_testing::Row;
 use std::alloc::{AllocError, Global};

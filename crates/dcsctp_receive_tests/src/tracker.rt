@@ -1,6 +1,6 @@
 //! A data tracker, as the tests of this crate use it. Each check notes in the row what fails.
 
-use dcsctp_machine::{HandoverReceive, Options, SocketTime};
+use dcsctp_api::types::{HandoverReceive, Options, SocketTime};
 use dcsctp_receive_tracker::DataTracker;
 use dcsctp_testing::Row;
 use std::alloc::Global;

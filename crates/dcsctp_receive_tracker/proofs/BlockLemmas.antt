@@ -3,11 +3,11 @@ use Rattle.std.proofs.Common.{◌≡◌, ℕ, zero, suc, ◌+◌, ◌-◌, ◌<�
 use Rattle.std.specs.List.{flat_map}
 use Rattle.std.specs.Int.{w16, to_be_bytes}
 use Rattle.std.proofs.lemmas.List.{append-nil}
-use Rattle.dcsctp_machine.specs.declared.tracking.TsnRange.{TsnRange}
+use Rattle.dcsctp_spec_lemmas.specs.types.declared.tracking.TsnRange.{TsnRange}
 use Rattle.dcsctp_receive_tracker.specs.Received.{range_of}
-use Rattle.dcsctp_machine.specs.transfer.Ranges.{IsBeyond, is_in}
+use Rattle.dcsctp_spec_lemmas.specs.spec.queues.Ranges.{IsBeyond, is_in}
 use Rattle.dcsctp_receive_tracker.specs.Acknowledging.{IsWithinReach}
-use Rattle.dcsctp_machine.specs.transfer.Tracker.{block_bytes}
+use Rattle.dcsctp_spec_lemmas.specs.spec.queues.Tracker.{block_bytes}
 use Rattle.dcsctp_receive_tracker.proofs.ReceivedLemmas.{inside_test, or_true}
 
 -- ---- bytes

@@ -7,10 +7,10 @@ use Rattle.std.specs.Map.{keys_of, lookup}
 use Rattle.std.specs.Map.Iter.{TakesLast, deref_pair}
 use Rattle.std.specs.Ordering.{nat_cmp, is_lt}
 use Rattle.std.specs.BTreeMap.{is_at}
-use Rattle.dcsctp_receive_entries.specs.Entries.{Ascends, count_up_to, Splits}
-use Rattle.dcsctp_machine.specs.transfer.Runs.{entry_before}
-use Rattle.dcsctp_receive_entries.proofs.EntryLemmas.{count_within, before_count, behind_count, count_places, place_is_count, count_at_index, lookup_at, lookup_split, next_from_some, last_is_before, last_of_take}
-use Rattle.dcsctp_machine.specs.declared.tracking.TsnRange.{TsnRange}
+use Rattle.dcsctp_receive_ordered_map.specs.Entries.{Ascends, count_up_to, Splits}
+use Rattle.dcsctp_spec_lemmas.specs.spec.queues.Runs.{entry_before}
+use Rattle.dcsctp_receive_ordered_map.proofs.EntryLemmas.{count_within, before_count, behind_count, count_places, place_is_count, count_at_index, lookup_at, lookup_split, next_from_some, last_is_before, last_of_take}
+use Rattle.dcsctp_spec_lemmas.specs.types.declared.tracking.TsnRange.{TsnRange}
 use Rattle.dcsctp_receive_tracker.specs.Received.{range_of}
 
 -- ---- the entries around a key

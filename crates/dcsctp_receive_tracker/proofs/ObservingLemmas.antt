@@ -2,10 +2,10 @@
 use Rattle.std.proofs.Common.{◌≡◌, ◌==◌, ◌<◌, ◌-◌, ◌^◌, ℕ, nat_lt, Bool, true, false, not, ◌||◌, List, [], ◌∷◌, map, length, refl, sym, ap, ◌∙◌, arith}
 use Rattle.std.specs.Bool.{IsTrue}
 use Rattle.std.proofs.lemmas.Bool.Decides.{nat_tests}
-use Rattle.dcsctp_machine.specs.declared.tracking.TsnRange.{TsnRange}
-use Rattle.dcsctp_machine.specs.transfer.Ranges.{IsBeyond, is_received, received, forwarded}
-use Rattle.dcsctp_machine.specs.transfer.Tracker.{TrackerState, number_of, after_arrival, with_duplicate, has_ranges, stopped, is_new_tsn, is_urgent, observed, has_numbers_left, after_forward}
-use Rattle.dcsctp_machine.proofs.RangesLemmas.{same_numbers, received_beyond, received_members, forwarded_beyond, forwarded_members}
+use Rattle.dcsctp_spec_lemmas.specs.types.declared.tracking.TsnRange.{TsnRange}
+use Rattle.dcsctp_spec_lemmas.specs.spec.queues.Ranges.{IsBeyond, is_received, received, forwarded}
+use Rattle.dcsctp_spec_lemmas.specs.spec.queues.Tracker.{TrackerState, number_of, after_arrival, with_duplicate, has_ranges, stopped, is_new_tsn, is_urgent, observed, has_numbers_left, after_forward}
+use Rattle.dcsctp_spec_lemmas.proofs.RangesLemmas.{same_numbers, received_beyond, received_members, forwarded_beyond, forwarded_members}
 use Rattle.dcsctp_receive_tracker.specs.Received.{range_of, Receives, Advances}
 
 -- The set determines what is kept of it.

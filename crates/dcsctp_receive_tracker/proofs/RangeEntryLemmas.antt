@@ -6,12 +6,12 @@ use Rattle.std.specs.Map.{lookup, remove_entry, set_value}
 use Rattle.std.specs.Ordering.{nat_cmp}
 use Rattle.std.specs.BTreeMap.{insert_entry, is_at}
 use Rattle.std.proofs.lemmas.List.{take-map, drop-map, map-append}
-use Rattle.dcsctp_receive_entries.specs.Entries.{Ascends, count_up_to, Splits, HasKey}
-use Rattle.dcsctp_machine.specs.transfer.Runs.{entry_before}
-use Rattle.dcsctp_receive_entries.proofs.EntryLemmas.{count_within, behind_count, count_places, next_from_some, next_from_none, insert_at, set_at, remove_at, find_key, get-map, entry_before-map}
-use Rattle.dcsctp_machine.specs.declared.tracking.TsnRange.{TsnRange}
+use Rattle.dcsctp_receive_ordered_map.specs.Entries.{Ascends, count_up_to, Splits, HasKey}
+use Rattle.dcsctp_spec_lemmas.specs.spec.queues.Runs.{entry_before}
+use Rattle.dcsctp_receive_ordered_map.proofs.EntryLemmas.{count_within, behind_count, count_places, next_from_some, next_from_none, insert_at, set_at, remove_at, find_key, get-map, entry_before-map}
+use Rattle.dcsctp_spec_lemmas.specs.types.declared.tracking.TsnRange.{TsnRange}
 use Rattle.dcsctp_receive_tracker.specs.Received.{range_of, Removes, Joins, Adds}
-use Rattle.dcsctp_machine.specs.transfer.Ranges.{IsBeyond, is_in}
+use Rattle.dcsctp_spec_lemmas.specs.spec.queues.Ranges.{IsBeyond, is_in}
 use Rattle.dcsctp_receive_tracker.proofs.ReceivedLemmas.{end_of, drop-at, IsBeyond-drop, IsBeyond-rest, IsBeyond-later, end_of-before, is_in-below, is_in-neither, is_in-at, Adds-alone, Adds-earlier, Adds-later, Adds-between}
 use Rattle.dcsctp_receive_tracker.proofs.NeighborLemmas.{entry_of}
 

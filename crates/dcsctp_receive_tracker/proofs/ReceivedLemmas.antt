@@ -3,11 +3,11 @@ use Rattle.std.proofs.Common.{◌≡◌, ◌==◌, ℕ, zero, suc, ◌+◌, ◌<
 use Rattle.std.specs.Prelude.{slice_get}
 use Rattle.std.proofs.lemmas.Bool.Decides.{nat_tests}
 use Rattle.std.proofs.lemmas.List.{take-append-drop}
-use Rattle.dcsctp_machine.specs.transfer.Runs.{entry_before}
-use Rattle.dcsctp_receive_entries.proofs.EntryLemmas.{entry_within}
-use Rattle.dcsctp_machine.specs.declared.tracking.TsnRange.{TsnRange}
+use Rattle.dcsctp_spec_lemmas.specs.spec.queues.Runs.{entry_before}
+use Rattle.dcsctp_receive_ordered_map.proofs.EntryLemmas.{entry_within}
+use Rattle.dcsctp_spec_lemmas.specs.types.declared.tracking.TsnRange.{TsnRange}
 use Rattle.dcsctp_receive_tracker.specs.Received.{IsSpaced, Adds, Advances, Receives}
-use Rattle.dcsctp_machine.specs.transfer.Ranges.{IsBeyond, is_in}
+use Rattle.dcsctp_spec_lemmas.specs.spec.queues.Ranges.{IsBeyond, is_in}
 
 -- the last number of the last range, or this one where there is none
 abbrev pub end_of : ℕ → List TsnRange → ℕ

@@ -1,10 +1,10 @@
 -- What is true of a tracker's delay, and of what it received.
 use Rattle.std.specs.Prelude.{◌≡◌, ℕ, ◌+◌, ◌≤◌, true, Option, Some, IfSome, IsSome, List}
-use Rattle.dcsctp_machine.specs.declared.tracking.TsnRange.{TsnRange}
-use Rattle.dcsctp_machine.specs.declared.tracking.AckState.{AckState}
-use Rattle.dcsctp_machine.specs.declared.tracking.AckState.TheVariants.{Idle, BecomingDelayed, Delayed, Immediate}
-use Rattle.dcsctp_machine.specs.Timers.{RunningTimer, TimerModel}
-use Rattle.dcsctp_machine.specs.transfer.Ranges.{is_in}
+use Rattle.dcsctp_spec_lemmas.specs.types.declared.tracking.TsnRange.{TsnRange}
+use Rattle.dcsctp_spec_lemmas.specs.types.declared.tracking.AckState.{AckState}
+use Rattle.dcsctp_spec_lemmas.specs.types.declared.tracking.AckState.TheVariants.{Idle, BecomingDelayed, Delayed, Immediate}
+use Rattle.dcsctp_spec_lemmas.specs.spec.endpoint.Timers.{RunningTimer, TimerModel}
+use Rattle.dcsctp_spec_lemmas.specs.spec.queues.Ranges.{is_in}
 
 -- No number in the ranges is more than 65,535 beyond the cumulative one.
 abbrev pub IsWithinReach : ℕ → List TsnRange → Type 0

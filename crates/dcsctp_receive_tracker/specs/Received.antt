@@ -1,8 +1,8 @@
 -- Which TSNs were received (RFC 9260, section 6.2). TSNs are numbered without wrap: the number of a TSN modulo 2^32 is the TSN.
 use Rattle.std.specs.Prelude.{◌≡◌, ◌==◌, ℕ, ◌≤◌, Bool, false, not, ◌||◌, List, [], ◌∷◌, ◌++◌, map, take, drop, suc, slice_get, Option, None, Some}
 use Rattle.std.specs.BTreeMap.{BTreeMap}
-use Rattle.dcsctp_machine.specs.declared.tracking.TsnRange.{TsnRange}
-use Rattle.dcsctp_machine.specs.transfer.Ranges.{IsBeyond, is_in, is_received}
+use Rattle.dcsctp_spec_lemmas.specs.types.declared.tracking.TsnRange.{TsnRange}
+use Rattle.dcsctp_spec_lemmas.specs.spec.queues.Ranges.{IsBeyond, is_in, is_received}
 
 -- A map holds the ranges. The key of an entry is the first number of a range, and the value is its last.
 abbrev pub range_of : ℕ × ℕ → TsnRange

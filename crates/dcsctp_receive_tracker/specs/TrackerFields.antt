@@ -2,7 +2,7 @@
 use Rattle.std.specs.Prelude.{◌≤◌, length}
 use Rattle.dcsctp_receive_tracker.specs.declared.data_tracker.DataTracker.TheInside.{Inside}
 use Rattle.dcsctp_receive_tracker.specs.Received.{ranges_of}
-use Rattle.dcsctp_machine.specs.transfer.Ranges.{IsBeyond}
+use Rattle.dcsctp_spec_lemmas.specs.spec.queues.Ranges.{IsBeyond}
 use Rattle.dcsctp_receive_tracker.specs.Acknowledging.{IsWithinReach, RunsOnce, RunsWhereDelayed}
 
 pub record IsKept (tracker : Inside) : Type 0 where

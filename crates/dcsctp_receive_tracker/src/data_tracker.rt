@@ -6,14 +6,14 @@ ghost use Rattle.std.specs.List.{flat_map};
 ghost use Rattle.std.specs.Duration.{as_nanos};
 ghost use Rattle.std.specs.Int.{w32, to_be_bytes};
 ghost use Rattle.dcsctp_receive_tracker.specs.Received.{ranges_of};
-ghost use Rattle.dcsctp_machine.specs.transfer.Ranges.{IsBeyond};
+ghost use Rattle.dcsctp_spec_lemmas.specs.spec.queues.Ranges.{IsBeyond};
 ghost use Rattle.dcsctp_receive_tracker.specs.Acknowledging.{IsWithinReach};
-ghost use Rattle.dcsctp_machine.specs.transfer.Tracker.{number_of, block_bytes, acknowledgement_delay, after_arrival, is_due, with_duplicate};
+ghost use Rattle.dcsctp_spec_lemmas.specs.spec.queues.Tracker.{number_of, block_bytes, acknowledgement_delay, after_arrival, is_due, with_duplicate};
 
 use crate::received::{Received, advance};
-use dcsctp_machine::{AckState, BackoffAlgorithm, Options, SocketTime};
 use dcsctp_send_timer::Timer;
-use dcsctp_wire::SackChunk;
+use dcsctp_spec_lemmas::types::{AckState, BackoffAlgorithm, Options, SocketTime};
+use dcsctp_spec_lemmas::wire::SackChunk;
 use std::alloc::{AllocError, Global};
 use std::collections::BTreeMap;
 use std::marker::Model;
@@ -181,7 +181,7 @@ pub struct DataTracker {
 impl Model for DataTracker {
     ghost use Rattle.std.specs.Duration.{as_nanos};
     ghost use Rattle.dcsctp_receive_tracker.specs.Received.{ranges_of};
-    ghost use Rattle.dcsctp_machine.specs.transfer.Tracker.{TrackerState};
+    ghost use Rattle.dcsctp_spec_lemmas.specs.spec.queues.Tracker.{TrackerState};
 
     ghost Value = { TrackerState };
 
@@ -203,8 +203,8 @@ impl Model for DataTracker {
 impl DataTracker {
     ghost use Rattle.std.specs.Prelude.{◌%◌, []};
     ghost use Rattle.dcsctp_receive_tracker.specs.Acknowledging.{RunsWhereDelayed};
-    ghost use Rattle.dcsctp_machine.specs.transfer.Tracker.{new_tracker, is_valid_tsn, is_new_tsn, observed, is_forward, after_forward, after_packet_end, is_acknowledgement_due, acknowledged, after_moment, stopped, owes_acknowledgement, with_timeout};
-    ghost use Rattle.dcsctp_machine.specs.Timers.{running_deadline, expires_at};
+    ghost use Rattle.dcsctp_spec_lemmas.specs.spec.queues.Tracker.{new_tracker, is_valid_tsn, is_new_tsn, observed, is_forward, after_forward, after_packet_end, is_acknowledgement_due, acknowledged, after_moment, stopped, owes_acknowledgement, with_timeout};
+    ghost use Rattle.dcsctp_spec_lemmas.specs.spec.endpoint.Timers.{running_deadline, expires_at};
 
     /// Nothing was received yet, and `peer_initial_tsn` is the TSN that is to come first. The one before it
     /// counts as received (RFC 9260, section 6.2), which is 2^32 - 1 if the first is 0. Allocates nothing.

@@ -1,12 +1,12 @@
 //! What a snapshot has of the tracker, and why none can be made.
 
 ghost use Rattle.std.specs.Prelude.{◌≡◌, []};
-ghost use Rattle.dcsctp_machine.specs.Snapshot.{received_part};
-ghost use Rattle.dcsctp_machine.specs.transfer.Readiness.{tracker_readiness};
-ghost use Rattle.dcsctp_machine.specs.transfer.ReceivedParts.{with_tracker, tracker_restored};
+ghost use Rattle.dcsctp_spec_lemmas.specs.types.Snapshot.{received_part};
+ghost use Rattle.dcsctp_spec_lemmas.specs.spec.queues.Readiness.{tracker_readiness};
+ghost use Rattle.dcsctp_spec_lemmas.specs.spec.queues.ReceivedParts.{with_tracker, tracker_restored};
 
 use crate::data_tracker::DataTracker;
-use dcsctp_machine::{HandoverReadiness, HandoverReceive};
+use dcsctp_spec_lemmas::types::{HandoverReadiness, HandoverReceive};
 
 impl DataTracker {
     /// Why what was received can't be handed over to another process: a TSN is missing before others.

@@ -16,12 +16,12 @@ ghost use Rattle.std.specs.Map.{set_value};
 ghost use Rattle.std.specs.Map.Iter.{deref_pair};
 ghost use Rattle.std.specs.Ordering.{nat_cmp};
 ghost use Rattle.std.specs.BTreeMap.{IsOrdered, get, insert_entry, is_at};
-ghost use Rattle.dcsctp_receive_entries.specs.Entries.{count_up_to};
-ghost use Rattle.dcsctp_machine.specs.transfer.Runs.{entry_before};
+ghost use Rattle.dcsctp_receive_ordered_map.specs.Entries.{count_up_to};
+ghost use Rattle.dcsctp_spec_lemmas.specs.spec.queues.Runs.{entry_before};
 ghost use Rattle.dcsctp_receive_tracker.specs.Received.{range_of, ranges_of, IsSpaced, Joins, Adds, Advances, Receives};
-ghost use Rattle.dcsctp_machine.specs.transfer.Ranges.{IsBeyond, is_in};
+ghost use Rattle.dcsctp_spec_lemmas.specs.spec.queues.Ranges.{IsBeyond, is_in};
 
-use dcsctp_machine::TsnRange;
+use dcsctp_spec_lemmas::types::TsnRange;
 use std::alloc::AllocError;
 use std::collections::BTreeMap;
 

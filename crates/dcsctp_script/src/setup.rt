@@ -1,12 +1,12 @@
 //! What precedes the first command: the options and the words of the two sockets.
 
 ghost use Rattle.std.specs.Prelude.{◌≡◌, true, false};
-ghost use Rattle.dcsctp_machine.specs.Settings.{IsValid};
+ghost use Rattle.dcsctp_api.specs.types.Settings.{IsValid};
 
 use crate::failure::Failure;
 use crate::script::Script;
 use crate::words::Words;
-use dcsctp_machine::{Options, Side};
+use dcsctp_api::types::{Options, Side};
 use dcsctp_script_lines::{Command, Line, number, parse_line, set_option};
 use dcsctp_world::World;
 use std::alloc::{AllocError, Global};

@@ -4,7 +4,7 @@ ghost use Rattle.std.specs.Prelude.{◌≡◌, ◌↔◌, ◌*◌, Some, codes};
 
 use crate::bytes::bytes_of;
 use crate::numbers::number;
-use dcsctp_machine::{Side, SocketTime, StreamId};
+use dcsctp_types::{Side, SocketTime, StreamId};
 use std::alloc::{AllocError, Global};
 use std::time::Duration;
 

@@ -7,7 +7,7 @@ ghost use Rattle.std.specs.Prelude.{◌≡◌};
 ghost use Rattle.std.specs.Bool.{OnFalse};
 
 use crate::numbers::{limit, number, signed_number};
-use dcsctp_machine::{Options, ZeroChecksumAlternateErrorDetectionMethod};
+use dcsctp_types::{Options, ZeroChecksumAlternateErrorDetectionMethod};
 use std::time::Duration;
 
 /// Sets the option of this name to this value. False, and nothing is set, if there is no such option or the

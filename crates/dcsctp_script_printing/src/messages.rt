@@ -1,8 +1,8 @@
 //! Printing messages that are taken, and why a message, a reset or a handover is refused, on a line.
 
 use crate::printing::side_name;
+use dcsctp_api::types::Side;
 use dcsctp_api::{HandoverError, Message, ResetStreamsError, SendError};
-use dcsctp_machine::Side;
 use std::io::{self, Write};
 
 /// Prints the message that a side took, or that there was none: its stream, its protocol and its bytes in

@@ -2,7 +2,7 @@
 
 ghost use Rattle.std.specs.Prelude.{◌≤◌, length};
 
-use dcsctp_wire::{u16_at, u32_at};
+use dcsctp_api::wire::{u16_at, u32_at};
 use std::io::{self, Write};
 
 // The common header of a packet, and the header of a chunk, in bytes.

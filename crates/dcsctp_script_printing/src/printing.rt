@@ -1,8 +1,8 @@
 //! Printing an event, on a line.
 
 use crate::packet_text::print_packet;
+use dcsctp_api::types::{ErrorKind, Side};
 use dcsctp_api::{LifecycleId, SocketEvent, StreamId};
-use dcsctp_machine::{ErrorKind, Side};
 use std::io::{self, Write};
 
 /// The name of a side.

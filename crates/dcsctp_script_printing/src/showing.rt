@@ -1,11 +1,13 @@
 //! Printing what a socket shows of itself.
 
 ghost use Rattle.std.specs.Prelude.{◌≡◌};
-ghost use Rattle.dcsctp_wire.specs.Spelling.{result_code};
+ghost use Rattle.dcsctp_api.specs.wire.Spelling.{result_code};
 
 use crate::printing::side_name;
+use dcsctp_api::types::{
+    Association, Capabilities, Held, Phase, ReconfigurationResponseResult, Side,
+};
 use dcsctp_api::{SocketState, SocketTime};
-use dcsctp_machine::{Association, Capabilities, Held, Phase, ReconfigurationResponseResult, Side};
 use std::io::{self, Write};
 
 /// Prints the state of a socket, on a line.

@@ -1,8 +1,8 @@
 //! The command `handover`, lines that aren't it, and how a refusal is printed.
 
 use crate::checks::same;
+use dcsctp_api::types::Side;
 use dcsctp_api::{HandoverError, HandoverReadiness};
-use dcsctp_machine::Side;
 use dcsctp_script::run_script;
 use dcsctp_script_printing::print_handover_refusal;
 use std::alloc::Global;

@@ -1,8 +1,8 @@
 //! Events and packets that no script brings about.
 
 use crate::checks::same;
+use dcsctp_api::types::{ErrorKind, Side};
 use dcsctp_api::{LifecycleId, SocketEvent, StreamId};
-use dcsctp_machine::{ErrorKind, Side};
 use dcsctp_script::print_event;
 use std::alloc::Global;
 use std::process::Abort;

@@ -1,7 +1,7 @@
 //! The fields of the options that each name sets; few of them show in what a script prints.
 
 use crate::checks::{holds, same};
-use dcsctp_machine::Options;
+use dcsctp_api::types::Options;
 use dcsctp_script::set_option;
 use std::process::Abort;
 use std::time::Duration;

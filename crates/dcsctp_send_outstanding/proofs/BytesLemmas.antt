@@ -2,18 +2,18 @@
 use Rattle.std.proofs.Common.{◌≡◌, ◌==◌, ◌<◌, ◌&&◌, ◌||◌, inl, inr, ℕ, zero, suc, not, Bool, true, false, Some, List, [], ◌∷◌, ◌++◌, length, map, get_or, subst, refl, sym, ap, ◌∙◌, arith}
 use Rattle.std.proofs.Math.ListN.{set}
 use Rattle.std.specs.List.{list_all, slice_get, AllByRecursion}
-use Rattle.dcsctp_machine.specs.declared.progress.Change.{Change}
-use Rattle.dcsctp_machine.specs.declared.progress.Change.TheVariants.{SendAgain, Miss, Mark, Acknowledge, Abandon}
-use Rattle.dcsctp_machine.specs.declared.progress.ItemState.{ItemState}
-use Rattle.dcsctp_machine.specs.declared.progress.ItemState.TheVariants.{InFlight, Marked, Acknowledged, Abandoned}
-use Rattle.dcsctp_machine.specs.declared.progress.Progress.{Progress}
-use Rattle.dcsctp_machine.specs.declared.snapshot.HandoverOutstandingData.{HandoverOutstandingData}
-use Rattle.dcsctp_machine.specs.Snapshot.{has_bytes_or_is_abandoned}
-use Rattle.dcsctp_machine.specs.SnapshotItems.{OutstandingPart, outstanding_part}
-use Rattle.dcsctp_machine.specs.Soundness.{HasBytes}
-use Rattle.dcsctp_machine.specs.transfer.Items.{Item}
-use Rattle.dcsctp_machine.specs.transfer.OutstandingParts.{item_again, state_again}
-use Rattle.dcsctp_machine.specs.transfer.Progress.{is_marked, missed, missed_where, marked, acknowledged, tells_of, changed}
+use Rattle.dcsctp_api.specs.types.declared.progress.Change.{Change}
+use Rattle.dcsctp_api.specs.types.declared.progress.Change.TheVariants.{SendAgain, Miss, Mark, Acknowledge, Abandon}
+use Rattle.dcsctp_api.specs.types.declared.progress.ItemState.{ItemState}
+use Rattle.dcsctp_api.specs.types.declared.progress.ItemState.TheVariants.{InFlight, Marked, Acknowledged, Abandoned}
+use Rattle.dcsctp_api.specs.types.declared.progress.Progress.{Progress}
+use Rattle.dcsctp_api.specs.types.declared.snapshot.HandoverOutstandingData.{HandoverOutstandingData}
+use Rattle.dcsctp_api.specs.types.Snapshot.{has_bytes_or_is_abandoned}
+use Rattle.dcsctp_api.specs.types.SnapshotItems.{OutstandingPart, outstanding_part}
+use Rattle.dcsctp_api.specs.spec.Soundness.{HasBytes}
+use Rattle.dcsctp_api.specs.spec.queues.Items.{Item}
+use Rattle.dcsctp_api.specs.spec.queues.OutstandingParts.{item_again, state_again}
+use Rattle.dcsctp_api.specs.types.queues.Progress.{is_marked, missed, missed_where, marked, acknowledged, tells_of, changed}
 use Rattle.dcsctp_send_outstanding.specs.Outstanding.{KeepsAbandoned, MayChange}
 
 -- ---- items come

@@ -3,10 +3,10 @@ use Rattle.std.proofs.Common.{◌≡◌, ℕ, ◌+◌, ◌-◌, ◌^◌, min, Bo
 use Rattle.std.specs.List.{slice_get}
 use Rattle.std.proofs.lemmas.List.{take_min, take-map, map_more, map-append}
 use Rattle.std.proofs.lemmas.Option.{slice_get_within, get_or_from_slice_get}
-use Rattle.dcsctp_machine.specs.declared.snapshot.HandoverOutstandingData.{HandoverOutstandingData}
-use Rattle.dcsctp_machine.specs.SnapshotItems.{OutstandingPart, outstanding_part}
-use Rattle.dcsctp_machine.specs.transfer.Items.{Item}
-use Rattle.dcsctp_machine.specs.transfer.OutstandingParts.{outstanding_given, item_again, items_again}
+use Rattle.dcsctp_api.specs.types.declared.snapshot.HandoverOutstandingData.{HandoverOutstandingData}
+use Rattle.dcsctp_api.specs.types.SnapshotItems.{OutstandingPart, outstanding_part}
+use Rattle.dcsctp_api.specs.spec.queues.Items.{Item}
+use Rattle.dcsctp_api.specs.spec.queues.OutstandingParts.{outstanding_given, item_again, items_again}
 
 -- one more item is given
 pub given_further : (now place : ℕ) (items : List Item) (item : Item) (parts : List HandoverOutstandingData) (part : HandoverOutstandingData)

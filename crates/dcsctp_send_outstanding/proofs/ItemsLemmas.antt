@@ -4,21 +4,21 @@ use Rattle.std.proofs.Math.ListN.{set, length-set}
 use Rattle.std.specs.List.{sum_by, slice_get}
 use Rattle.std.proofs.lemmas.List.Sums.{sum_by-set, sum_by-cons, sum_by_push, get_or-le-sum_by}
 use Rattle.std.proofs.lemmas.Option.{slice_get_within}
-use Rattle.dcsctp_wire.specs.declared.chunk.sack.GapAckBlock.{GapAckBlock}
-use Rattle.dcsctp_machine.specs.declared.progress.Change.TheVariants.{Acknowledge}
-use Rattle.dcsctp_machine.specs.transfer.Items.{Item, counted, size_of, in_flight_size, unacknowledged_size, unacknowledged_count, never_acknowledged_count, marked_count, marked_items, changed_item, changed_between}
+use Rattle.dcsctp_api.specs.wire.declared.chunk.sack.GapAckBlock.{GapAckBlock}
+use Rattle.dcsctp_api.specs.types.declared.progress.Change.TheVariants.{Acknowledge}
+use Rattle.dcsctp_api.specs.spec.queues.Items.{Item, counted, size_of, in_flight_size, unacknowledged_size, unacknowledged_count, never_acknowledged_count, marked_count, marked_items, changed_item, changed_between}
 use Rattle.dcsctp_send_outstanding.specs.declared.named_places.NamedPlaces.{NamedPlaces}
-use Rattle.dcsctp_machine.specs.declared.progress.Change.{Change}
-use Rattle.dcsctp_machine.specs.declared.progress.Progress.{Progress}
+use Rattle.dcsctp_api.specs.types.declared.progress.Change.{Change}
+use Rattle.dcsctp_api.specs.types.declared.progress.Progress.{Progress}
 use Rattle.dcsctp_send_outstanding.specs.declared.totals.Totals.{Totals}
-use Rattle.dcsctp_machine.specs.transfer.Progress.{is_in_flight, is_marked, is_unacknowledged, changed}
+use Rattle.dcsctp_api.specs.types.queues.Progress.{is_in_flight, is_marked, is_unacknowledged, changed}
 use Rattle.dcsctp_send_outstanding.specs.Outstanding.{cursor_after, IsSummed, NoneMarkedBetween, IsKept}
-use Rattle.dcsctp_machine.specs.transfer.NextItem.{NoneMarkedBefore}
-use Rattle.dcsctp_machine.specs.Soundness.{HasBytes}
+use Rattle.dcsctp_api.specs.spec.queues.NextItem.{NoneMarkedBefore}
+use Rattle.dcsctp_api.specs.spec.Soundness.{HasBytes}
 use Rattle.dcsctp_send_outstanding.specs.NamedPlaces.{AreSettled}
 use Rattle.dcsctp_send_outstanding.specs.Totals.{total_with, total_without, HasRoom}
 use Rattle.dcsctp_send_outstanding.proofs.BytesLemmas.{bytes_set, bytes_pushed}
-use Rattle.dcsctp_machine.specs.transfer.Outstanding.{OutstandingState, header_of, reported}
+use Rattle.dcsctp_api.specs.spec.queues.Outstanding.{OutstandingState, header_of, reported}
 
 -- a sum of terms that have a bound
 pub sum_bounded : {X : Type 0} (f : X → ℕ) (bound : ℕ) → ((x : X) → f x ≤ bound) → (xs : List X) → sum_by f xs ≤ length xs * bound

@@ -2,8 +2,8 @@
 use Rattle.std.proofs.Common.{◌≡◌, ◌∙◌, ◌+◌, Bool, ◌<◌, ◌≤◌, ◌==◌, true, false, ℕ, zero, suc, Some, List, [], ◌∷◌, length, ap, sym, arith}
 use Rattle.std.specs.List.{slice_get, slice_index_or}
 use Rattle.std.proofs.lemmas.Bool.Decides.{nat_tests}
-use Rattle.dcsctp_machine.specs.transfer.Items.{Item}
-use Rattle.dcsctp_machine.specs.transfer.ItemMessages.{AtPlace, StartsMessage, EndsMessage}
+use Rattle.dcsctp_api.specs.spec.queues.Items.{Item}
+use Rattle.dcsctp_api.specs.spec.queues.ItemMessages.{AtPlace, StartsMessage, EndsMessage}
 
 -- all items from this place on and before that one bear the message
 abbrev pub AllBear : ℕ → ℕ → ℕ → List Item → Type 0

@@ -1,9 +1,9 @@
 -- A send queue that has given none.
 use Rattle.std.proofs.Common.{◌≡◌, ℕ, None, List, []}
-use Rattle.dcsctp_machine.specs.Event.{Event}
-use Rattle.dcsctp_machine.specs.transfer.SendQueue.{SendQueueState}
-use Rattle.dcsctp_machine.specs.transfer.Sending.{Drops, none, more, TakesNone}
-use Rattle.dcsctp_machine.specs.transfer.NextItem.{HasNone}
+use Rattle.dcsctp_api.specs.spec.endpoint.Event.{Event}
+use Rattle.dcsctp_api.specs.spec.queues.SendQueue.{SendQueueState}
+use Rattle.dcsctp_api.specs.spec.queues.Sending.{Drops, none, more, TakesNone}
+use Rattle.dcsctp_api.specs.spec.queues.NextItem.{HasNone}
 
 idle_after : (now : ℕ) (old queue : SendQueueState) (events : List (Event (List ℕ))) → Drops now old events queue → old.under_way ≡ None → queue.under_way ≡ None
 idle_after now old queue [] none idle = idle

@@ -2,10 +2,10 @@
 use Rattle.std.proofs.Common.{min, unwrap_or, ◌≡◌, ◌⊎◌, inl, inr, ℕ, zero, suc, ◌+◌, ◌-◌, ◌<◌, ◌≤◌, true, max, Bool, Option, None, Some, List, [], ◌∷◌, length, take, get_or, refl, ap, arith}
 use Rattle.std.specs.List.{slice_get}
 use Rattle.std.proofs.lemmas.Option.{slice_get_within}
-use Rattle.dcsctp_machine.specs.transfer.Reports.{Shows, MissesUntil, IsWithin, Names, IsNewlyAcknowledged, IsLastAt, IsLast}
-use Rattle.dcsctp_wire.specs.declared.chunk.sack.GapAckBlock.{GapAckBlock}
-use Rattle.dcsctp_machine.specs.transfer.Items.{Item}
-use Rattle.dcsctp_machine.specs.transfer.Progress.{is_unacknowledged}
+use Rattle.dcsctp_api.specs.spec.queues.Reports.{Shows, MissesUntil, IsWithin, Names, IsNewlyAcknowledged, IsLastAt, IsLast}
+use Rattle.dcsctp_api.specs.wire.declared.chunk.sack.GapAckBlock.{GapAckBlock}
+use Rattle.dcsctp_api.specs.spec.queues.Items.{Item}
+use Rattle.dcsctp_api.specs.types.queues.Progress.{is_unacknowledged}
 use Rattle.dcsctp_send_outstanding.specs.Outstanding.{later_of}
 use Rattle.dcsctp_send_outstanding.proofs.ItemsLemmas.{le_or_lt}
 

@@ -4,20 +4,20 @@ use Rattle.std.proofs.Math.ListN.{set}
 use Rattle.std.specs.List.{slice_get}
 use Rattle.std.proofs.lemmas.Bool.Decides.{nat_tests}
 use Rattle.std.proofs.lemmas.Option.{slice_get_within}
-use Rattle.dcsctp_wire.specs.declared.chunk.sack.GapAckBlock.{GapAckBlock}
-use Rattle.dcsctp_machine.specs.transfer.Items.{Item, changed_item, changed_between}
+use Rattle.dcsctp_api.specs.wire.declared.chunk.sack.GapAckBlock.{GapAckBlock}
+use Rattle.dcsctp_api.specs.spec.queues.Items.{Item, changed_item, changed_between}
 use Rattle.dcsctp_send_outstanding.specs.declared.named_places.NamedPlaces.{NamedPlaces}
-use Rattle.dcsctp_machine.specs.declared.progress.Change.{Change}
-use Rattle.dcsctp_machine.specs.declared.progress.Change.TheVariants.{SendAgain, Miss, Mark, Acknowledge, Abandon}
-use Rattle.dcsctp_machine.specs.declared.progress.ItemState.{ItemState}
-use Rattle.dcsctp_machine.specs.declared.progress.ItemState.TheVariants.{InFlight, Marked, Acknowledged, Abandoned}
-use Rattle.dcsctp_machine.specs.declared.progress.Progress.{Progress}
-use Rattle.dcsctp_machine.specs.transfer.Progress.{changed, tells_of, missed, missed_where, marked, acknowledged, is_in_flight, is_unacknowledged}
+use Rattle.dcsctp_api.specs.types.declared.progress.Change.{Change}
+use Rattle.dcsctp_api.specs.types.declared.progress.Change.TheVariants.{SendAgain, Miss, Mark, Acknowledge, Abandon}
+use Rattle.dcsctp_api.specs.types.declared.progress.ItemState.{ItemState}
+use Rattle.dcsctp_api.specs.types.declared.progress.ItemState.TheVariants.{InFlight, Marked, Acknowledged, Abandoned}
+use Rattle.dcsctp_api.specs.types.declared.progress.Progress.{Progress}
+use Rattle.dcsctp_api.specs.types.queues.Progress.{changed, tells_of, missed, missed_where, marked, acknowledged, is_in_flight, is_unacknowledged}
 use Rattle.dcsctp_send_outstanding.specs.Settled.{is_settled, leaves_settled, is_left_by, is_unsettled_by}
 use Rattle.dcsctp_send_outstanding.specs.declared.totals.Totals.{Totals}
 use Rattle.dcsctp_send_outstanding.specs.Outstanding.{IsKept, later_of}
-use Rattle.dcsctp_machine.specs.transfer.Outstanding.{reported}
-use Rattle.dcsctp_machine.specs.transfer.Reports.{IsWithin, Names, IsLastAt, IsLast}
+use Rattle.dcsctp_api.specs.spec.queues.Outstanding.{reported}
+use Rattle.dcsctp_api.specs.spec.queues.Reports.{IsWithin, Names, IsLastAt, IsLast}
 use Rattle.dcsctp_send_outstanding.specs.NamedPlaces.{IsNamed, IsSettledAt, AreSettled, AreSettledBetween, BlocksAreSettled, IsLeftBetween}
 use Rattle.dcsctp_send_outstanding.proofs.ItemsLemmas.{le_or_lt}
 use Rattle.dcsctp_send_outstanding.proofs.MessageLemmas.{index_at}

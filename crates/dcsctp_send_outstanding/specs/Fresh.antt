@@ -1,8 +1,8 @@
 -- Chunks that are sent for the first time: their TSNs follow each other (RFC 9260, section 6.1).
 use Rattle.std.specs.Prelude.{◌≡◌, ℕ, zero, suc, ◌+◌, ◌%◌, ◌^◌, ◌≤◌, List, [], ◌∷◌, ◌++◌, length}
-use Rattle.dcsctp_machine.specs.transfer.Items.{Item, marked_items}
-use Rattle.dcsctp_machine.specs.transfer.Outstanding.{OutstandingState}
-use Rattle.dcsctp_machine.specs.transfer.Filling.{IsFresh}
+use Rattle.dcsctp_api.specs.spec.queues.Items.{Item, marked_items}
+use Rattle.dcsctp_api.specs.spec.queues.Outstanding.{OutstandingState}
+use Rattle.dcsctp_api.specs.spec.queues.Filling.{IsFresh}
 
 -- the TSNs of that many places from this one on
 abbrev pub tsns_from : ℕ → ℕ → ℕ → List ℕ

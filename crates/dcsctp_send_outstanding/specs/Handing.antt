@@ -1,13 +1,13 @@
 -- A new item (RFC 9260, section 6.1).
 use Rattle.std.specs.Prelude.{Result, Ok, Err, ◌≡◌, ◌⊎◌, ℕ, Bool, Option, None, Some, List, [], ◌∷◌, ◌++◌}
 use Rattle.std.specs.declared.alloc.AllocError.{AllocError}
-use Rattle.dcsctp_machine.specs.Event.{Event}
-use Rattle.dcsctp_machine.specs.transfer.SendQueue.{SendQueueState}
-use Rattle.dcsctp_machine.specs.transfer.Sending.{Takes, TakesNone}
+use Rattle.dcsctp_api.specs.spec.endpoint.Event.{Event}
+use Rattle.dcsctp_api.specs.spec.queues.SendQueue.{SendQueueState}
+use Rattle.dcsctp_api.specs.spec.queues.Sending.{Takes, TakesNone}
 use Rattle.dcsctp_send_queue.specs.Calls.{StopsTaking}
-use Rattle.dcsctp_machine.specs.transfer.Items.{Item}
-use Rattle.dcsctp_machine.specs.transfer.Outstanding.{OutstandingState, next_tsn}
-use Rattle.dcsctp_machine.specs.transfer.Filling.{IsFresh}
+use Rattle.dcsctp_api.specs.spec.queues.Items.{Item}
+use Rattle.dcsctp_api.specs.spec.queues.Outstanding.{OutstandingState, next_tsn}
+use Rattle.dcsctp_api.specs.spec.queues.Filling.{IsFresh}
 
 -- The next TSN goes to a new item, with what the send queue gives.
 pub record SendsItem (now max : ℕ) (reset_begun : Bool) (old : OutstandingState) (waiting : SendQueueState) (told : List (Event (List ℕ))) (new : OutstandingState) (left : SendQueueState) (telling : List (Event (List ℕ))) (tsn : ℕ) : Type 0 where

@@ -1,13 +1,13 @@
 -- Places that the blocks of the last SACK named (RFC 9260, section 3.3.4), and what is known of their items.
 use Rattle.std.specs.Prelude.{◌≡◌, ℕ, ◌+◌, ◌<◌, ◌≤◌, ◌^◌, true, Some, List, slice_get}
-use Rattle.dcsctp_wire.specs.declared.chunk.sack.GapAckBlock.{GapAckBlock}
-use Rattle.dcsctp_machine.specs.transfer.Items.{Item}
+use Rattle.dcsctp_api.specs.wire.declared.chunk.sack.GapAckBlock.{GapAckBlock}
+use Rattle.dcsctp_api.specs.spec.queues.Items.{Item}
 use Rattle.dcsctp_send_outstanding.specs.declared.named_places.Row.{Row}
-use Rattle.dcsctp_machine.specs.declared.progress.Change.{Change}
+use Rattle.dcsctp_api.specs.types.declared.progress.Change.{Change}
 use Rattle.dcsctp_send_outstanding.specs.declared.named_places.NamedPlaces.{NamedPlaces}
-use Rattle.dcsctp_machine.specs.transfer.Progress.{changed}
+use Rattle.dcsctp_api.specs.types.queues.Progress.{changed}
 use Rattle.dcsctp_send_outstanding.specs.Settled.{is_settled}
-use Rattle.dcsctp_machine.specs.transfer.Reports.{Names}
+use Rattle.dcsctp_api.specs.spec.queues.Reports.{Names}
 
 -- One of the rows names the place.
 pub record IsNamed (named : NamedPlaces) (place : ℕ) : Type 0 where

@@ -2,17 +2,17 @@
 use Rattle.std.specs.Prelude.{◌≡◌, ◌⊎◌, Result, Ok, Err, ℕ, ◌^◌, ◌<◌, ◌≤◌, min, max, Bool, false, Option, None, Some, List, [], ◌∷◌, ◌++◌, length, slice_get, if◌then◌else◌}
 use Rattle.std.specs.List.{AllByRecursion}
 use Rattle.std.specs.declared.alloc.AllocError.{AllocError}
-use Rattle.dcsctp_machine.specs.transfer.Items.{Item, bytes_in_flight, unacknowledged_bytes, unacknowledged_items, never_acknowledged_items, marked_items}
+use Rattle.dcsctp_api.specs.spec.queues.Items.{Item, bytes_in_flight, unacknowledged_bytes, unacknowledged_items, never_acknowledged_items, marked_items}
 use Rattle.dcsctp_send_outstanding.specs.declared.named_places.NamedPlaces.{NamedPlaces}
-use Rattle.dcsctp_machine.specs.declared.progress.Change.{Change}
-use Rattle.dcsctp_machine.specs.declared.progress.Change.TheVariants.{SendAgain, Miss, Mark, Acknowledge, Abandon}
-use Rattle.dcsctp_machine.specs.declared.progress.ItemState.TheVariants.{Abandoned}
+use Rattle.dcsctp_api.specs.types.declared.progress.Change.{Change}
+use Rattle.dcsctp_api.specs.types.declared.progress.Change.TheVariants.{SendAgain, Miss, Mark, Acknowledge, Abandon}
+use Rattle.dcsctp_api.specs.types.declared.progress.ItemState.TheVariants.{Abandoned}
 use Rattle.dcsctp_send_outstanding.specs.declared.totals.Totals.{Totals}
 use Rattle.dcsctp_send_outstanding.specs.NamedPlaces.{AreSettled}
-use Rattle.dcsctp_machine.specs.transfer.Outstanding.{OutstandingState, header_of, tsn_at, next_tsn, distance_to, acknowledged_by}
-use Rattle.dcsctp_machine.specs.transfer.Progress.{just_sent, is_marked}
-use Rattle.dcsctp_machine.specs.transfer.NextItem.{NoneMarkedBefore, IsMarkedAt}
-use Rattle.dcsctp_machine.specs.Soundness.{HasBytes}
+use Rattle.dcsctp_api.specs.spec.queues.Outstanding.{OutstandingState, header_of, tsn_at, next_tsn, distance_to, acknowledged_by}
+use Rattle.dcsctp_api.specs.types.queues.Progress.{just_sent, is_marked}
+use Rattle.dcsctp_api.specs.spec.queues.NextItem.{NoneMarkedBefore, IsMarkedAt}
+use Rattle.dcsctp_api.specs.spec.Soundness.{HasBytes}
 
 -- The TSN of each item leads to its place.
 abbrev pub FindsPlaces : OutstandingState → Type 0

@@ -1,9 +1,9 @@
 -- What an acknowledgement needn't be told again (RFC 9260, section 6.2.1), and which changes leave it so.
 use Rattle.std.specs.Prelude.{not, Bool, true, false, nat_lt, if◌then◌else◌}
-use Rattle.dcsctp_machine.specs.declared.progress.Progress.{Progress}
-use Rattle.dcsctp_machine.specs.declared.progress.Change.{Change}
-use Rattle.dcsctp_machine.specs.declared.progress.Change.TheVariants.{SendAgain, Miss, Mark, Acknowledge, Abandon}
-use Rattle.dcsctp_machine.specs.transfer.Progress.{is_in_flight, is_unacknowledged}
+use Rattle.dcsctp_api.specs.types.declared.progress.Progress.{Progress}
+use Rattle.dcsctp_api.specs.types.declared.progress.Change.{Change}
+use Rattle.dcsctp_api.specs.types.declared.progress.Change.TheVariants.{SendAgain, Miss, Mark, Acknowledge, Abandon}
+use Rattle.dcsctp_api.specs.types.queues.Progress.{is_in_flight, is_unacknowledged}
 
 -- A SACK has acknowledged it, and it doesn't wait to be acknowledged again.
 abbrev pub is_settled : Progress → Bool

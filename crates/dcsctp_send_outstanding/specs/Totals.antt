@@ -1,9 +1,9 @@
 -- What is kept of the sums over all items, as items come and go.
 use Rattle.std.specs.Prelude.{not, ℕ, ◌+◌, ◌-◌, ◌<◌, ◌≤◌, ◌^◌}
-use Rattle.dcsctp_machine.specs.declared.progress.Progress.{Progress}
+use Rattle.dcsctp_api.specs.types.declared.progress.Progress.{Progress}
 use Rattle.dcsctp_send_outstanding.specs.declared.totals.Totals.{Totals}
-use Rattle.dcsctp_machine.specs.transfer.Progress.{is_in_flight, is_marked, is_unacknowledged}
-use Rattle.dcsctp_machine.specs.transfer.Items.{counted}
+use Rattle.dcsctp_api.specs.types.queues.Progress.{is_in_flight, is_marked, is_unacknowledged}
+use Rattle.dcsctp_api.specs.spec.queues.Items.{counted}
 
 -- those of no items
 abbrev pub no_totals : Totals

@@ -1,15 +1,15 @@
 //! What a snapshot has of an item, and the item that is made of it again.
 
 ghost use Rattle.std.specs.Prelude.{◌≡◌, ◌||◌, None, IfOk};
-ghost use Rattle.dcsctp_machine.specs.SnapshotItems.{outstanding_part};
-ghost use Rattle.dcsctp_machine.specs.transfer.OutstandingParts.{state_again, fragment_again};
+ghost use Rattle.dcsctp_api.specs.types.SnapshotItems.{outstanding_part};
+ghost use Rattle.dcsctp_api.specs.spec.queues.OutstandingParts.{state_again, fragment_again};
 
 use crate::item::Item;
-use dcsctp_api::{PpId, SocketTime, StreamId};
-use dcsctp_machine::{
+use dcsctp_api::types::{
     HandoverOutstandingData, ItemState, Progress, millis_ahead, millis_since, moment_at,
     moment_before,
 };
+use dcsctp_api::{PpId, SocketTime, StreamId};
 use dcsctp_send_queue::DataToSend;
 use dcsctp_send_streams::{NO_LIMIT, limit_of, name_of};
 use std::alloc::{AllocError, Global};
@@ -72,7 +72,7 @@ fn fragment_again(
 }
 
 impl Item {
-    ghost use Rattle.dcsctp_machine.specs.transfer.OutstandingParts.{outstanding_given, item_again};
+    ghost use Rattle.dcsctp_api.specs.spec.queues.OutstandingParts.{outstanding_given, item_again};
 
     /// The item that a snapshot has, if the snapshot is restored at the moment `now`. `was_reset`: streams were
     /// reset before. The payload is copied. `Err`: an allocation failed.

@@ -1,10 +1,10 @@
 //! What was sent under one TSN.
 
 ghost use Rattle.std.specs.Prelude.{◌≡◌, ◌≤◌};
-ghost use Rattle.dcsctp_machine.specs.transfer.Outstanding.{header_of};
+ghost use Rattle.dcsctp_api.specs.spec.queues.Outstanding.{header_of};
 
 use dcsctp_api::SocketTime;
-use dcsctp_machine::Progress;
+use dcsctp_api::types::Progress;
 use dcsctp_send_queue::DataToSend;
 use std::marker::Model;
 
@@ -25,7 +25,7 @@ pub struct Item {
 }
 
 impl Model for Item {
-    ghost use Rattle.dcsctp_machine.specs.transfer.Items.{Item};
+    ghost use Rattle.dcsctp_api.specs.spec.queues.Items.{Item};
 
     ghost Value = { Item };
 
@@ -38,7 +38,7 @@ impl Model for Item {
 }
 
 impl Item {
-    ghost use Rattle.dcsctp_machine.specs.transfer.Items.{size_of};
+    ghost use Rattle.dcsctp_api.specs.spec.queues.Items.{size_of};
 
     /// How long its chunk is, as I-DATA or as DATA, with its header and padding. No payload is above 65,535
     /// bytes.

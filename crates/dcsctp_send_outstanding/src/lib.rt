@@ -8,7 +8,7 @@ mod outstanding;
 mod settled;
 mod totals;
 
-pub use dcsctp_machine::{Change, ItemState, Progress};
+pub use dcsctp_api::types::{Change, ItemState, Progress};
 pub use item::Item;
 pub use outstanding::Outstanding;
 pub use totals::Totals;

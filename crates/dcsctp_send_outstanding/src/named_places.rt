@@ -28,7 +28,7 @@ pub struct NamedPlaces {
 
 impl NamedPlaces {
     ghost use Rattle.std.specs.Prelude.{false};
-    ghost use Rattle.dcsctp_machine.specs.transfer.Reports.{IsWithin};
+    ghost use Rattle.dcsctp_api.specs.spec.queues.Reports.{IsWithin};
 
     /// No place. Allocates nothing.
     pub fn new(alloc: Global) -> NamedPlaces

@@ -11,8 +11,8 @@ use crate::item::{Item, header_of};
 use crate::named_places::NamedPlaces;
 use crate::settled::{is_left_by, is_unsettled_by, leaves_settled};
 use crate::totals::Totals;
+use dcsctp_api::types::{Change, Progress};
 use dcsctp_api::{Events, SocketTime};
-use dcsctp_machine::{Change, Progress};
 use dcsctp_send_queue::SendQueue;
 use std::alloc::{AllocError, Global};
 use std::collections::VecDeque;
@@ -45,7 +45,7 @@ pub struct Outstanding {
 
 impl Model for Outstanding {
     ghost use Rattle.dcsctp_send_outstanding.specs.Outstanding.{IsKept};
-    ghost use Rattle.dcsctp_machine.specs.transfer.Outstanding.{OutstandingState};
+    ghost use Rattle.dcsctp_api.specs.spec.queues.Outstanding.{OutstandingState};
 
     ghost Value = { OutstandingState };
 
@@ -61,13 +61,13 @@ impl Model for Outstanding {
 impl Outstanding {
     ghost use Rattle.std.specs.Prelude.{◌<◌, ◌-◌, ◌%◌, ◌^◌, ◌↔◌, [], IsTrue, IfSome, IfNone, IfOk, Some, None, length, drop, slice_get};
     ghost use Rattle.std.specs.List.{AllByRecursion};
-    ghost use Rattle.dcsctp_machine.specs.Soundness.{HasBytes};
-    ghost use Rattle.dcsctp_machine.specs.declared.progress.Change.TheVariants.{SendAgain};
-    ghost use Rattle.dcsctp_machine.specs.transfer.Items.{size_of, bytes_in_flight, unacknowledged_bytes, unacknowledged_items, never_acknowledged_items, marked_items, changed_between};
-    ghost use Rattle.dcsctp_machine.specs.transfer.Progress.{is_marked};
-    ghost use Rattle.dcsctp_machine.specs.transfer.NextItem.{IsNextMarked, HasNone, IsMarkedAt};
+    ghost use Rattle.dcsctp_api.specs.spec.Soundness.{HasBytes};
+    ghost use Rattle.dcsctp_api.specs.types.declared.progress.Change.TheVariants.{SendAgain};
+    ghost use Rattle.dcsctp_api.specs.spec.queues.Items.{size_of, bytes_in_flight, unacknowledged_bytes, unacknowledged_items, never_acknowledged_items, marked_items, changed_between};
+    ghost use Rattle.dcsctp_api.specs.types.queues.Progress.{is_marked};
+    ghost use Rattle.dcsctp_api.specs.spec.queues.NextItem.{IsNextMarked, HasNone, IsMarkedAt};
     ghost use Rattle.dcsctp_send_outstanding.specs.Outstanding.{FindsPlaces, KeepsAbandoned, MayChange, TriesNext, NoneMarkedBetween};
-    ghost use Rattle.dcsctp_machine.specs.transfer.Outstanding.{header, next_tsn, tsn_at, distance_to};
+    ghost use Rattle.dcsctp_api.specs.spec.queues.Outstanding.{header, next_tsn, tsn_at, distance_to};
     ghost use Rattle.dcsctp_send_outstanding.specs.Handing.{TriesItem};
     ghost use Rattle.dcsctp_send_outstanding.specs.NamedPlaces.{IsLeftBetween};
     ghost use Rattle.dcsctp_send_streams.specs.Telling.{contents};

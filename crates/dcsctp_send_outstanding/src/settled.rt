@@ -3,7 +3,7 @@
 ghost use Rattle.std.specs.Prelude.{◌≡◌};
 ghost use Rattle.dcsctp_send_outstanding.specs.Settled.{is_settled, leaves_settled, is_left_by, is_unsettled_by};
 
-use dcsctp_machine::{Change, Progress};
+use dcsctp_api::types::{Change, Progress};
 
 /// Does the change leave what is settled as it is?
 pub fn leaves_settled(change: Change) -> bool

@@ -1,9 +1,9 @@
 //! The sums over all items that are asked for with each packet.
 
 ghost use Rattle.std.specs.Prelude.{◌≡◌};
-ghost use Rattle.dcsctp_machine.specs.transfer.Items.{counted};
+ghost use Rattle.dcsctp_api.specs.spec.queues.Items.{counted};
 
-use dcsctp_machine::Progress;
+use dcsctp_api::types::Progress;
 
 /// The sums.
 #[derive(Clone, Copy, Debug)]

@@ -1,9 +1,9 @@
 -- How long fragments are.
 use Rattle.std.proofs.Common.{◌≡◌, ◌∙◌, ℕ, ◌<◌, length, take, drop, ap, arith}
 use Rattle.std.proofs.lemmas.List.{length-take, length-drop}
-use Rattle.dcsctp_machine.specs.declared.sending.UnderWay.{UnderWay}
-use Rattle.dcsctp_machine.specs.transfer.SendStreams.{Waiting}
-use Rattle.dcsctp_machine.specs.transfer.Sending.{Fragment, fragment, size_produced}
+use Rattle.dcsctp_api.specs.types.declared.sending.UnderWay.{UnderWay}
+use Rattle.dcsctp_api.specs.types.queues.SendStreams.{Waiting}
+use Rattle.dcsctp_api.specs.spec.queues.Sending.{Fragment, fragment, size_produced}
 use Rattle.dcsctp_send_streams.specs.Fragment.{HasSize}
 
 -- one byte at least where some are left, and at most as many as are asked for

@@ -1,6 +1,6 @@
 -- Lemmas on a front part of what is told.
 use Rattle.std.proofs.Common.{◌≡◌, ◌∙◌, ℕ, List, ◌++◌, append_assoc, sym, ap}
-use Rattle.dcsctp_machine.specs.Event.{Event}
+use Rattle.dcsctp_api.specs.spec.endpoint.Event.{Event}
 use Rattle.dcsctp_send_streams.specs.Telling.{TellsFront}
 
 -- more was to follow

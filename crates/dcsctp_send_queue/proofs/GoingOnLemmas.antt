@@ -2,12 +2,12 @@
 use Rattle.std.proofs.Common.{◌≡◌, ◌≢◌, ◌==◌, ◌%◌, nat_le, ℕ, zero, suc, ◌-◌, ◌+◌, ◌^◌, ◌<◌, ◌≤◌, Bool, true, false, if◌then◌else◌, Option, None, Some, Ok, Err, List, [], ◌∷◌, length, set, map, refl, sym, ap, ◌∙◌, arith}
 use Rattle.std.proofs.lemmas.Bool.Decides.{nat_tests}
 use Rattle.std.specs.List.{insert}
-use Rattle.dcsctp_machine.specs.Event.{Event}
-use Rattle.dcsctp_machine.specs.transfer.SendQueue.{SendQueueState, changed, with_stream, used, IsUnderWay, CanGoOn}
-use Rattle.dcsctp_machine.specs.declared.sending.UnderWay.{UnderWay}
-use Rattle.dcsctp_machine.specs.transfer.SendStreams.{Waiting, Stream, unused, front_of, counted, stream_at, IsAscending}
+use Rattle.dcsctp_api.specs.spec.endpoint.Event.{Event}
+use Rattle.dcsctp_api.specs.spec.queues.SendQueue.{SendQueueState, changed, with_stream, used, IsUnderWay, CanGoOn}
+use Rattle.dcsctp_api.specs.types.declared.sending.UnderWay.{UnderWay}
+use Rattle.dcsctp_api.specs.types.queues.SendStreams.{Waiting, Stream, unused, front_of, counted, stream_at, IsAscending}
 use Rattle.dcsctp_send_streams.specs.Ranking.{IsFound}
-use Rattle.dcsctp_machine.specs.transfer.Sending.{Chooses, IsNamed, Drops, none, more, reduced, after_part, after_last, produced, is_last}
+use Rattle.dcsctp_api.specs.spec.queues.Sending.{Chooses, IsNamed, Drops, none, more, reduced, after_part, after_last, produced, is_last}
 use Rattle.dcsctp_send_streams.proofs.StreamLemmas.{stream_at-set, length-set_at}
 use Rattle.dcsctp_send_streams.proofs.NextLemmas.{same_place}
 use Rattle.dcsctp_send_queue.proofs.QueueLemmas.{less_test, not_less_test, changed_at, used_found, lost_after, used_lost, changed_insert, stream_at-either, under_way_set}

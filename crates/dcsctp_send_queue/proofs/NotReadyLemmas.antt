@@ -1,13 +1,13 @@
 -- How many streams are to be reset, and how many of them are ready for it.
 use Rattle.std.proofs.Common.{◌≡◌, nat_lt, ℕ, zero, suc, ◌+◌, ◌<◌, Bool, true, false, not, if◌then◌else◌, Option, None, Some, Ok, Err, List, [], ◌∷◌, length, refl, sym, ap, arith}
 use Rattle.std.proofs.lemmas.Bool.Decides.{nat_tests}
-use Rattle.dcsctp_machine.specs.transfer.Transfer.{is_none_ready}
-use Rattle.dcsctp_machine.specs.declared.sending.UnderWay.{UnderWay}
-use Rattle.dcsctp_machine.specs.transfer.SendStreams.{Stream, is_pausing, stream_at, IsAscending}
+use Rattle.dcsctp_api.specs.spec.queues.Transfer.{is_none_ready}
+use Rattle.dcsctp_api.specs.types.declared.sending.UnderWay.{UnderWay}
+use Rattle.dcsctp_api.specs.types.queues.SendStreams.{Stream, is_pausing, stream_at, IsAscending}
 use Rattle.dcsctp_send_streams.specs.Ranking.{count_pausing, IsFound}
 use Rattle.dcsctp_send_streams.proofs.CountLemmas.{one_pausing, count-cons}
 use Rattle.dcsctp_send_streams.proofs.NextLemmas.{absent_at}
-use Rattle.dcsctp_machine.specs.transfer.OwnResets.{is_under_way, is_ready}
+use Rattle.dcsctp_api.specs.spec.queues.OwnResets.{is_under_way, is_ready}
 use Rattle.dcsctp_send_queue.proofs.QueueLemmas.{same_test, other_test, IsBelow-out}
 use Rattle.dcsctp_send_queue.proofs.ReadyLemmas.{ready_ids}
 

@@ -1,8 +1,8 @@
 -- The message under way as other numbers count.
 use Rattle.std.proofs.Common.{◌≡◌, ◌∙◌, ℕ, Option, Some, Ok, List, set, refl}
-use Rattle.dcsctp_machine.specs.transfer.SendQueue.{SendQueueState, front_counted, renumbered, numbered_anew}
-use Rattle.dcsctp_machine.specs.declared.sending.UnderWay.{UnderWay}
-use Rattle.dcsctp_machine.specs.transfer.SendStreams.{Stream, unused, stream_at, IsAscending}
+use Rattle.dcsctp_api.specs.spec.queues.SendQueue.{SendQueueState, front_counted, renumbered, numbered_anew}
+use Rattle.dcsctp_api.specs.types.declared.sending.UnderWay.{UnderWay}
+use Rattle.dcsctp_api.specs.types.queues.SendStreams.{Stream, unused, stream_at, IsAscending}
 use Rattle.dcsctp_send_streams.specs.Ranking.{IsFound}
 use Rattle.dcsctp_send_queue.proofs.QueueLemmas.{changed_at, found_in-at}
 

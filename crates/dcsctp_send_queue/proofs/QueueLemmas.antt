@@ -2,10 +2,10 @@
 use Rattle.std.proofs.Common.{◌≡◌, ◌≢◌, ◌==◌, nat_lt, ℕ, zero, suc, ◌<◌, ◌≤◌, true, false, Some, Ok, Err, ◌⊎◌, inl, inr, List, [], ◌∷◌, length, set, refl, sym, ap, ◌∙◌, arith}
 use Rattle.std.proofs.lemmas.Bool.Decides.{nat_tests}
 use Rattle.std.specs.List.{insert}
-use Rattle.dcsctp_machine.specs.declared.sending.UnderWay.{UnderWay}
-use Rattle.dcsctp_machine.specs.transfer.SendStreams.{Waiting, Stream, front_of, stream_at, IsBelow, IsAscending}
+use Rattle.dcsctp_api.specs.types.declared.sending.UnderWay.{UnderWay}
+use Rattle.dcsctp_api.specs.types.queues.SendStreams.{Waiting, Stream, front_of, stream_at, IsBelow, IsAscending}
 use Rattle.dcsctp_send_streams.specs.Ranking.{IsFound}
-use Rattle.dcsctp_machine.specs.transfer.SendQueue.{changed, with_stream, is_used, found_in, IsUnderWay}
+use Rattle.dcsctp_api.specs.spec.queues.SendQueue.{changed, with_stream, is_used, found_in, IsUnderWay}
 use Rattle.dcsctp_send_streams.proofs.StreamLemmas.{length-set_at}
 
 pub same_test : (a b : ℕ) → a ≡ b → (a == b) ≡ true

@@ -1,12 +1,12 @@
 -- Streams that are handed out.
 use Rattle.std.proofs.Common.{◌≡◌, ◌==◌, ℕ, zero, suc, ◌+◌, ◌<◌, ◌≤◌, Bool, true, false, if◌then◌else◌, Option, Err, List, [], ◌∷◌, ◌++◌, length, get_or, filter, map, take, refl, sym, ap, ◌∙◌, arith}
-use Rattle.dcsctp_machine.specs.Ids.{stream_numbers}
-use Rattle.dcsctp_machine.specs.declared.ids.StreamId.{StreamId}
-use Rattle.dcsctp_machine.specs.declared.sending.UnderWay.{UnderWay}
-use Rattle.dcsctp_machine.specs.transfer.SendStreams.{Stream, handed_out, stream_at}
+use Rattle.dcsctp_api.specs.types.Ids.{stream_numbers}
+use Rattle.dcsctp_api.specs.types.declared.ids.StreamId.{StreamId}
+use Rattle.dcsctp_api.specs.types.declared.sending.UnderWay.{UnderWay}
+use Rattle.dcsctp_api.specs.types.queues.SendStreams.{Stream, handed_out, stream_at}
 use Rattle.dcsctp_send_streams.specs.Ranking.{IsFound}
-use Rattle.dcsctp_machine.specs.transfer.SendQueue.{changed, CanGoOn}
-use Rattle.dcsctp_machine.specs.transfer.OwnResets.{is_ready, handing_out}
+use Rattle.dcsctp_api.specs.spec.queues.SendQueue.{changed, CanGoOn}
+use Rattle.dcsctp_api.specs.spec.queues.OwnResets.{is_ready, handing_out}
 use Rattle.dcsctp_send_streams.proofs.NextLemmas.{absent_at}
 use Rattle.dcsctp_send_queue.proofs.ResetLemmas.{can_go_on-map, changed_absent}
 

@@ -1,17 +1,17 @@
 -- What a reset does to streams.
 use Rattle.std.proofs.Common.{◌≡◌, ◌≢◌, ◌==◌, ℕ, zero, suc, ◌-◌, ◌+◌, ◌^◌, ◌<◌, min, true, false, Option, None, Some, Result, Ok, Err, OnOk, OnErr, ◌⊎◌, inl, inr, List, [], ◌∷◌, length, set, map, take, refl, sym, ap, subst, ◌∙◌, arith}
 use Rattle.std.proofs.lemmas.Bool.Decides.{nat_tests}
-use Rattle.dcsctp_machine.specs.transfer.SendQueue.{SendQueueState, changed, used, stream_of, put_back, IsUnderWay, CanGoOn}
-use Rattle.dcsctp_machine.specs.declared.sending.UnderWay.{UnderWay}
-use Rattle.dcsctp_machine.specs.transfer.SendStreams.{Waiting, Stream, unused, front_of, raised, paused, committed, rolled_back, stream_at, IsAscending}
-use Rattle.dcsctp_machine.specs.declared.sending.Pause.{Pause}
-use Rattle.dcsctp_machine.specs.declared.sending.Pause.TheVariants.{Open, Pausing, HandedOut}
+use Rattle.dcsctp_api.specs.spec.queues.SendQueue.{SendQueueState, changed, used, stream_of, put_back, IsUnderWay, CanGoOn}
+use Rattle.dcsctp_api.specs.types.declared.sending.UnderWay.{UnderWay}
+use Rattle.dcsctp_api.specs.types.queues.SendStreams.{Waiting, Stream, unused, front_of, raised, paused, committed, rolled_back, stream_at, IsAscending}
+use Rattle.dcsctp_api.specs.types.declared.sending.Pause.{Pause}
+use Rattle.dcsctp_api.specs.types.declared.sending.Pause.TheVariants.{Open, Pausing, HandedOut}
 use Rattle.dcsctp_send_streams.specs.Ranking.{IsFound}
 use Rattle.dcsctp_send_queue.specs.declared.backlog.Backlog.{Backlog}
 use Rattle.dcsctp_send_queue.specs.Backlog.{queue_of}
-use Rattle.dcsctp_machine.specs.transfer.OwnResets.{prepared_stream, prepared_open, prepared_in, prepare_events_in, is_open, dropped_size, count_under_way}
+use Rattle.dcsctp_api.specs.spec.queues.OwnResets.{prepared_stream, prepared_open, prepared_in, prepare_events_in, is_open, dropped_size, count_under_way}
 use Rattle.dcsctp_send_queue.specs.Leaving.{DropsSome, pause_events, after_pause, size_not_begun}
-use Rattle.dcsctp_machine.specs.transfer.Sending.{none}
+use Rattle.dcsctp_api.specs.spec.queues.Sending.{none}
 use Rattle.dcsctp_send_streams.proofs.StreamLemmas.{stream_at-set, length-set_at}
 use Rattle.dcsctp_send_queue.proofs.QueueLemmas.{same_test, other_test, changed_at, found_in-at, stream_at-either, under_way_set}
 use Rattle.dcsctp_send_queue.proofs.GoingOnLemmas.{map_at, map_length}

@@ -2,13 +2,13 @@
 use Rattle.std.proofs.Common.{◌≡◌, ◌==◌, nat_lt, ℕ, zero, suc, ◌+◌, ◌-◌, ◌^◌, ◌<◌, ◌&&◌, ◌||◌, min, not, Bool, true, false, if◌then◌else◌, Some, is_some, List, [], ◌∷◌, ◌++◌, length, get_or, map, refl, sym, ap, ◌∙◌, arith}
 use Rattle.std.proofs.lemmas.Bool.Decides.{nat_tests}
 use Rattle.std.specs.List.{list_all}
-use Rattle.dcsctp_machine.specs.declared.sending.UnderWay.{UnderWay}
-use Rattle.dcsctp_machine.specs.declared.snapshot.HandoverStreamMessage.{HandoverStreamMessage}
-use Rattle.dcsctp_machine.specs.Snapshot.{has_bytes, has_unsent_bytes, is_valid_queued}
-use Rattle.dcsctp_machine.specs.SnapshotItems.{QueuedPart, queued_part}
-use Rattle.dcsctp_machine.specs.transfer.QueuedParts.{with_rest, goes_on, waiting_again, progress_again}
-use Rattle.dcsctp_machine.specs.transfer.SendQueue.{SendQueueState, changed, with_stream, is_used, used, found_in, stream_of, IsUnderWay}
-use Rattle.dcsctp_machine.specs.transfer.SendStreams.{Waiting, Stream, unused, front_of}
+use Rattle.dcsctp_api.specs.types.declared.sending.UnderWay.{UnderWay}
+use Rattle.dcsctp_api.specs.types.declared.snapshot.HandoverStreamMessage.{HandoverStreamMessage}
+use Rattle.dcsctp_api.specs.types.Snapshot.{has_bytes, has_unsent_bytes, is_valid_queued}
+use Rattle.dcsctp_api.specs.types.SnapshotItems.{QueuedPart, queued_part}
+use Rattle.dcsctp_api.specs.spec.queues.QueuedParts.{with_rest, goes_on, waiting_again, progress_again}
+use Rattle.dcsctp_api.specs.spec.queues.SendQueue.{SendQueueState, changed, with_stream, is_used, used, found_in, stream_of, IsUnderWay}
+use Rattle.dcsctp_api.specs.types.queues.SendStreams.{Waiting, Stream, unused, front_of}
 use Rattle.dcsctp_send_queue.proofs.QueueLemmas.{same_test}
 
 same_number : (m n : ℕ) → (m == n) ≡ true → m ≡ n

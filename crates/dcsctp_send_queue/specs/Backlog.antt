@@ -1,5 +1,5 @@
 -- A send queue apart from memory.
-use Rattle.dcsctp_machine.specs.transfer.SendQueue.{SendQueueState}
+use Rattle.dcsctp_api.specs.spec.queues.SendQueue.{SendQueueState}
 use Rattle.dcsctp_send_queue.specs.declared.backlog.Backlog.{Backlog}
 
 abbrev pub queue_of : Backlog → SendQueueState

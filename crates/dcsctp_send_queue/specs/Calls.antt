@@ -1,10 +1,10 @@
 -- What is left of a send queue if an allocation fails.
-use Rattle.std.specs.Prelude.{◌≡◌, ◌⊎◌, ℕ, ◌+◌, true, None, Some, List, ◌++◌}
-use Rattle.dcsctp_machine.specs.Event.{Event}
-use Rattle.dcsctp_machine.specs.declared.sending.UnderWay.{UnderWay}
-use Rattle.dcsctp_machine.specs.transfer.SendStreams.{Waiting, front_of, is_expired, stream_at, IsNext}
-use Rattle.dcsctp_machine.specs.transfer.SendQueue.{SendQueueState}
-use Rattle.dcsctp_machine.specs.transfer.Sending.{Chooses, Drops, drop_events, produced_events, IsNamed}
+use Rattle.std.specs.Prelude.{◌≡◌, ◌⊎◌, ℕ, true, None, Some, List, ◌++◌}
+use Rattle.dcsctp_api.specs.spec.endpoint.Event.{Event}
+use Rattle.dcsctp_api.specs.types.declared.sending.UnderWay.{UnderWay}
+use Rattle.dcsctp_api.specs.types.queues.SendStreams.{Waiting, front_of, is_expired, stream_at, IsNext}
+use Rattle.dcsctp_api.specs.spec.queues.SendQueue.{SendQueueState}
+use Rattle.dcsctp_api.specs.spec.queues.Sending.{Chooses, Drops, drop_events, produced_events, IsNamed}
 use Rattle.dcsctp_send_streams.specs.Telling.{TellsFront}
 
 -- The message that is dropped next, and the events about it. No message is under way.

@@ -1,11 +1,11 @@
 -- What leaves a send queue, step by step.
 use Rattle.std.specs.Prelude.{◌≡◌, ◌<◌, ◌≤◌, ℕ, ◌-◌, ◌^◌, min, false, Option, None, Some, List, [], ◌++◌, length, drop, slice_set}
-use Rattle.dcsctp_machine.specs.Event.{Event}
-use Rattle.dcsctp_machine.specs.transfer.SendStreams.{Waiting, Stream, front_of, is_expired, paused, size_of, stream_at, turns_of, IsNext}
-use Rattle.dcsctp_machine.specs.transfer.SendEvents.{expiries}
-use Rattle.dcsctp_machine.specs.transfer.SendQueue.{SendQueueState}
-use Rattle.dcsctp_machine.specs.transfer.Sending.{reduced, part_events, Drops}
-use Rattle.dcsctp_machine.specs.transfer.OwnResets.{count_under_way}
+use Rattle.dcsctp_api.specs.spec.endpoint.Event.{Event}
+use Rattle.dcsctp_api.specs.types.queues.SendStreams.{Waiting, Stream, front_of, is_expired, paused, size_of, stream_at, turns_of, IsNext}
+use Rattle.dcsctp_api.specs.spec.queues.SendEvents.{expiries}
+use Rattle.dcsctp_api.specs.spec.queues.SendQueue.{SendQueueState}
+use Rattle.dcsctp_api.specs.spec.queues.Sending.{reduced, part_events, Drops}
+use Rattle.dcsctp_api.specs.spec.queues.OwnResets.{count_under_way}
 
 -- the messages of the stream at the place that haven't been started
 abbrev pub not_begun : ℕ → SendQueueState → List Waiting

@@ -2,3 +2,4 @@ pub mod Backlog
 pub mod Calls
 pub mod Leaving
 pub mod Resets
+pub mod Preparing

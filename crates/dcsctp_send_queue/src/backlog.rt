@@ -1,7 +1,7 @@
 //! What a send queue holds, and the steps of its calls.
 
 ghost use Rattle.std.specs.Prelude.{◌≡◌, ◌&&◌};
-ghost use Rattle.dcsctp_machine.specs.transfer.SendEvents.{falls_low};
+ghost use Rattle.dcsctp_api.specs.spec.queues.SendEvents.{falls_low};
 
 mod handover;
 mod producing;
@@ -41,14 +41,15 @@ pub struct Backlog {
 
 impl Backlog {
     ghost use Rattle.dcsctp_send_queue.specs.Backlog.{queue_of};
-    ghost use Rattle.dcsctp_machine.specs.transfer.SendQueue.{CanGoOn, IsUnderWay, has_data, changed, used, put_back, with_threshold, with_priority, may_send};
-    ghost use Rattle.dcsctp_machine.specs.transfer.OwnResets.{with_used, count_under_way};
-    ghost use Rattle.dcsctp_machine.specs.turns.SettingOutcomes.{stream_priority, stream_low_threshold, set_in_queue};
+    ghost use Rattle.dcsctp_api.specs.spec.queues.SendQueue.{CanGoOn, IsUnderWay, has_data, changed, used, put_back, with_threshold, with_priority, may_send};
+    ghost use Rattle.dcsctp_api.specs.spec.queues.OwnResets.{with_used, count_under_way};
+    ghost use Rattle.dcsctp_api.specs.types.Setting.{stream_priority, stream_low_threshold};
+    ghost use Rattle.dcsctp_api.specs.spec.endpoint.SettingOutcomes.{set_in_queue};
     ghost use Rattle.std.specs.Prelude.{◌≡◌, ◌==◌, ◌+◌, ◌-◌, ◌<◌, ◌++◌, length, Some, None, Ok, Err, OnOk, OnErr, IfOk, IfSome};
-    ghost use Rattle.dcsctp_machine.specs.transfer.SendStreams.{Waiting, unused, front_of, with_message, stream_at, IsAscending};
+    ghost use Rattle.dcsctp_api.specs.types.queues.SendStreams.{Waiting, unused, front_of, with_message, stream_at, IsAscending};
     ghost use Rattle.dcsctp_send_streams.specs.Telling.{contents, TellsFront};
     ghost use Rattle.dcsctp_send_streams.specs.Ranking.{IsFound};
-    ghost use Rattle.dcsctp_machine.specs.transfer.Sending.{reduced, without_rest, drop_events, part_events};
+    ghost use Rattle.dcsctp_api.specs.spec.queues.Sending.{reduced, without_rest, drop_events, part_events};
     ghost use Rattle.dcsctp_send_queue.specs.Leaving.{HasMore, HasRest};
 
     /// A stream that was never used.

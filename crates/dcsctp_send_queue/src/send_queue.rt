@@ -4,8 +4,8 @@
 ghost use Rattle.std.specs.Prelude.{◌<◌};
 
 use crate::backlog::Backlog;
+use dcsctp_api::types::{HandoverReadiness, HandoverTransmission};
 use dcsctp_api::{Events, Message, Options, SendOptions, SocketTime, StreamId};
-use dcsctp_machine::{HandoverReadiness, HandoverTransmission};
 use dcsctp_send_streams::{DataToSend, QueuedMessage, Streams};
 use std::alloc::{AllocError, Global};
 use std::marker::Model;
@@ -15,13 +15,19 @@ use std::marker::Model;
 /// An amount is the payload bytes that were neither produced nor dropped; it stops at `usize::MAX`. One that
 /// falls from above its threshold to it or below adds its event: the stream's, and then the total's. If a
 /// fragment leaves or messages are dropped, these come before the events that name a message.
-#[derive(Drop)]
 pub struct SendQueue {
     backlog: Backlog,
 }
 
+// Written out, since a derived one is proved field by field in each crate above.
+impl Drop for SendQueue {
+    fn drop(self) {
+        let SendQueue { backlog: _ } = self;
+    }
+}
+
 impl Model for SendQueue {
-    ghost use Rattle.dcsctp_machine.specs.transfer.SendQueue.{SendQueueState, CanGoOn};
+    ghost use Rattle.dcsctp_api.specs.spec.queues.SendQueue.{SendQueueState, CanGoOn};
     ghost use Rattle.dcsctp_send_queue.specs.Backlog.{queue_of};
 
     ghost Value = { SendQueueState };
@@ -34,23 +40,25 @@ impl Model for SendQueue {
 impl SendQueue {
     ghost use Rattle.std.specs.Option.{option_map};
     ghost use Rattle.std.specs.List.{list_all};
-    ghost use Rattle.dcsctp_machine.specs.transfer.Messages.{message_content};
-    ghost use Rattle.dcsctp_machine.specs.transfer.OwnResets.{queue_committed, queue_rolled_back, queue_handing_out, ready_streams, handing_out, prepared, prepare_events};
+    ghost use Rattle.dcsctp_api.specs.types.queues.Messages.{message_content};
+    ghost use Rattle.dcsctp_api.specs.spec.queues.OwnResets.{queue_committed, queue_rolled_back, queue_handing_out, ready_streams, handing_out, prepared, prepare_events};
     ghost use Rattle.dcsctp_send_streams.specs.Fragment.{HasSize};
     ghost use Rattle.std.specs.Prelude.{◌≡◌, ◌+◌, ◌-◌, ◌<◌, ◌++◌, vec_len, true, IfSome, OnOk, OnErr, IfOk, take, not};
-    ghost use Rattle.dcsctp_machine.specs.transfer.SendQueue.{empty_queue, IsWellFormed, restarted, has_data, changed, used, stream_of, numbered_for, queued, with_added, may_send, with_threshold, with_priority};
-    ghost use Rattle.dcsctp_machine.specs.transfer.Transfer.{is_none_ready};
-    ghost use Rattle.dcsctp_machine.specs.turns.SettingOutcomes.{stream_priority, stream_low_threshold, set_in_queue};
+    ghost use Rattle.dcsctp_api.specs.spec.queues.SendQueue.{empty_queue, IsWellFormed, restarted, has_data, changed, used, stream_of, numbered_for, queued, with_added, may_send, with_threshold, with_priority};
+    ghost use Rattle.dcsctp_api.specs.spec.queues.Transfer.{is_none_ready};
+    ghost use Rattle.dcsctp_api.specs.types.Setting.{stream_priority, stream_low_threshold};
+    ghost use Rattle.dcsctp_api.specs.spec.endpoint.SettingOutcomes.{set_in_queue};
     ghost use Rattle.dcsctp_send_streams.specs.Telling.{contents, TellsFront};
-    ghost use Rattle.dcsctp_machine.specs.transfer.SendStreams.{paused, committed, rolled_back};
+    ghost use Rattle.dcsctp_api.specs.types.queues.SendStreams.{paused, committed, rolled_back};
     ghost use Rattle.dcsctp_send_queue.specs.Calls.{StopsTaking, StopsDiscarding};
-    ghost use Rattle.dcsctp_machine.specs.transfer.Sending.{TakesNext, DiscardsNamed};
+    ghost use Rattle.dcsctp_api.specs.spec.queues.Sending.{TakesNext, DiscardsNamed};
     ghost use Rattle.dcsctp_send_queue.specs.Leaving.{DropsSome};
+    ghost use Rattle.dcsctp_send_queue.specs.Preparing.{TriesStream};
     ghost use Rattle.dcsctp_send_queue.specs.Resets.{IsUsedAtMost};
-    ghost use Rattle.dcsctp_machine.specs.Ids.{stream_numbers};
-    ghost use Rattle.dcsctp_machine.specs.transfer.Readiness.{queue_readiness};
-    ghost use Rattle.dcsctp_machine.specs.transfer.QueuedParts.{with_queue, queue_restored};
-    ghost use Rattle.dcsctp_machine.specs.Snapshot.{send_part, is_valid_queued};
+    ghost use Rattle.dcsctp_api.specs.types.Ids.{stream_numbers};
+    ghost use Rattle.dcsctp_api.specs.spec.queues.Readiness.{queue_readiness};
+    ghost use Rattle.dcsctp_api.specs.spec.queues.QueuedParts.{with_queue, queue_restored};
+    ghost use Rattle.dcsctp_api.specs.types.Snapshot.{send_part, is_valid_queued};
 
     /// A queue with no messages, which numbers them as for no interleaving. Allocates nothing.
     pub fn new(alloc: Global, options: &Options) -> SendQueue
@@ -158,17 +166,16 @@ impl SendQueue {
         self.backlog.streams.begin_all_anew();
     }
 
-    /// Drops the messages of the stream that haven't been started, and pauses it until it was reset, or until
-    /// that failed. A stream that is paused is unchanged, with its messages.
+    /// Drops the messages of the stream that haven't been started, and reports it. The stream is paused: it
+    /// starts no other until it was reset, or until that failed. One that is paused is unchanged, with its
+    /// messages. `Err`: an allocation failed; the first of its events may already have been added.
     pub fn prepare_reset_stream(
         &mut self,
         events: &mut Events,
         stream_id: StreamId,
     ) -> Result<(), AllocError>
-        ensures ok { OnOk result (self.new ≡ prepared stream_id.0 self.old) }
-        ensures told { OnOk result (contents events.new ≡ contents events.old ++ prepare_events stream_id.0 self.old) }
+        ensures tries { TriesStream stream_id.0 self.old (contents events.old) result self.new (contents events.new) }
         ensures err { OnErr result (IsUsedAtMost stream_id.0 self.old self.new) }
-        ensures front { OnErr result (TellsFront (contents events.old) (prepare_events stream_id.0 self.old) (contents events.new)) }
     {
         self.backlog.prepare(events, stream_id)
     }

@@ -3,20 +3,20 @@ use Rattle.std.proofs.Common.{Option, ◌≡◌, ◌∙◌, ◌⊎◌, inl, inr,
 use Rattle.std.specs.List.{sum_by, slice_get}
 use Rattle.std.proofs.lemmas.List.Sums.{sum_by-cons}
 use Rattle.std.proofs.lemmas.Bool.Decides.{nat_tests}
-use Rattle.dcsctp_wire.specs.declared.chunk.sack.GapAckBlock.{GapAckBlock}
-use Rattle.dcsctp_machine.specs.transfer.Items.{Item, counted, never_acknowledged_count, never_acknowledged_items, changed_item, changed_between, marked_items}
-use Rattle.dcsctp_machine.specs.declared.progress.ItemState.{ItemState}
-use Rattle.dcsctp_machine.specs.declared.progress.ItemState.TheVariants.{InFlight, Marked, Acknowledged, Abandoned}
-use Rattle.dcsctp_machine.specs.declared.progress.Progress.{Progress}
-use Rattle.dcsctp_machine.specs.declared.progress.Change.{Change}
-use Rattle.dcsctp_machine.specs.declared.progress.Change.TheVariants.{Miss, Acknowledge}
-use Rattle.dcsctp_machine.specs.transfer.Progress.{tells_of, missed, missed_where, acknowledged}
+use Rattle.dcsctp_api.specs.wire.declared.chunk.sack.GapAckBlock.{GapAckBlock}
+use Rattle.dcsctp_api.specs.spec.queues.Items.{Item, counted, never_acknowledged_count, never_acknowledged_items, changed_item, changed_between, marked_items}
+use Rattle.dcsctp_api.specs.types.declared.progress.ItemState.{ItemState}
+use Rattle.dcsctp_api.specs.types.declared.progress.ItemState.TheVariants.{InFlight, Marked, Acknowledged, Abandoned}
+use Rattle.dcsctp_api.specs.types.declared.progress.Progress.{Progress}
+use Rattle.dcsctp_api.specs.types.declared.progress.Change.{Change}
+use Rattle.dcsctp_api.specs.types.declared.progress.Change.TheVariants.{Miss, Acknowledge}
+use Rattle.dcsctp_api.specs.types.queues.Progress.{tells_of, missed, missed_where, acknowledged}
 use Rattle.std.specs.Option.{option_map}
-use Rattle.dcsctp_machine.specs.transfer.Outstanding.{reported, acknowledged_by, tsn_at}
-use Rattle.dcsctp_machine.specs.transfer.Reports.{Names}
+use Rattle.dcsctp_api.specs.spec.queues.Outstanding.{reported, acknowledged_by, tsn_at}
+use Rattle.dcsctp_api.specs.spec.queues.Reports.{Names}
 use Rattle.dcsctp_send_outstanding.proofs.ItemsLemmas.{le_or_lt}
-use Rattle.dcsctp_machine.specs.transfer.Retransmission.{RetransmissionState, with_items}
-use Rattle.dcsctp_machine.specs.transfer.Acknowledging.{covered, lossy, missed_until, exiting, has_acknowledged, AcknowledgesItems}
+use Rattle.dcsctp_api.specs.spec.queues.Retransmission.{RetransmissionState, with_items}
+use Rattle.dcsctp_api.specs.spec.queues.Acknowledging.{covered, lossy, missed_until, exiting, has_acknowledged, AcknowledgesItems}
 use Rattle.dcsctp_send_retransmission.specs.Answers.{Answers, SaysAnswer}
 
 -- ---- one item

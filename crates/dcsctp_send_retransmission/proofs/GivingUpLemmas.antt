@@ -3,22 +3,22 @@ use Rattle.std.proofs.Common.{◌≡◌, ◌∙◌, ◌⊎◌, inl, inr, Ok, Err
 use Rattle.std.specs.List.{slice_get}
 use Rattle.std.specs.declared.alloc.AllocError.{AllocError}
 use Rattle.std.proofs.lemmas.Option.{slice_get_within}
-use Rattle.dcsctp_machine.specs.transfer.Items.{Item, changed_item, changed_between}
-use Rattle.dcsctp_machine.specs.declared.progress.Progress.{Progress}
-use Rattle.dcsctp_machine.specs.declared.progress.ItemState.{ItemState}
-use Rattle.dcsctp_machine.specs.declared.progress.ItemState.TheVariants.{InFlight, Marked, Acknowledged, Abandoned}
-use Rattle.dcsctp_machine.specs.declared.progress.Change.TheVariants.{Abandon}
-use Rattle.dcsctp_machine.specs.transfer.Progress.{is_marked, is_unacknowledged}
+use Rattle.dcsctp_api.specs.spec.queues.Items.{Item, changed_item, changed_between}
+use Rattle.dcsctp_api.specs.types.declared.progress.Progress.{Progress}
+use Rattle.dcsctp_api.specs.types.declared.progress.ItemState.{ItemState}
+use Rattle.dcsctp_api.specs.types.declared.progress.ItemState.TheVariants.{InFlight, Marked, Acknowledged, Abandoned}
+use Rattle.dcsctp_api.specs.types.declared.progress.Change.TheVariants.{Abandon}
+use Rattle.dcsctp_api.specs.types.queues.Progress.{is_marked, is_unacknowledged}
 use Rattle.dcsctp_send_outstanding.specs.Outstanding.{MayAddEnd}
-use Rattle.dcsctp_machine.specs.transfer.Outstanding.{OutstandingState}
-use Rattle.dcsctp_machine.specs.transfer.ItemMessages.{EndsDropped}
+use Rattle.dcsctp_api.specs.spec.queues.Outstanding.{OutstandingState}
+use Rattle.dcsctp_api.specs.spec.queues.ItemMessages.{EndsDropped}
 use Rattle.dcsctp_send_outstanding.proofs.ItemsLemmas.{le_or_lt, slice_get_pushed}
 use Rattle.dcsctp_send_retransmission.specs.Queue.{MayGrow, GivesUp}
-use Rattle.dcsctp_machine.specs.transfer.Retransmission.{RetransmissionState}
-use Rattle.dcsctp_machine.specs.transfer.Filling.{Stage, Closes, GivesUpAt, Steps, none, more}
-use Rattle.dcsctp_machine.specs.transfer.NextItem.{is_due}
+use Rattle.dcsctp_api.specs.spec.queues.Retransmission.{RetransmissionState}
+use Rattle.dcsctp_api.specs.spec.queues.Filling.{Stage, Closes, GivesUpAt, Steps, none, more}
+use Rattle.dcsctp_api.specs.spec.queues.NextItem.{is_due}
 use Rattle.dcsctp_send_retransmission.specs.GivingUp.{StopsGivingUp, GivesUpIf}
-use Rattle.dcsctp_machine.specs.transfer.Abandoning.{NoneAwaitedBefore, NoneDue, GivesUpFirst}
+use Rattle.dcsctp_api.specs.spec.queues.Abandoning.{NoneAwaitedBefore, NoneDue, GivesUpFirst}
 use Rattle.dcsctp_send_retransmission.proofs.QueueLemmas.{gives_up_grows}
 
 -- ---- items that aren't awaited

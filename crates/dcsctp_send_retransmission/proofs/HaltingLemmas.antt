@@ -4,19 +4,19 @@ use Rattle.std.specs.List.{slice_get}
 use Rattle.std.specs.declared.alloc.Global.{Global}
 use Rattle.std.specs.declared.alloc.AllocError.{AllocError}
 use Rattle.std.proofs.lemmas.List.Sums.{sum_by-cons, sum_by_push}
-use Rattle.dcsctp_machine.specs.Timers.{TimerModel}
-use Rattle.dcsctp_machine.specs.transfer.SendQueue.{SendQueueState}
-use Rattle.dcsctp_machine.specs.transfer.Items.{Item, counted, marked_count, marked_items, changed_item, changed_between}
-use Rattle.dcsctp_machine.specs.declared.progress.ItemState.{ItemState}
-use Rattle.dcsctp_machine.specs.declared.progress.Progress.{Progress}
-use Rattle.dcsctp_machine.specs.declared.progress.Change.{Change}
-use Rattle.dcsctp_machine.specs.declared.progress.Change.TheVariants.{SendAgain, Abandon}
-use Rattle.dcsctp_machine.specs.transfer.Progress.{is_marked, changed}
+use Rattle.dcsctp_api.specs.spec.endpoint.Timers.{TimerModel}
+use Rattle.dcsctp_api.specs.spec.queues.SendQueue.{SendQueueState}
+use Rattle.dcsctp_api.specs.spec.queues.Items.{Item, counted, marked_count, marked_items, changed_item, changed_between}
+use Rattle.dcsctp_api.specs.types.declared.progress.ItemState.{ItemState}
+use Rattle.dcsctp_api.specs.types.declared.progress.Progress.{Progress}
+use Rattle.dcsctp_api.specs.types.declared.progress.Change.{Change}
+use Rattle.dcsctp_api.specs.types.declared.progress.Change.TheVariants.{SendAgain, Abandon}
+use Rattle.dcsctp_api.specs.types.queues.Progress.{is_marked, changed}
 use Rattle.dcsctp_send_outstanding.specs.Outstanding.{MayAddEnd}
-use Rattle.dcsctp_machine.specs.transfer.NextItem.{IsMarkedAt, IsNextMarked, FirstStays, is_due, WaitsForRoom, HaltsAgain, HaltsNew, Halts}
-use Rattle.dcsctp_machine.specs.transfer.Outstanding.{OutstandingState, next_tsn}
+use Rattle.dcsctp_api.specs.spec.queues.NextItem.{IsMarkedAt, IsNextMarked, FirstStays, is_due, WaitsForRoom, HaltsAgain, HaltsNew, Halts}
+use Rattle.dcsctp_api.specs.spec.queues.Outstanding.{OutstandingState, next_tsn}
 use Rattle.dcsctp_send_retransmission.specs.Queue.{GivesUp}
-use Rattle.dcsctp_machine.specs.transfer.Retransmission.{RetransmissionState, counted_again}
+use Rattle.dcsctp_api.specs.spec.queues.Retransmission.{RetransmissionState, counted_again}
 use Rattle.dcsctp_send_retransmission.specs.declared.packet.Packet.{Packet}
 use Rattle.dcsctp_send_retransmission.specs.Sending.{Filled, Fills, none as none_packed}
 use Rattle.dcsctp_send_retransmission.specs.Halting.{SendsAgain, GoesAgain, FillsUp}

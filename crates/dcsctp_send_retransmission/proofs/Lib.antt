@@ -1,3 +1,5 @@
+pub use Rattle.dcsctp_api.proofs.wire_lemmas as wire_lemmas
+pub use Rattle.dcsctp_api.proofs.spec_lemmas as spec_lemmas
 pub mod AnswerLemmas
 pub mod FreshLemmas
 pub mod GivingUpLemmas

@@ -2,18 +2,18 @@
 use Rattle.std.proofs.Common.{Option, ◌≡◌, inl, inr, length-append, zero, suc, [], ◌∷◌, ◌++◌, take, Some, append_assoc, ℕ, ◌+◌, ◌-◌, ◌<◌, ◌≤◌, drop, refl, Bool, true, false, List, length, nat_lt, if◌then◌else◌, ap, sym, ◌∙◌, arith}
 use Rattle.std.specs.List.{slice_get}
 use Rattle.std.proofs.lemmas.List.{append-nil}
-use Rattle.dcsctp_machine.specs.Event.{Event}
-use Rattle.dcsctp_machine.specs.transfer.Items.{Item, marked_items, changed_between}
+use Rattle.dcsctp_api.specs.spec.endpoint.Event.{Event}
+use Rattle.dcsctp_api.specs.spec.queues.Items.{Item, marked_items, changed_between}
 use Rattle.dcsctp_send_streams.specs.Telling.{TellsFront}
 use Rattle.std.proofs.Math.Seq.{take-add}
-use Rattle.dcsctp_machine.specs.transfer.Acknowledging.{ends_delivery, told_by, delivered, covered, lossy, missed_until, without_first, acknowledgement, grown_by, acknowledged_until}
-use Rattle.dcsctp_wire.specs.declared.chunk.sack.GapAckBlock.{GapAckBlock}
-use Rattle.dcsctp_machine.specs.declared.congestion.Acknowledged.{Acknowledged}
-use Rattle.dcsctp_machine.specs.declared.progress.Change.TheVariants.{Miss, Abandon}
+use Rattle.dcsctp_api.specs.spec.queues.Acknowledging.{ends_delivery, told_by, delivered, covered, lossy, missed_until, without_first, acknowledgement, grown_by, acknowledged_until}
+use Rattle.dcsctp_api.specs.wire.declared.chunk.sack.GapAckBlock.{GapAckBlock}
+use Rattle.dcsctp_api.specs.types.declared.congestion.Acknowledged.{Acknowledged}
+use Rattle.dcsctp_api.specs.types.declared.progress.Change.TheVariants.{Miss, Abandon}
 use Rattle.dcsctp_send_retransmission.specs.Queue.{GivesUp}
-use Rattle.dcsctp_machine.specs.transfer.Retransmission.{RetransmissionState, with_items}
+use Rattle.dcsctp_api.specs.spec.queues.Retransmission.{RetransmissionState, with_items}
 use Rattle.dcsctp_send_outstanding.specs.Outstanding.{MayAddEnd}
-use Rattle.dcsctp_machine.specs.transfer.Outstanding.{OutstandingState}
+use Rattle.dcsctp_api.specs.spec.queues.Outstanding.{OutstandingState}
 use Rattle.dcsctp_send_outstanding.proofs.ItemsLemmas.{length-changed_between}
 
 -- misses leave the items in number

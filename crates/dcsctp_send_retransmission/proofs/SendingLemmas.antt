@@ -1,15 +1,15 @@
 -- Lemmas on what stays of the items while packets are filled.
 use Rattle.std.proofs.Common.{◌≡◌, ◌-◌, ◌*◌, ◌/◌, min, Bool, true, false, nat_lt, if◌then◌else◌, IfSome, subst, ℕ, zero, suc, ◌+◌, ◌%◌, ◌^◌, ◌<◌, ◌≤◌, Option, Some, List, [], ◌∷◌, ◌++◌, length, refl, ap, sym, ◌∙◌, inl, inr, arith}
 use Rattle.std.specs.List.{slice_get}
-use Rattle.dcsctp_machine.specs.transfer.Sending.{Fragment}
-use Rattle.dcsctp_machine.specs.transfer.Items.{Item, chunk_size, size_of, changed_item, changed_between}
+use Rattle.dcsctp_api.specs.spec.queues.Sending.{Fragment}
+use Rattle.dcsctp_api.specs.spec.queues.Items.{Item, chunk_size, size_of, changed_item, changed_between}
 use Rattle.dcsctp_send_retransmission.specs.declared.packet.Packet.{Packet}
-use Rattle.dcsctp_machine.specs.declared.progress.Change.{Change}
-use Rattle.dcsctp_machine.specs.declared.progress.Change.TheVariants.{Abandon}
+use Rattle.dcsctp_api.specs.types.declared.progress.Change.{Change}
+use Rattle.dcsctp_api.specs.types.declared.progress.Change.TheVariants.{Abandon}
 use Rattle.dcsctp_send_outstanding.specs.Outstanding.{MayAddEnd, SendsNext}
-use Rattle.dcsctp_machine.specs.transfer.Outstanding.{OutstandingState, header}
+use Rattle.dcsctp_api.specs.spec.queues.Outstanding.{OutstandingState, header}
 use Rattle.dcsctp_send_retransmission.specs.Queue.{MayGrow, GivesUp}
-use Rattle.dcsctp_machine.specs.transfer.Retransmission.{RetransmissionState, with_items, counted_again}
+use Rattle.dcsctp_api.specs.spec.queues.Retransmission.{RetransmissionState, with_items, counted_again}
 use Rattle.dcsctp_send_retransmission.specs.Sending.{KeepsFragments, Keeps, Packed, none, more, Filled, Fills, HandsOut}
 
 pub fragments_refl : (items : List Item) → KeepsFragments items items

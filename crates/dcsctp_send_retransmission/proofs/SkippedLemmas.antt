@@ -4,10 +4,10 @@ use Rattle.std.specs.List.{slice_get, flat_map}
 use Rattle.std.specs.Int.{w16, w32, to_be_bytes, from_be_bytes}
 use Rattle.std.proofs.Math.Seq.{drop-append-add}
 use Rattle.std.proofs.lemmas.Nat.{from_be_bytes-to_be_bytes_2, from_be_bytes-to_be_bytes_4}
-use Rattle.dcsctp_wire.specs.Fields.{u16_at, u32_at, lowest_bit, skipped_stream_at, skipped_messages_at}
-use Rattle.dcsctp_wire.specs.Spelling.{t_bit}
-use Rattle.dcsctp_wire.specs.declared.chunk.forward_tsn.SkippedStream.{SkippedStream}
-use Rattle.dcsctp_wire.specs.declared.chunk.forward_tsn.SkippedMessages.{SkippedMessages}
+use Rattle.dcsctp_api.specs.wire.Fields.{u16_at, u32_at, lowest_bit, skipped_stream_at, skipped_messages_at}
+use Rattle.dcsctp_api.specs.wire.Spelling.{t_bit}
+use Rattle.dcsctp_api.specs.wire.declared.chunk.forward_tsn.SkippedStream.{SkippedStream}
+use Rattle.dcsctp_api.specs.wire.declared.chunk.forward_tsn.SkippedMessages.{SkippedMessages}
 use Rattle.dcsctp_send_retransmission.specs.SkippedBytes.{stream_bytes, messages_bytes, skipped_bytes, FitsStream, FitsMessages, ReadsAs}
 use Rattle.dcsctp_send_retransmission.specs.declared.forward_tsn.Skipped.{Skipped}
 use Rattle.dcsctp_send_retransmission.specs.declared.forward_tsn.Skipped.TheVariants.{Streams, Messages}

@@ -9,14 +9,14 @@ use Rattle.std.specs.Ordering.{is_eq, nat_cmp, bool_cmp, ordering_then}
 use Rattle.std.proofs.lemmas.Map.Keys.{sorted_head, sorted_tail}
 use Rattle.std.specs.declared.alloc.Global.{Global}
 use Rattle.std.proofs.lemmas.List.{length-map}
-use Rattle.dcsctp_wire.specs.declared.chunk.forward_tsn.SkippedStream.{SkippedStream}
-use Rattle.dcsctp_wire.specs.declared.chunk.forward_tsn.SkippedMessages.{SkippedMessages}
+use Rattle.dcsctp_api.specs.wire.declared.chunk.forward_tsn.SkippedStream.{SkippedStream}
+use Rattle.dcsctp_api.specs.wire.declared.chunk.forward_tsn.SkippedMessages.{SkippedMessages}
 use Rattle.dcsctp_send_retransmission.specs.declared.forward_tsn.Skipped.TheVariants.{Streams, Messages}
-use Rattle.dcsctp_machine.specs.transfer.Items.{Item}
+use Rattle.dcsctp_api.specs.spec.queues.Items.{Item}
 use Rattle.dcsctp_send_retransmission.specs.declared.retransmission_queue.forwarding.LastNumbers.{LastNumbers}
-use Rattle.dcsctp_machine.specs.transfer.Retransmission.{RetransmissionState}
+use Rattle.dcsctp_api.specs.spec.queues.Retransmission.{RetransmissionState}
 use Rattle.dcsctp_send_retransmission.specs.Forwarding.{stream_entry, messages_entry, Says}
-use Rattle.dcsctp_machine.specs.transfer.Skipping.{IsRow, goes_on, is_same, is_listed, last_on, last_listed, entry_for, NoneTwice, number_of, ListsEntries, LacksRoom}
+use Rattle.dcsctp_api.specs.spec.queues.Skipping.{IsRow, goes_on, is_same, is_listed, last_on, last_listed, entry_for, NoneTwice, number_of, ListsEntries, LacksRoom}
 use Rattle.dcsctp_send_retransmission.specs.Skipping.{numbers_of, ssn_entry, mid_entry, limit_of, Collects, Skips}
 
 -- the order of a map's keys

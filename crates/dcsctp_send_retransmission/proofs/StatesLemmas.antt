@@ -3,23 +3,23 @@ use Rattle.std.proofs.Common.{◌≡◌, ◌⊎◌, ◌∙◌, ◌+◌, ◌-◌,
 use Rattle.std.specs.List.{slice_get}
 use Rattle.std.specs.declared.alloc.AllocError.{AllocError}
 use Rattle.dcsctp_api.specs.declared.events.SocketEvent.{SocketEvent}
-use Rattle.dcsctp_machine.specs.transfer.SendQueue.{SendQueueState}
-use Rattle.dcsctp_machine.specs.transfer.Sending.{Takes}
+use Rattle.dcsctp_api.specs.spec.queues.SendQueue.{SendQueueState}
+use Rattle.dcsctp_api.specs.spec.queues.Sending.{Takes}
 use Rattle.dcsctp_send_queue.specs.Calls.{StopsDiscarding}
-use Rattle.dcsctp_machine.specs.Event.{Event}
+use Rattle.dcsctp_api.specs.spec.endpoint.Event.{Event}
 use Rattle.dcsctp_send_streams.specs.Telling.{contents}
-use Rattle.dcsctp_machine.specs.transfer.Items.{Item, size_of, marked_items, changed_between}
+use Rattle.dcsctp_api.specs.spec.queues.Items.{Item, size_of, marked_items, changed_between}
 use Rattle.dcsctp_send_retransmission.specs.declared.packet.Packet.{Packet}
-use Rattle.dcsctp_machine.specs.declared.progress.Change.{Change}
-use Rattle.dcsctp_machine.specs.declared.progress.Change.TheVariants.{SendAgain}
-use Rattle.dcsctp_machine.specs.transfer.Progress.{is_marked}
-use Rattle.dcsctp_machine.specs.transfer.Outstanding.{OutstandingState, header}
-use Rattle.dcsctp_machine.specs.transfer.NextItem.{IsNextMarked, is_due}
-use Rattle.dcsctp_machine.specs.transfer.Retransmission.{RetransmissionState, can_send}
+use Rattle.dcsctp_api.specs.types.declared.progress.Change.{Change}
+use Rattle.dcsctp_api.specs.types.declared.progress.Change.TheVariants.{SendAgain}
+use Rattle.dcsctp_api.specs.types.queues.Progress.{is_marked}
+use Rattle.dcsctp_api.specs.spec.queues.Outstanding.{OutstandingState, header}
+use Rattle.dcsctp_api.specs.spec.queues.NextItem.{IsNextMarked, is_due}
+use Rattle.dcsctp_api.specs.spec.queues.Retransmission.{RetransmissionState, can_send}
 use Rattle.dcsctp_send_retransmission.proofs.SendingLemmas.{last_pushed, with_outstanding}
 use Rattle.dcsctp_send_retransmission.specs.States.{stage, RefusesClosing, GoesFilling, StopsFilling, Stops, Goes, SendsAt}
-use Rattle.dcsctp_machine.specs.transfer.Filling.{Stage, DropsRestAt, Closes, payload_room, SendsNew, StepAgain, MayAdd, StepNew, counting, Steps, none, more, SendsMarked}
-use Rattle.dcsctp_machine.specs.transfer.AtOnce.{SendsFirst, is_first_marked}
+use Rattle.dcsctp_api.specs.spec.queues.Filling.{Stage, DropsRestAt, Closes, payload_room, SendsNew, StepAgain, MayAdd, StepNew, counting, Steps, none, more, SendsMarked}
+use Rattle.dcsctp_api.specs.spec.queues.AtOnce.{SendsFirst, is_first_marked}
 use Rattle.dcsctp_send_outstanding.specs.Handing.{SendsItem}
 
 -- there is one item at a place

@@ -1,8 +1,8 @@
 -- Whether a SACK is an answer, which ends the count of errors (RFC 9260, section 8.1).
 use Rattle.std.specs.Prelude.{◌≡◌, ◌⊎◌, ℕ, ◌<◌, Bool, true, false, Some, List, slice_get}
-use Rattle.dcsctp_wire.specs.declared.chunk.sack.GapAckBlock.{GapAckBlock}
-use Rattle.dcsctp_machine.specs.transfer.Items.{Item}
-use Rattle.dcsctp_machine.specs.transfer.Reports.{Names}
+use Rattle.dcsctp_api.specs.wire.declared.chunk.sack.GapAckBlock.{GapAckBlock}
+use Rattle.dcsctp_api.specs.spec.queues.Items.{Item}
+use Rattle.dcsctp_api.specs.spec.queues.Reports.{Names}
 
 -- The SACK acknowledges the item at this place: the cumulative TSN passes it, which passes that many first items, or a block
 -- names it. No SACK has acknowledged it before. It may have been abandoned.

@@ -2,8 +2,8 @@
 use Rattle.std.specs.Prelude.{Result, Ok, Err, ◌≡◌, ℕ, Bool, true, false}
 use Rattle.std.specs.declared.alloc.AllocError.{AllocError}
 use Rattle.dcsctp_send_retransmission.specs.States.{RefusesUpAt}
-use Rattle.dcsctp_machine.specs.transfer.Filling.{Stage, GivesUpAt, Steps}
-use Rattle.dcsctp_machine.specs.transfer.Abandoning.{IsDueAt, NoneDue, GivesUpFirst}
+use Rattle.dcsctp_api.specs.spec.queues.Filling.{Stage, GivesUpAt, Steps}
+use Rattle.dcsctp_api.specs.spec.queues.Abandoning.{IsDueAt, NoneDue, GivesUpFirst}
 
 -- An allocation fails for abandoning the message of the item at this place. The first of its events are added, and nothing else
 -- has happened.

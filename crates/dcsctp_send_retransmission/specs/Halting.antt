@@ -1,11 +1,11 @@
 -- Why no more chunks go into a packet (RFC 9260, section 6.1).
 use Rattle.std.specs.Prelude.{◌≡◌, ℕ, ◌+◌, ◌<◌, ◌≤◌, Bool, true, false, Some, List, slice_get}
-use Rattle.dcsctp_machine.specs.transfer.SendQueue.{SendQueueState}
-use Rattle.dcsctp_machine.specs.transfer.Items.{Item, size_of, marked_items, changed_between}
-use Rattle.dcsctp_machine.specs.declared.progress.Change.TheVariants.{SendAgain}
-use Rattle.dcsctp_machine.specs.transfer.Outstanding.{OutstandingState, header, next_tsn}
-use Rattle.dcsctp_machine.specs.transfer.NextItem.{HaltsAgain, Halts}
-use Rattle.dcsctp_machine.specs.transfer.Retransmission.{RetransmissionState}
+use Rattle.dcsctp_api.specs.spec.queues.SendQueue.{SendQueueState}
+use Rattle.dcsctp_api.specs.spec.queues.Items.{Item, size_of, marked_items, changed_between}
+use Rattle.dcsctp_api.specs.types.declared.progress.Change.TheVariants.{SendAgain}
+use Rattle.dcsctp_api.specs.spec.queues.Outstanding.{OutstandingState, header, next_tsn}
+use Rattle.dcsctp_api.specs.spec.queues.NextItem.{HaltsAgain, Halts}
+use Rattle.dcsctp_api.specs.spec.queues.Retransmission.{RetransmissionState}
 use Rattle.dcsctp_send_retransmission.specs.Sending.{PackedFrom}
 
 -- what a try to send the item at the place again does, by whether it fits

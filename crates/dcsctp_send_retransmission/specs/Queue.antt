@@ -3,15 +3,15 @@ use Rattle.std.specs.Prelude.{◌≡◌, ℕ, Result, Ok, Err, ◌<◌, ◌≤�
 use Rattle.std.specs.Option.{option_map}
 use Rattle.std.specs.Duration.{as_nanos}
 use Rattle.std.specs.declared.alloc.AllocError.{AllocError}
-use Rattle.dcsctp_wire.specs.declared.chunk.sack.GapAckBlock.{GapAckBlock}
-use Rattle.dcsctp_machine.specs.declared.progress.Change.TheVariants.{Abandon}
-use Rattle.dcsctp_machine.specs.Event.{Event}
-use Rattle.dcsctp_machine.specs.Timers.{expires_at}
-use Rattle.dcsctp_machine.specs.transfer.Acknowledging.{AcknowledgesItems, has_acknowledged, delivered_by}
-use Rattle.dcsctp_machine.specs.transfer.Items.{changed_between}
-use Rattle.dcsctp_machine.specs.transfer.Outstanding.{acknowledged_by}
-use Rattle.dcsctp_machine.specs.transfer.Retransmission.{RetransmissionState, after_expiry, with_items}
-use Rattle.dcsctp_machine.specs.transfer.RoundTrip.{MeasuresRoundTrip}
+use Rattle.dcsctp_api.specs.wire.declared.chunk.sack.GapAckBlock.{GapAckBlock}
+use Rattle.dcsctp_api.specs.types.declared.progress.Change.TheVariants.{Abandon}
+use Rattle.dcsctp_api.specs.spec.endpoint.Event.{Event}
+use Rattle.dcsctp_api.specs.spec.endpoint.Timers.{expires_at}
+use Rattle.dcsctp_api.specs.spec.queues.Acknowledging.{AcknowledgesItems, has_acknowledged, delivered_by}
+use Rattle.dcsctp_api.specs.spec.queues.Items.{changed_between}
+use Rattle.dcsctp_api.specs.spec.queues.Outstanding.{acknowledged_by}
+use Rattle.dcsctp_api.specs.spec.queues.Retransmission.{RetransmissionState, after_expiry, with_items}
+use Rattle.dcsctp_api.specs.spec.queues.RoundTrip.{MeasuresRoundTrip}
 use Rattle.dcsctp_send_streams.specs.Telling.{TellsFront}
 use Rattle.dcsctp_send_outstanding.specs.Outstanding.{MayAddEnd}
 use Rattle.dcsctp_send_retransmission.specs.declared.handle_sack_result.HandleSackResult.{HandleSackResult}

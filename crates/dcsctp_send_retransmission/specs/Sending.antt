@@ -1,10 +1,10 @@
 -- What goes into a packet, and what stays of the items that were accepted before (RFC 9260, section 6.1).
 use Rattle.std.specs.Prelude.{◌≡◌, ℕ, ◌+◌, ◌%◌, ◌^◌, ◌≤◌, Some, List, [], ◌∷◌, ◌++◌, slice_get}
-use Rattle.dcsctp_machine.specs.transfer.Sending.{Fragment}
-use Rattle.dcsctp_machine.specs.transfer.Items.{Item, size_of}
+use Rattle.dcsctp_api.specs.spec.queues.Sending.{Fragment}
+use Rattle.dcsctp_api.specs.spec.queues.Items.{Item, size_of}
 use Rattle.dcsctp_send_retransmission.specs.declared.packet.Packet.{Packet}
-use Rattle.dcsctp_machine.specs.transfer.Outstanding.{OutstandingState, header}
-use Rattle.dcsctp_machine.specs.transfer.Retransmission.{RetransmissionState, timer_with}
+use Rattle.dcsctp_api.specs.spec.queues.Outstanding.{OutstandingState, header}
+use Rattle.dcsctp_api.specs.spec.queues.Retransmission.{RetransmissionState, timer_with}
 
 -- the item at this place carries the fragment
 pub record HasFragment (place : ℕ) (fragment : Fragment) (items : List Item) : Type 0 where

@@ -2,10 +2,10 @@
 use Rattle.std.specs.Prelude.{◌≡◌, ℕ, ◌*◌, ◌^◌, ◌<◌, Some, List, ◌++◌, length, slice_get}
 use Rattle.std.specs.List.{flat_map}
 use Rattle.std.specs.Int.{w16, w32, to_be_bytes}
-use Rattle.dcsctp_wire.specs.Fields.{skipped_stream_at, skipped_messages_at}
-use Rattle.dcsctp_wire.specs.Spelling.{t_bit}
-use Rattle.dcsctp_wire.specs.declared.chunk.forward_tsn.SkippedStream.{SkippedStream}
-use Rattle.dcsctp_wire.specs.declared.chunk.forward_tsn.SkippedMessages.{SkippedMessages}
+use Rattle.dcsctp_api.specs.wire.Fields.{skipped_stream_at, skipped_messages_at}
+use Rattle.dcsctp_api.specs.wire.Spelling.{t_bit}
+use Rattle.dcsctp_api.specs.wire.declared.chunk.forward_tsn.SkippedStream.{SkippedStream}
+use Rattle.dcsctp_api.specs.wire.declared.chunk.forward_tsn.SkippedMessages.{SkippedMessages}
 use Rattle.dcsctp_send_retransmission.specs.declared.forward_tsn.Skipped.{Skipped}
 use Rattle.dcsctp_send_retransmission.specs.declared.forward_tsn.Skipped.TheVariants.{Streams, Messages}
 

@@ -1,10 +1,10 @@
 -- How the entries of a FORWARD-TSN are collected, item by item.
 use Rattle.std.specs.Prelude.{◌≡◌, ℕ, ◌+◌, ◌≤◌, Bool, true, false, Some, List, length, take, slice_get}
 use Rattle.std.specs.Option.{option_map}
-use Rattle.dcsctp_machine.specs.transfer.Items.{Item}
+use Rattle.dcsctp_api.specs.spec.queues.Items.{Item}
 use Rattle.dcsctp_send_retransmission.specs.declared.retransmission_queue.forwarding.LastNumbers.{LastNumbers}
-use Rattle.dcsctp_machine.specs.transfer.Retransmission.{RetransmissionState}
-use Rattle.dcsctp_machine.specs.transfer.Skipping.{entry_limit, last_listed, entry_for, LacksRoom, IsRow}
+use Rattle.dcsctp_api.specs.spec.queues.Retransmission.{RetransmissionState}
+use Rattle.dcsctp_api.specs.spec.queues.Skipping.{entry_limit, last_listed, entry_for, LacksRoom, IsRow}
 
 -- the numbers of an item's message
 abbrev pub numbers_of : Item → LastNumbers

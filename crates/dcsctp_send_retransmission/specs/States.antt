@@ -4,19 +4,19 @@ use Rattle.std.specs.Prelude.{Result, Ok, Err, Vec, ◌≡◌, ◌⊎◌, ◌+�
 use Rattle.std.specs.declared.alloc.AllocError.{AllocError}
 use Rattle.std.specs.declared.alloc.Global.{Global}
 use Rattle.dcsctp_api.specs.declared.events.SocketEvent.{SocketEvent}
-use Rattle.dcsctp_machine.specs.Event.{Event}
-use Rattle.dcsctp_machine.specs.transfer.SendQueue.{SendQueueState}
+use Rattle.dcsctp_api.specs.spec.endpoint.Event.{Event}
+use Rattle.dcsctp_api.specs.spec.queues.SendQueue.{SendQueueState}
 use Rattle.dcsctp_send_queue.specs.Calls.{StopsTaking, StopsDiscarding}
 use Rattle.dcsctp_send_streams.specs.Telling.{contents, TellsFront}
-use Rattle.dcsctp_machine.specs.transfer.Items.{Item, size_of, changed_between}
+use Rattle.dcsctp_api.specs.spec.queues.Items.{Item, size_of, changed_between}
 use Rattle.dcsctp_send_retransmission.specs.declared.packet.Packet.{Packet}
-use Rattle.dcsctp_machine.specs.declared.progress.Change.TheVariants.{SendAgain}
-use Rattle.dcsctp_machine.specs.transfer.Outstanding.{header, tsn_at, next_tsn}
-use Rattle.dcsctp_machine.specs.transfer.Filling.{Stage, maybe_expired, payload_room, SendsMarked, StepAgain, MayAdd, StepNew, Steps, counting, FillsStage}
-use Rattle.dcsctp_machine.specs.transfer.NextItem.{is_due, IsNextMarked}
-use Rattle.dcsctp_machine.specs.transfer.ItemMessages.{EndsMessage}
-use Rattle.dcsctp_machine.specs.transfer.Retransmission.{RetransmissionState, with_items, timer_with}
-use Rattle.dcsctp_machine.specs.transfer.AtOnce.{SendsAtOnce}
+use Rattle.dcsctp_api.specs.types.declared.progress.Change.TheVariants.{SendAgain}
+use Rattle.dcsctp_api.specs.spec.queues.Outstanding.{header, tsn_at, next_tsn}
+use Rattle.dcsctp_api.specs.spec.queues.Filling.{Stage, maybe_expired, payload_room, SendsMarked, StepAgain, MayAdd, StepNew, Steps, counting, FillsStage}
+use Rattle.dcsctp_api.specs.spec.queues.NextItem.{is_due, IsNextMarked}
+use Rattle.dcsctp_api.specs.spec.queues.ItemMessages.{EndsMessage}
+use Rattle.dcsctp_api.specs.spec.queues.Retransmission.{RetransmissionState, with_items, timer_with}
+use Rattle.dcsctp_api.specs.spec.queues.AtOnce.{SendsAtOnce}
 
 -- what a packet begins with, as it lies in memory
 abbrev pub stage : RetransmissionState → SendQueueState → List SocketEvent → List ℕ → ℕ → Stage

@@ -4,7 +4,7 @@ ghost use Rattle.std.specs.Prelude.{◌≡◌, IfOk};
 ghost use Rattle.std.specs.List.{flat_map};
 ghost use Rattle.dcsctp_send_retransmission.specs.SkippedBytes.{stream_bytes, messages_bytes};
 
-use dcsctp_wire::{SkippedMessages, SkippedStream};
+use dcsctp_api::wire::{SkippedMessages, SkippedStream};
 use std::alloc::{AllocError, Global};
 
 /// The streams on which messages are skipped.

@@ -6,8 +6,14 @@ mod handle_sack_result;
 mod packet;
 mod retransmission_queue;
 
-pub use dcsctp_machine::{Acknowledged, CongestionControl};
+pub use dcsctp_api::types::{Acknowledged, CongestionControl};
 pub use forward_tsn::{ForwardTsn, Skipped};
 pub use handle_sack_result::HandleSackResult;
 pub use packet::Packet;
 pub use retransmission_queue::RetransmissionQueue;
+
+// What stands below, for the crates above.
+pub use dcsctp_api as api;
+pub use dcsctp_api::{types, wire};
+pub use dcsctp_send_queue as send_queue;
+pub use dcsctp_send_timer as send_timer;

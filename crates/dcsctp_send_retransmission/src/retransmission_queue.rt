@@ -11,7 +11,7 @@ mod resending;
 mod sending;
 
 use dcsctp_api::SocketTime;
-use dcsctp_machine::{BackoffAlgorithm, Change, CongestionControl, HandoverReadiness, Options};
+use dcsctp_api::types::{BackoffAlgorithm, Change, CongestionControl, HandoverReadiness, Options};
 use dcsctp_send_outstanding::Outstanding;
 use dcsctp_send_queue::DataToSend;
 use dcsctp_send_timer::Timer;
@@ -46,7 +46,7 @@ pub struct RetransmissionQueue {
 }
 
 impl Model for RetransmissionQueue {
-    ghost use Rattle.dcsctp_machine.specs.transfer.Retransmission.{RetransmissionState};
+    ghost use Rattle.dcsctp_api.specs.spec.queues.Retransmission.{RetransmissionState};
 
     ghost Value = { RetransmissionState };
 
@@ -67,13 +67,13 @@ impl RetransmissionQueue {
     ghost use Rattle.std.specs.Prelude.{true, ◌&&◌, IfNone, ◌+◌, ◌-◌, ◌/◌, ◌%◌, ◌^◌, ◌<◌, ◌≤◌, IfSome, length};
     ghost use Rattle.std.specs.List.{AllByRecursion};
     ghost use Rattle.std.specs.Duration.{as_nanos};
-    ghost use Rattle.dcsctp_machine.specs.Soundness.{HasBytes};
-    ghost use Rattle.dcsctp_machine.specs.transfer.Retransmission.{new_retransmission, outstanding_count, window_left, retransmission_deadline, can_send, timer_with, with_duration, with_reset_begun, counted_again};
-    ghost use Rattle.dcsctp_machine.specs.Timers.{expires_at};
-    ghost use Rattle.dcsctp_machine.specs.transfer.Readiness.{retransmission_readiness};
-    ghost use Rattle.dcsctp_machine.specs.transfer.Items.{unacknowledged_items, marked_items};
+    ghost use Rattle.dcsctp_api.specs.spec.Soundness.{HasBytes};
+    ghost use Rattle.dcsctp_api.specs.spec.queues.Retransmission.{new_retransmission, outstanding_count, window_left, retransmission_deadline, can_send, timer_with, with_duration, with_reset_begun, counted_again};
+    ghost use Rattle.dcsctp_api.specs.spec.endpoint.Timers.{expires_at};
+    ghost use Rattle.dcsctp_api.specs.spec.queues.Readiness.{retransmission_readiness};
+    ghost use Rattle.dcsctp_api.specs.spec.queues.Items.{unacknowledged_items, marked_items};
     ghost use Rattle.dcsctp_send_outstanding.specs.Outstanding.{FindsPlaces};
-    ghost use Rattle.dcsctp_machine.specs.transfer.Outstanding.{next_tsn, distance_to};
+    ghost use Rattle.dcsctp_api.specs.spec.queues.Outstanding.{next_tsn, distance_to};
     ghost use Rattle.dcsctp_send_retransmission.specs.Queue.{queue_at};
     ghost use Rattle.dcsctp_send_retransmission.specs.Sending.{HasFragment};
 

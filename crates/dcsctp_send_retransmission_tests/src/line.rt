@@ -2,12 +2,14 @@
 
 mod snapshot;
 
-use dcsctp_api::{Events, LifecycleId, Message, PpId, SendOptions, SocketTime, StreamId};
-use dcsctp_machine::{Options, SocketHandoverState};
-use dcsctp_send_queue::{DataToSend, SendQueue};
+use dcsctp_send_retransmission::api::{
+    Events, LifecycleId, Message, PpId, SendOptions, SocketTime, StreamId,
+};
+use dcsctp_send_retransmission::send_queue::{DataToSend, SendQueue};
+use dcsctp_send_retransmission::types::{Options, SocketHandoverState};
+use dcsctp_send_retransmission::wire::GapAckBlock;
 use dcsctp_send_retransmission::{HandleSackResult, RetransmissionQueue};
 use dcsctp_testing::{Row, Takes};
-use dcsctp_wire::GapAckBlock;
 use std::alloc::Global;
 use std::time::Duration;
 

@@ -1,7 +1,7 @@
 //! The retransmission timeout, sample by sample.
 
-use dcsctp_machine::Options;
-use dcsctp_send_timer::RetransmissionTimeout;
+use dcsctp_send_retransmission::send_timer::RetransmissionTimeout;
+use dcsctp_send_retransmission::types::Options;
 use std::process::Abort;
 use std::time::Duration;
 

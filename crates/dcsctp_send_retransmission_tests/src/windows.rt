@@ -1,8 +1,8 @@
 //! The congestion window and the peer's, number by number.
 
 use crate::script::run;
-use dcsctp_machine::Options;
 use dcsctp_send_retransmission::RetransmissionQueue;
+use dcsctp_send_retransmission::types::Options;
 use std::alloc::Global;
 use std::process::Abort;
 

@@ -1,8 +1,8 @@
 -- Each message of each stream has bytes, where one stream changes.
 use Rattle.std.proofs.Common.{◌≡◌, ℕ, zero, suc, ◌<◌, ◌≤◌, List, [], ◌∷◌, length, get_or, set, subst, sym, arith}
 use Rattle.std.specs.List.{insert, AllByRecursion}
-use Rattle.dcsctp_machine.specs.transfer.SendStreams.{Waiting, Stream}
-use Rattle.dcsctp_machine.specs.transfer.SendQueue.{HaveBytes}
+use Rattle.dcsctp_api.specs.types.queues.SendStreams.{Waiting, Stream}
+use Rattle.dcsctp_api.specs.spec.queues.SendQueue.{HaveBytes}
 
 -- a stream is put in the place of another
 pub bytes_set : (streams : List Stream) (p : ℕ) (s : Stream) → AllByRecursion HaveBytes streams → HaveBytes s → AllByRecursion HaveBytes (set streams p s)

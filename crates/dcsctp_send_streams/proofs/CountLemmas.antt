@@ -2,7 +2,7 @@
 use Rattle.std.proofs.Common.{◌≡◌, ℕ, zero, suc, ◌+◌, ◌-◌, ◌^◌, ◌<◌, ◌≤◌, min, Bool, if◌then◌else◌, List, [], ◌∷◌, length, get_or, set, sym, ap, subst, ◌∙◌, arith}
 use Rattle.std.specs.List.{insert}
 use Rattle.std.proofs.lemmas.List.Sums.{sum_by-cons, sum_by-set, get_or-le-sum_by, count_by-le-length}
-use Rattle.dcsctp_machine.specs.transfer.SendStreams.{Stream, is_pausing}
+use Rattle.dcsctp_api.specs.types.queues.SendStreams.{Stream, is_pausing}
 use Rattle.dcsctp_send_streams.specs.Ranking.{count_pausing}
 use Rattle.dcsctp_send_streams.proofs.StreamLemmas.{length-set_at}
 use Rattle.dcsctp_send_streams.proofs.PlaceLemmas.{length-insert_at}

@@ -1,6 +1,6 @@
 -- Streams that are changed one after another.
 use Rattle.std.proofs.Common.{◌≡◌, ℕ, zero, suc, ◌+◌, ◌<◌, ◌≤◌, List, [], ◌∷◌, length, set, map, refl, ap, ◌∙◌, arith}
-use Rattle.dcsctp_machine.specs.transfer.SendStreams.{Stream, stream_at}
+use Rattle.dcsctp_api.specs.types.queues.SendStreams.{Stream, stream_at}
 
 -- so many of the streams are changed
 abbrev pub mapped_to : ℕ → (Stream → Stream) → List Stream → List Stream

@@ -3,10 +3,10 @@ use Rattle.std.proofs.Common.{◌≡◌, ◌==◌, ℕ, zero, suc, ◌-◌, ◌+
 use Rattle.std.specs.List.{list_any}
 use Rattle.std.specs.Prelude.{nat_lt, is_some}
 use borrow.Author.Tests.{ltb-true, ltb-false}
-use Rattle.dcsctp_machine.specs.declared.sending.Turn.{Turn}
-use Rattle.dcsctp_machine.specs.declared.sending.Pause.{Pause}
-use Rattle.dcsctp_machine.specs.declared.sending.Pause.TheVariants.{Open, Pausing, HandedOut}
-use Rattle.dcsctp_machine.specs.transfer.SendStreams.{comes_after, with_turn, with_turns, Stream, is_pausing, committed, rolled_back, stream_at, turn_of, turns_of, IsNext, IsAscending}
+use Rattle.dcsctp_api.specs.types.declared.sending.Turn.{Turn}
+use Rattle.dcsctp_api.specs.types.declared.sending.Pause.{Pause}
+use Rattle.dcsctp_api.specs.types.declared.sending.Pause.TheVariants.{Open, Pausing, HandedOut}
+use Rattle.dcsctp_api.specs.types.queues.SendStreams.{comes_after, with_turn, with_turns, Stream, is_pausing, committed, rolled_back, stream_at, turn_of, turns_of, IsNext, IsAscending}
 use Rattle.dcsctp_send_streams.specs.Turns.{NoneAfter, IsOrdered}
 use Rattle.dcsctp_send_streams.specs.Ranking.{IsRanked, IsFound}
 use Rattle.dcsctp_send_streams.proofs.TurnLemmas.{itself}

@@ -1,8 +1,8 @@
 -- Places of streams by number, and streams that are put in.
 use Rattle.std.proofs.Common.{◌≡◌, ℕ, zero, suc, below_more, ◌-◌, ◌+◌, ◌<◌, ◌≤◌, Option, Err, List, [], ◌∷◌, length, refl, sym, ap, ◌∙◌, arith}
 use Rattle.std.specs.List.{insert, remove}
-use Rattle.dcsctp_machine.specs.declared.sending.Turn.{Turn}
-use Rattle.dcsctp_machine.specs.transfer.SendStreams.{with_turns, Stream, stream_at, turn_of, turns_of, IsBelow, IsAscending}
+use Rattle.dcsctp_api.specs.types.declared.sending.Turn.{Turn}
+use Rattle.dcsctp_api.specs.types.queues.SendStreams.{with_turns, Stream, stream_at, turn_of, turns_of, IsBelow, IsAscending}
 use Rattle.dcsctp_send_streams.specs.Ranking.{IsRanked, IsFound}
 use Rattle.dcsctp_send_streams.proofs.StreamLemmas.{ascending_at, turns_of-split}
 

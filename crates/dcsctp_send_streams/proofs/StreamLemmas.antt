@@ -1,10 +1,10 @@
 -- Streams by number, and their turns.
 use Rattle.std.proofs.Common.{◌≡◌, ◌≢◌, ℕ, zero, suc, ◌+◌, ◌<◌, ◌≤◌, Bool, true, false, if◌then◌else◌, Option, None, Some, List, [], ◌∷◌, length, get_or, set, refl, sym, ap, ◌∙◌, arith}
 use Rattle.std.specs.List.{remove}
-use Rattle.dcsctp_machine.specs.declared.sending.Turn.{Turn}
-use Rattle.dcsctp_machine.specs.declared.sending.Pause.{Pause}
-use Rattle.dcsctp_machine.specs.declared.sending.Pause.TheVariants.{Open, Pausing, HandedOut}
-use Rattle.dcsctp_machine.specs.transfer.SendStreams.{comes_after, with_turn, with_turns, Waiting, Stream, is_pausing, counted, stream_at, turn_if, turn_of, turns_of, IsBelow, IsAscending}
+use Rattle.dcsctp_api.specs.types.declared.sending.Turn.{Turn}
+use Rattle.dcsctp_api.specs.types.declared.sending.Pause.{Pause}
+use Rattle.dcsctp_api.specs.types.declared.sending.Pause.TheVariants.{Open, Pausing, HandedOut}
+use Rattle.dcsctp_api.specs.types.queues.SendStreams.{comes_after, with_turn, with_turns, Waiting, Stream, is_pausing, counted, stream_at, turn_if, turn_of, turns_of, IsBelow, IsAscending}
 use Rattle.dcsctp_send_streams.specs.Turns.{IsOrdered, Holds}
 use Rattle.dcsctp_send_streams.specs.Ranking.{IsRanked}
 use Rattle.dcsctp_send_streams.proofs.TurnLemmas.{IsOrdered-with_turn, with_turn-with_turn}

@@ -2,8 +2,8 @@
 use Rattle.std.proofs.Common.{◌≡◌, ◌≢◌, ℕ, zero, suc, below_more, ◌-◌, ◌+◌, ◌<◌, ◌≤◌, Bool, true, false, if◌then◌else◌, List, [], ◌∷◌, length, get_or, refl, sym, ap, arith}
 use Rattle.std.proofs.lemmas.Bool.Decides.{nat_tests}
 use Rattle.std.specs.List.{insert, remove}
-use Rattle.dcsctp_machine.specs.declared.sending.Turn.{Turn}
-use Rattle.dcsctp_machine.specs.transfer.SendStreams.{comes_after, with_turn}
+use Rattle.dcsctp_api.specs.types.declared.sending.Turn.{Turn}
+use Rattle.dcsctp_api.specs.types.queues.SendStreams.{comes_after, with_turn}
 use Rattle.dcsctp_send_streams.specs.Turns.{NoneAfter, IsOrdered, IsPlace}
 
 -- no two come after each other

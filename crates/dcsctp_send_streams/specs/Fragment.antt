@@ -1,7 +1,7 @@
 -- The bytes of fragments.
 use Rattle.std.specs.Prelude.{◌≡◌, ◌<◌, ◌≤◌, ℕ, Option, None, Some, List, length, drop, Vec}
 use Rattle.std.specs.declared.alloc.Global.{Global}
-use Rattle.dcsctp_machine.specs.transfer.Sending.{Fragment}
+use Rattle.dcsctp_api.specs.spec.queues.Sending.{Fragment}
 
 -- a fragment of one byte at least, and of at most that many
 abbrev pub HasSize : ℕ → Fragment → Type 0

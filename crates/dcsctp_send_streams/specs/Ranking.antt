@@ -1,9 +1,9 @@
 -- Whose turn it is among streams.
 use Rattle.std.specs.Prelude.{◌≡◌, ℕ, ◌<◌, ◌≤◌, Result, Ok, Err, List, length}
 use Rattle.std.specs.List.{count_by, AllByRecursion}
-use Rattle.dcsctp_machine.specs.declared.sending.Turn.{Turn}
-use Rattle.dcsctp_machine.specs.transfer.SendStreams.{Stream, IsAscending, is_pausing, turns_of, stream_at}
-use Rattle.dcsctp_machine.specs.transfer.SendQueue.{HaveBytes}
+use Rattle.dcsctp_api.specs.types.declared.sending.Turn.{Turn}
+use Rattle.dcsctp_api.specs.types.queues.SendStreams.{Stream, IsAscending, is_pausing, turns_of, stream_at}
+use Rattle.dcsctp_api.specs.spec.queues.SendQueue.{HaveBytes}
 
 -- These are the streams and their turns, and there is room for one turn of each.
 pub record IsRanked (streams : List Stream) (turns : List Turn) (room : ℕ) : Type 0 where

@@ -1,8 +1,8 @@
 -- The order in which streams are asked for a message: by priority, the greatest first, then by number, the
 -- least first.
 use Rattle.std.specs.Prelude.{◌≡◌, ℕ, ◌<◌, ◌≤◌, slice_index_or, true, false, Option, List, [], ◌∷◌, length}
-use Rattle.dcsctp_machine.specs.declared.sending.Turn.{Turn}
-use Rattle.dcsctp_machine.specs.transfer.SendStreams.{comes_after, with_turns}
+use Rattle.dcsctp_api.specs.types.declared.sending.Turn.{Turn}
+use Rattle.dcsctp_api.specs.types.queues.SendStreams.{comes_after, with_turns}
 
 -- none of these is asked after this one
 abbrev pub NoneAfter : Turn → List Turn → Type 0

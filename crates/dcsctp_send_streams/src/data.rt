@@ -52,8 +52,8 @@ pub struct DataToSend {
 
 impl Model for DataToSend {
     ghost use Rattle.std.specs.Option.{option_map};
-    ghost use Rattle.dcsctp_machine.specs.Ids.{lifecycle_number};
-    ghost use Rattle.dcsctp_machine.specs.transfer.Sending.{Fragment};
+    ghost use Rattle.dcsctp_api.specs.types.Ids.{lifecycle_number};
+    ghost use Rattle.dcsctp_api.specs.spec.queues.Sending.{Fragment};
 
     ghost Value = { Fragment };
 

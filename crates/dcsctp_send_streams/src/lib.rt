@@ -9,7 +9,7 @@ mod streams;
 mod turns;
 
 pub use data::DataToSend;
-pub use dcsctp_machine::{Pause, Turn, UnderWay};
+pub use dcsctp_api::types::{Pause, Turn, UnderWay};
 pub use message::{NO_LIMIT, QueuedMessage, limit_of, name_of};
 pub use stream::OutgoingStream;
 pub use streams::Streams;

@@ -2,14 +2,14 @@
 
 ghost use Rattle.std.specs.Option.{option_map};
 ghost use Rattle.std.specs.Prelude.{◌≡◌, ◌≤◌, drop, vec_len};
-ghost use Rattle.dcsctp_machine.specs.Ids.{lifecycle_number};
-ghost use Rattle.dcsctp_machine.specs.transfer.QueuedParts.{limit_of, name_of};
+ghost use Rattle.dcsctp_api.specs.types.Ids.{lifecycle_number};
+ghost use Rattle.dcsctp_api.specs.spec.queues.QueuedParts.{limit_of, name_of};
 
 use crate::data::DataToSend;
+use dcsctp_api::types::{HandoverStreamMessage, UnderWay, millis_ahead, moment_at};
 use dcsctp_api::{
     Events, LifecycleId, Message, PpId, SendOptions, SocketEvent, SocketTime, StreamId,
 };
-use dcsctp_machine::{HandoverStreamMessage, UnderWay, millis_ahead, moment_at};
 use std::alloc::{AllocError, Global};
 use std::marker::Model;
 
@@ -60,8 +60,8 @@ pub struct QueuedMessage {
 impl Model for QueuedMessage {
     ghost use Rattle.std.specs.Prelude.{◌<◌, vec_len};
     ghost use Rattle.std.specs.Option.{option_map};
-    ghost use Rattle.dcsctp_machine.specs.Ids.{lifecycle_number};
-    ghost use Rattle.dcsctp_machine.specs.transfer.SendStreams.{Waiting};
+    ghost use Rattle.dcsctp_api.specs.types.Ids.{lifecycle_number};
+    ghost use Rattle.dcsctp_api.specs.types.queues.SendStreams.{Waiting};
 
     ghost Value = { Waiting };
 
@@ -81,15 +81,15 @@ impl Model for QueuedMessage {
 impl QueuedMessage {
     ghost use Rattle.std.specs.Prelude.{◌≡◌, ◌+◌, ◌-◌, ◌^◌, ◌<◌, ◌≤◌, ◌++◌, min, length, vec_len, IfOk, OnOk, OnErr};
     ghost use Rattle.dcsctp_send_streams.specs.Telling.{contents, TellsFront};
-    ghost use Rattle.dcsctp_machine.specs.transfer.SendEvents.{expiry_events, sent_events};
+    ghost use Rattle.dcsctp_api.specs.spec.queues.SendEvents.{expiry_events, sent_events};
     ghost use Rattle.std.specs.Duration.{as_nanos, max_nanos};
     ghost use Rattle.std.specs.Option.{option_map};
-    ghost use Rattle.dcsctp_machine.specs.Ids.{lifecycle_number};
-    ghost use Rattle.dcsctp_machine.specs.transfer.SendStreams.{is_expired};
+    ghost use Rattle.dcsctp_api.specs.types.Ids.{lifecycle_number};
+    ghost use Rattle.dcsctp_api.specs.types.queues.SendStreams.{is_expired};
     ghost use Rattle.dcsctp_send_streams.specs.Fragment.{CopiesRest};
-    ghost use Rattle.dcsctp_machine.specs.transfer.Sending.{fragment};
-    ghost use Rattle.dcsctp_machine.specs.SnapshotItems.{queued_part};
-    ghost use Rattle.dcsctp_machine.specs.transfer.QueuedParts.{whole_message, waiting_again};
+    ghost use Rattle.dcsctp_api.specs.spec.queues.Sending.{fragment};
+    ghost use Rattle.dcsctp_api.specs.types.SnapshotItems.{queued_part};
+    ghost use Rattle.dcsctp_api.specs.spec.queues.QueuedParts.{whole_message, waiting_again};
 
     /// The message that is added at the moment `now`.
     pub fn new(

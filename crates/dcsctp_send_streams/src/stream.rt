@@ -1,8 +1,8 @@
 //! What waits on one stream.
 
 use crate::message::QueuedMessage;
+use dcsctp_api::types::{HandoverOutgoingStream, HandoverStreamMessage, Pause, Turn};
 use dcsctp_api::{Events, SocketTime, StreamId};
-use dcsctp_machine::{HandoverOutgoingStream, HandoverStreamMessage, Pause, Turn};
 use std::alloc::{AllocError, Global};
 use std::collections::VecDeque;
 use std::marker::Model;
@@ -34,7 +34,7 @@ pub struct OutgoingStream {
 impl Model for OutgoingStream {
     ghost use Rattle.std.specs.Prelude.{◌<◌, ℕ, length};
     ghost use Rattle.std.specs.List.{AllByRecursion};
-    ghost use Rattle.dcsctp_machine.specs.transfer.SendStreams.{Waiting, Stream};
+    ghost use Rattle.dcsctp_api.specs.types.queues.SendStreams.{Waiting, Stream};
 
     ghost Value = { Stream };
 
@@ -56,14 +56,14 @@ impl Model for OutgoingStream {
 impl OutgoingStream {
     ghost use Rattle.std.specs.Prelude.{◌≡◌, ◌-◌, ◌^◌, ◌++◌, min, drop, OnOk, OnErr, if◌then◌else◌};
     ghost use Rattle.dcsctp_send_streams.specs.Telling.{contents, TellsFront};
-    ghost use Rattle.dcsctp_machine.specs.transfer.SendEvents.{expiries};
-    ghost use Rattle.dcsctp_machine.specs.transfer.SendStreams.{size_of, unused, is_pausing, front_of, with_message, without_front, paused, resumed, handed_out, begun_anew, raised, next_numbers, counted, committed, rolled_back, turn_of};
+    ghost use Rattle.dcsctp_api.specs.spec.queues.SendEvents.{expiries};
+    ghost use Rattle.dcsctp_api.specs.types.queues.SendStreams.{size_of, unused, is_pausing, front_of, with_message, without_front, paused, resumed, handed_out, begun_anew, raised, next_numbers, counted, committed, rolled_back, turn_of};
     ghost use Rattle.std.specs.Option.{option_copied};
-    ghost use Rattle.dcsctp_machine.specs.transfer.SendQueue.{HaveBytes};
-    ghost use Rattle.dcsctp_machine.specs.transfer.Readiness.{is_paused};
+    ghost use Rattle.dcsctp_api.specs.spec.queues.SendQueue.{HaveBytes};
+    ghost use Rattle.dcsctp_api.specs.spec.queues.Readiness.{is_paused};
     ghost use Rattle.std.specs.Prelude.{map, IfOk};
-    ghost use Rattle.dcsctp_machine.specs.SnapshotItems.{queued_part};
-    ghost use Rattle.dcsctp_machine.specs.transfer.QueuedParts.{whole_message, stream_given, emptied, stream_restored, with_rest};
+    ghost use Rattle.dcsctp_api.specs.types.SnapshotItems.{queued_part};
+    ghost use Rattle.dcsctp_api.specs.spec.queues.QueuedParts.{whole_message, stream_given, emptied, stream_restored, with_rest};
 
     /// A stream that was never used. Allocates nothing.
     pub fn new(alloc: Global, id: StreamId, priority: u16, threshold: usize) -> OutgoingStream

@@ -4,7 +4,7 @@ use crate::message::QueuedMessage;
 use crate::stream::OutgoingStream;
 use crate::turns::move_turn;
 use dcsctp_api::StreamId;
-use dcsctp_machine::{HandoverOutgoingStream, Turn};
+use dcsctp_api::types::{HandoverOutgoingStream, Turn};
 use std::alloc::{AllocError, Global};
 use std::marker::Model;
 
@@ -22,7 +22,7 @@ pub struct Streams {
 
 impl Model for Streams {
     ghost use Rattle.std.specs.Prelude.{List, vec_capacity};
-    ghost use Rattle.dcsctp_machine.specs.transfer.SendStreams.{Stream};
+    ghost use Rattle.dcsctp_api.specs.types.queues.SendStreams.{Stream};
     ghost use Rattle.dcsctp_send_streams.specs.Ranking.{IsKept};
 
     ghost Value = { List Stream };
@@ -35,11 +35,11 @@ impl Model for Streams {
 impl Streams {
     ghost use Rattle.std.specs.List.{list_any, AllByRecursion};
     ghost use Rattle.std.specs.Prelude.{◌≡◌, ◌-◌, ◌<◌, [], length, is_some, map, slice_set, insert, OnOk, OnErr, IfSome, IfNone};
-    ghost use Rattle.dcsctp_machine.specs.transfer.SendStreams.{front_of, with_message, without_front, paused, handed_out, begun_anew, raised, counted, committed, rolled_back, stream_at, turn_of, turns_of, IsNext, IsAscending};
-    ghost use Rattle.dcsctp_machine.specs.transfer.SendQueue.{HaveBytes};
-    ghost use Rattle.dcsctp_machine.specs.transfer.Readiness.{has_messages, is_paused};
+    ghost use Rattle.dcsctp_api.specs.types.queues.SendStreams.{front_of, with_message, without_front, paused, handed_out, begun_anew, raised, counted, committed, rolled_back, stream_at, turn_of, turns_of, IsNext, IsAscending};
+    ghost use Rattle.dcsctp_api.specs.spec.queues.SendQueue.{HaveBytes};
+    ghost use Rattle.dcsctp_api.specs.spec.queues.Readiness.{has_messages, is_paused};
     ghost use Rattle.dcsctp_send_streams.specs.Ranking.{count_pausing, IsFound};
-    ghost use Rattle.dcsctp_machine.specs.transfer.QueuedParts.{emptied, stream_restored, with_rest};
+    ghost use Rattle.dcsctp_api.specs.spec.queues.QueuedParts.{emptied, stream_restored, with_rest};
 
     /// No streams. Allocates nothing.
     pub fn new(alloc: Global) -> Streams

@@ -2,11 +2,11 @@
 //! the least first.
 
 ghost use Rattle.std.specs.Prelude.{◌≡◌, ◌+◌, ◌<◌, List, Some, vec_len, vec_capacity};
-ghost use Rattle.dcsctp_machine.specs.declared.sending.Turn.{Turn};
-ghost use Rattle.dcsctp_machine.specs.transfer.SendStreams.{comes_after, with_turn, with_turns};
+ghost use Rattle.dcsctp_api.specs.types.declared.sending.Turn.{Turn};
+ghost use Rattle.dcsctp_api.specs.types.queues.SendStreams.{comes_after, with_turn, with_turns};
 ghost use Rattle.dcsctp_send_streams.specs.Turns.{IsOrdered, IsPlace, Holds};
 
-use dcsctp_machine::Turn;
+use dcsctp_api::types::Turn;
 
 // How many of the turns, which stand in order, come after the given one.
 fn place_of(turns: &[Turn], turn: Turn) -> usize

@@ -4,6 +4,6 @@
 mod retransmission_timeout;
 mod timer;
 
-pub use dcsctp_machine::BackoffAlgorithm;
+pub use dcsctp_spec::types::BackoffAlgorithm;
 pub use retransmission_timeout::RetransmissionTimeout;
 pub use timer::Timer;

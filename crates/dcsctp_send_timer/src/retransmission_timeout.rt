@@ -3,9 +3,9 @@
 ghost use Rattle.std.specs.Prelude.{◌≡◌, nat_lt};
 ghost use Rattle.std.specs.Duration.{as_nanos};
 ghost use Rattle.std.specs.Option.{option_map};
-ghost use Rattle.dcsctp_machine.specs.transfer.Timeout.{smoothed, variance_with};
+ghost use Rattle.dcsctp_spec.specs.queues.Timeout.{smoothed, variance_with};
 
-use dcsctp_machine::Options;
+use dcsctp_spec::types::Options;
 use std::marker::Model;
 use std::time::Duration;
 
@@ -50,7 +50,7 @@ struct Bounds {
 }
 
 impl Bounds {
-    ghost use Rattle.dcsctp_machine.specs.transfer.Timeout.{timeout_for};
+    ghost use Rattle.dcsctp_spec.specs.queues.Timeout.{timeout_for};
 
     // The timeout for this smoothed round trip and its variance.
     fn timeout_for(self, srtt: Duration, variance: Duration) -> Duration
@@ -85,7 +85,7 @@ pub struct RetransmissionTimeout {
 impl Model for RetransmissionTimeout {
     ghost use Rattle.std.specs.Duration.{as_nanos};
     ghost use Rattle.std.specs.Option.{option_map};
-    ghost use Rattle.dcsctp_machine.specs.transfer.Timeout.{TimeoutState};
+    ghost use Rattle.dcsctp_spec.specs.queues.Timeout.{TimeoutState};
 
     ghost Value = { TimeoutState };
 
@@ -103,7 +103,7 @@ impl Model for RetransmissionTimeout {
 }
 
 impl RetransmissionTimeout {
-    ghost use Rattle.dcsctp_machine.specs.transfer.Timeout.{new_timeout, timeout_after};
+    ghost use Rattle.dcsctp_spec.specs.queues.Timeout.{new_timeout, timeout_after};
 
     /// The timeout before any round trip was measured: `rto_initial` of the options, which is not cut to
     /// `rto_min` or `rto_max`.

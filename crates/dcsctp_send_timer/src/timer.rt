@@ -4,9 +4,9 @@
 ghost use Rattle.std.specs.Prelude.{◌≡◌};
 ghost use Rattle.std.specs.Duration.{as_nanos};
 ghost use Rattle.std.specs.Option.{option_map};
-ghost use Rattle.dcsctp_machine.specs.Timers.{goes_on, next_wait, bounded};
+ghost use Rattle.dcsctp_spec.specs.endpoint.Timers.{goes_on, next_wait, bounded};
 
-use dcsctp_machine::{BackoffAlgorithm, SocketTime};
+use dcsctp_spec::types::{BackoffAlgorithm, SocketTime};
 use std::marker::Model;
 use std::time::Duration;
 
@@ -66,7 +66,7 @@ pub struct Timer {
 impl Model for Timer {
     ghost use Rattle.std.specs.Duration.{as_nanos};
     ghost use Rattle.std.specs.Option.{option_map};
-    ghost use Rattle.dcsctp_machine.specs.Timers.{TimerModel};
+    ghost use Rattle.dcsctp_spec.specs.endpoint.Timers.{TimerModel};
 
     ghost Value = { TimerModel };
 
@@ -96,8 +96,8 @@ impl Timer {
     ghost use Rattle.std.specs.Prelude.{◌≡◌, ◌↔◌, IsTrue, IsSome};
     ghost use Rattle.std.specs.Duration.{as_nanos};
     ghost use Rattle.std.specs.Option.{option_map};
-    ghost use Rattle.dcsctp_machine.specs.Timers.{started};
-    ghost use Rattle.dcsctp_machine.specs.Timers.{running_deadline, expires_at, running_after};
+    ghost use Rattle.dcsctp_spec.specs.endpoint.Timers.{started};
+    ghost use Rattle.dcsctp_spec.specs.endpoint.Timers.{running_deadline, expires_at, running_after};
 
     /// A timer that doesn't run. Once started it runs for `duration`.
     ///

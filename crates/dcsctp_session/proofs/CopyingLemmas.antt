@@ -1,6 +1,6 @@
 use Rattle.std.proofs.Common.{arith, ◌≡◌, ℕ, zero, suc, ◌+◌, ◌<◌, ◌≤◌, List, [], ◌∷◌, ◌++◌, length, take, drop, slice_index_or, slice_set, ap, refl}
-use Rattle.dcsctp_machine.specs.Ids.{stream_numbers}
-use Rattle.dcsctp_machine.specs.declared.ids.StreamId.{StreamId}
+use Rattle.dcsctp_core.specs.types.Ids.{stream_numbers}
+use Rattle.dcsctp_core.specs.types.declared.ids.StreamId.{StreamId}
 
 -- One more number is written, and the rest of the buffer is one shorter.
 pub written : (ids : List StreamId) (old : List ℕ) (i : ℕ) (none : StreamId) → i < length ids → length ids ≤ length old

@@ -1,19 +1,19 @@
 -- What the calls of a session do: the call of its socket takes place, what was taken is kept, and the status says how it ended.
 use Rattle.std.specs.Prelude.{◌≡◌, ◌⊎◌, ◌<◌, ℕ, true, false, IsOk, List, Option, Some, None, Result, Ok, Err, OnOk, option_map}
 use Rattle.rand_chacha.specs.ChaCha.{of_seed}
-use Rattle.dcsctp_machine.specs.Settings.{IsValid}
-use Rattle.dcsctp_machine.specs.declared.options.Options.{Options}
-use Rattle.dcsctp_machine.specs.declared.message.SendOptions.{SendOptions}
-use Rattle.dcsctp_machine.specs.transfer.Messages.{MessageContent}
-use Rattle.dcsctp_machine.specs.turns.SettingOutcomes.{Setting, longest_message}
-use Rattle.dcsctp_api.specs.declared.errors.SocketFault.{SocketFault}
-use Rattle.dcsctp_api.specs.declared.metrics.Metrics.{Metrics}
-use Rattle.dcsctp_api.specs.Calls.{UserView, Connects, Closes, ShutsDown, HandlesInput, PollsEvent, Sets, with_setting, is_closed, takes_shutdown}
-use Rattle.dcsctp_api.specs.Messages.{Sends, TakesNext}
-use Rattle.dcsctp_api.specs.Metrics.{ShowsMetrics}
-use Rattle.dcsctp_api.specs.Resets.{ResetsOwn}
-use Rattle.dcsctp_api.specs.Time.{Advances, OnlyMovesClock}
-use Rattle.dcsctp_machine.specs.TimeTurns.{Waits}
+use Rattle.dcsctp_core.specs.types.Settings.{IsValid}
+use Rattle.dcsctp_core.specs.types.declared.options.Options.{Options}
+use Rattle.dcsctp_core.specs.types.declared.message.SendOptions.{SendOptions}
+use Rattle.dcsctp_core.specs.types.queues.Messages.{MessageContent}
+use Rattle.dcsctp_core.specs.types.Setting.{Setting, longest_message}
+use Rattle.dcsctp_core.specs.api.declared.errors.SocketFault.{SocketFault}
+use Rattle.dcsctp_core.specs.api.declared.metrics.Metrics.{Metrics}
+use Rattle.dcsctp_core.specs.api.Calls.{UserView, Connects, Closes, ShutsDown, HandlesInput, PollsEvent, Sets, with_setting, is_closed, takes_shutdown}
+use Rattle.dcsctp_core.specs.api.Messages.{Sends, TakesNext}
+use Rattle.dcsctp_core.specs.api.Metrics.{ShowsMetrics}
+use Rattle.dcsctp_core.specs.api.Resets.{ResetsOwn}
+use Rattle.dcsctp_core.specs.api.Time.{Advances, OnlyMovesClock}
+use Rattle.dcsctp_core.specs.spec.endpoint.TimeTurns.{Waits}
 use Rattle.dcsctp_core.specs.View.{Drawn}
 use Rattle.dcsctp_socket.specs.SocketView.{user_view_of, fresh_socket}
 use Rattle.dcsctp_session.specs.declared.session.Session.{Session}

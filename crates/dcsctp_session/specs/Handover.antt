@@ -1,16 +1,16 @@
 -- What the calls of a session do that hand its socket over and restore it.
 use Rattle.std.specs.Prelude.{◌≡◌, ◌≢◌, ◌⊎◌, ℕ, List, [], IsOk, Bool, true, false, Option, Some, None, Result, Ok, Err, OnOk}
-use Rattle.dcsctp_machine.specs.Handover.{readiness_of}
-use Rattle.dcsctp_machine.specs.Sockets.{inputs_of_restore}
-use Rattle.dcsctp_machine.specs.Snapshot.{Snapshot, snapshot, is_valid_snapshot}
-use Rattle.dcsctp_machine.specs.declared.snapshot.SocketHandoverState.{SocketHandoverState}
+use Rattle.dcsctp_core.specs.spec.Handover.{readiness_of}
+use Rattle.dcsctp_core.specs.spec.HandoverInputs.{inputs_of_restore}
+use Rattle.dcsctp_core.specs.types.Snapshot.{Snapshot, snapshot, is_valid_snapshot}
+use Rattle.dcsctp_core.specs.types.declared.snapshot.SocketHandoverState.{SocketHandoverState}
 use Rattle.dcsctp_snapshot_bytes.specs.Spelling.{snapshot_bytes}
 use Rattle.dcsctp_snapshot_bytes.specs.Reading.{read_snapshot}
-use Rattle.dcsctp_api.specs.declared.errors.SocketFault.{SocketFault}
-use Rattle.dcsctp_api.specs.declared.errors.HandoverError.{HandoverError}
-use Rattle.dcsctp_api.specs.declared.errors.RestoreError.{RestoreError}
-use Rattle.dcsctp_api.specs.Calls.{UserView}
-use Rattle.dcsctp_api.specs.Handover.{HandsOver, Restores}
+use Rattle.dcsctp_core.specs.api.declared.errors.SocketFault.{SocketFault}
+use Rattle.dcsctp_core.specs.api.declared.errors.HandoverError.{HandoverError}
+use Rattle.dcsctp_core.specs.api.declared.errors.RestoreError.{RestoreError}
+use Rattle.dcsctp_core.specs.api.Calls.{UserView}
+use Rattle.dcsctp_core.specs.api.Handover.{HandsOver, Restores}
 use Rattle.dcsctp_core.specs.View.{Drawn}
 use Rattle.dcsctp_session.specs.declared.session.Session.{Session}
 use Rattle.dcsctp_session.specs.declared.session.Taken.{Taken}

@@ -2,11 +2,11 @@
 use Rattle.std.specs.Prelude.{◌≡◌, ◌==◌, ◌-◌, ◌^◌, bit_and, ℕ, min, not, if◌then◌else◌, Bool, true, false, Option, Some, None, option_map}
 use Rattle.std.specs.Duration.{as_nanos}
 use Rattle.std.specs.declared.time.Duration.{Duration}
-use Rattle.dcsctp_machine.specs.Ids.{lifecycle_number}
-use Rattle.dcsctp_machine.specs.Settings.{IsDefault}
-use Rattle.dcsctp_machine.specs.declared.ids.LifecycleId.{LifecycleId}
-use Rattle.dcsctp_machine.specs.declared.options.Options.{Options}
-use Rattle.dcsctp_machine.specs.declared.message.SendOptions.{SendOptions}
+use Rattle.dcsctp_core.specs.types.Ids.{lifecycle_number}
+use Rattle.dcsctp_core.specs.types.Settings.{IsDefault}
+use Rattle.dcsctp_core.specs.types.declared.ids.LifecycleId.{LifecycleId}
+use Rattle.dcsctp_core.specs.types.declared.options.Options.{Options}
+use Rattle.dcsctp_core.specs.types.declared.message.SendOptions.{SendOptions}
 use Rattle.dcsctp_session.specs.declared.options.OptionsRecord.{OptionsRecord}
 use Rattle.dcsctp_session.specs.declared.options.SendOptionsRecord.{SendOptionsRecord}
 

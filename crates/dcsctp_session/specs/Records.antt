@@ -1,14 +1,14 @@
 -- The numbers by which C reads events, messages and metrics.
 use Rattle.std.specs.Prelude.{◌≡◌, string_bytes, ℕ, length}
-use Rattle.dcsctp_machine.specs.Ids.{lifecycle_number}
-use Rattle.dcsctp_machine.specs.declared.kinds.ErrorKind.{ErrorKind}
-use Rattle.dcsctp_machine.specs.declared.kinds.ErrorKind.TheVariants as errors
-use Rattle.dcsctp_machine.specs.declared.kinds.SctpImplementation.{SctpImplementation}
-use Rattle.dcsctp_machine.specs.declared.kinds.SctpImplementation.TheVariants as implementations
-use Rattle.dcsctp_machine.specs.declared.message.Message.{Message}
-use Rattle.dcsctp_api.specs.declared.events.SocketEvent.{SocketEvent}
-use Rattle.dcsctp_api.specs.declared.events.SocketEvent.TheVariants as events
-use Rattle.dcsctp_api.specs.declared.metrics.Metrics.{Metrics}
+use Rattle.dcsctp_core.specs.types.Ids.{lifecycle_number}
+use Rattle.dcsctp_core.specs.types.declared.kinds.ErrorKind.{ErrorKind}
+use Rattle.dcsctp_core.specs.types.declared.kinds.ErrorKind.TheVariants as errors
+use Rattle.dcsctp_core.specs.types.declared.kinds.SctpImplementation.{SctpImplementation}
+use Rattle.dcsctp_core.specs.types.declared.kinds.SctpImplementation.TheVariants as implementations
+use Rattle.dcsctp_core.specs.types.declared.message.Message.{Message}
+use Rattle.dcsctp_core.specs.api.declared.events.SocketEvent.{SocketEvent}
+use Rattle.dcsctp_core.specs.api.declared.events.SocketEvent.TheVariants as events
+use Rattle.dcsctp_core.specs.api.declared.metrics.Metrics.{Metrics}
 use Rattle.dcsctp_session.specs.Options.{time_number, flag_number}
 use Rattle.dcsctp_session.specs.declared.records.EventRecord.{EventRecord}
 use Rattle.dcsctp_session.specs.declared.records.MessageRecord.{MessageRecord}

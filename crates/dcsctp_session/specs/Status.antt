@@ -1,18 +1,18 @@
 -- What calls return, and by which numbers.
 use Rattle.std.specs.Prelude.{ℤ, pos, negsuc, Option, Some, None, Result, Ok, Err}
-use Rattle.dcsctp_machine.specs.declared.snapshot.SocketHandoverState.{SocketHandoverState}
-use Rattle.dcsctp_api.specs.declared.errors.SocketFault.{SocketFault}
-use Rattle.dcsctp_api.specs.declared.errors.SocketFault.TheVariants as faults
-use Rattle.dcsctp_api.specs.declared.errors.SendError.{SendError}
-use Rattle.dcsctp_api.specs.declared.errors.SendError.TheVariants as sends
-use Rattle.dcsctp_api.specs.declared.errors.ResetStreamsError.{ResetStreamsError}
-use Rattle.dcsctp_api.specs.declared.errors.ResetStreamsError.TheVariants as resets
-use Rattle.dcsctp_api.specs.declared.errors.HandoverError.{HandoverError}
-use Rattle.dcsctp_api.specs.declared.errors.HandoverError.TheVariants as handovers
-use Rattle.dcsctp_api.specs.declared.errors.RestoreError.{RestoreError}
-use Rattle.dcsctp_api.specs.declared.errors.RestoreError.TheVariants as restores
-use Rattle.dcsctp_api.specs.declared.state.SocketState.{SocketState}
-use Rattle.dcsctp_api.specs.declared.state.SocketState.TheVariants as states
+use Rattle.dcsctp_core.specs.types.declared.snapshot.SocketHandoverState.{SocketHandoverState}
+use Rattle.dcsctp_core.specs.api.declared.errors.SocketFault.{SocketFault}
+use Rattle.dcsctp_core.specs.api.declared.errors.SocketFault.TheVariants as faults
+use Rattle.dcsctp_core.specs.api.declared.errors.SendError.{SendError}
+use Rattle.dcsctp_core.specs.api.declared.errors.SendError.TheVariants as sends
+use Rattle.dcsctp_core.specs.api.declared.errors.ResetStreamsError.{ResetStreamsError}
+use Rattle.dcsctp_core.specs.api.declared.errors.ResetStreamsError.TheVariants as resets
+use Rattle.dcsctp_core.specs.api.declared.errors.HandoverError.{HandoverError}
+use Rattle.dcsctp_core.specs.api.declared.errors.HandoverError.TheVariants as handovers
+use Rattle.dcsctp_core.specs.api.declared.errors.RestoreError.{RestoreError}
+use Rattle.dcsctp_core.specs.api.declared.errors.RestoreError.TheVariants as restores
+use Rattle.dcsctp_core.specs.api.declared.state.SocketState.{SocketState}
+use Rattle.dcsctp_core.specs.api.declared.state.SocketState.TheVariants as states
 use Rattle.dcsctp_session.specs.declared.status.Status.{Status}
 use Rattle.dcsctp_session.specs.declared.status.Status.TheVariants as statuses
 

@@ -3,11 +3,11 @@ use Rattle.std.specs.Prelude.{string_bytes, ℕ, List, Option, Some, None}
 use Rattle.rand_core.specs.Stream.{Stream}
 use Rattle.rand_core.specs.Steps.{stream_of, steps_u32}
 use Rattle.rand_chacha.specs.ChaCha.{ChaCha, next_word}
-use Rattle.dcsctp_machine.specs.Ids.{stream_numbers}
-use Rattle.dcsctp_machine.specs.declared.message.Message.{Message}
-use Rattle.dcsctp_api.specs.declared.events.SocketEvent.{SocketEvent}
-use Rattle.dcsctp_api.specs.declared.events.SocketEvent.TheVariants as events
-use Rattle.dcsctp_api.specs.Calls.{UserView}
+use Rattle.dcsctp_core.specs.types.Ids.{stream_numbers}
+use Rattle.dcsctp_core.specs.types.declared.message.Message.{Message}
+use Rattle.dcsctp_core.specs.api.declared.events.SocketEvent.{SocketEvent}
+use Rattle.dcsctp_core.specs.api.declared.events.SocketEvent.TheVariants as events
+use Rattle.dcsctp_core.specs.api.Calls.{UserView}
 use Rattle.dcsctp_socket.specs.SocketView.{user_view_of}
 use Rattle.dcsctp_session.specs.declared.session.Session.{Session}
 use Rattle.dcsctp_session.specs.declared.session.Taken.{Taken}

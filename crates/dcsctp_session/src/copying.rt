@@ -1,7 +1,7 @@
 //! Copying between buffers of the caller's and the socket's types.
 
 ghost use Rattle.std.specs.Prelude.{◌≡◌, IfOk};
-ghost use Rattle.dcsctp_machine.specs.Ids.{stream_numbers};
+ghost use Rattle.dcsctp_core.specs.types.Ids.{stream_numbers};
 ghost use Rattle.dcsctp_session.specs.Copying.{Copies};
 
 use crate::status::Status;

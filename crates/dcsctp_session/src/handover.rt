@@ -1,9 +1,9 @@
 //! Handing the socket of a session over to another process, by a snapshot in bytes.
 
 ghost use Rattle.std.specs.Prelude.{◌≡◌};
-ghost use Rattle.dcsctp_machine.specs.Handover.{readiness_of};
-ghost use Rattle.dcsctp_machine.specs.transfer.Incoming.{AreInOrder};
-ghost use Rattle.dcsctp_api.specs.Messages.{incoming_streams};
+ghost use Rattle.dcsctp_core.specs.spec.Handover.{readiness_of};
+ghost use Rattle.dcsctp_core.specs.spec.queues.Incoming.{AreInOrder};
+ghost use Rattle.dcsctp_core.specs.api.Messages.{incoming_streams};
 ghost use Rattle.dcsctp_session.specs.Views.{view};
 ghost use Rattle.dcsctp_session.specs.Handover.{HandedOver, CopiesSnapshot, Restored};
 

@@ -1,11 +1,11 @@
 //! A session: a socket, and what was taken from it last.
 
 ghost use Rattle.std.specs.Prelude.{◌≡◌, min, length, Some};
-ghost use Rattle.dcsctp_machine.specs.TimeTurns.{next_moment};
-ghost use Rattle.dcsctp_machine.specs.transfer.SendQueue.{IsWellFormed};
-ghost use Rattle.dcsctp_machine.specs.turns.SettingOutcomes.{stream_priority, stream_low_threshold};
-ghost use Rattle.dcsctp_api.specs.Calls.{stream_shown, socket_state_of};
-ghost use Rattle.dcsctp_api.specs.Messages.{ready_messages};
+ghost use Rattle.dcsctp_core.specs.spec.endpoint.TimeTurns.{next_moment};
+ghost use Rattle.dcsctp_core.specs.spec.queues.SendQueue.{IsWellFormed};
+ghost use Rattle.dcsctp_core.specs.types.Setting.{stream_priority, stream_low_threshold};
+ghost use Rattle.dcsctp_core.specs.api.Calls.{stream_shown, socket_state_of};
+ghost use Rattle.dcsctp_core.specs.api.Messages.{ready_messages};
 ghost use Rattle.dcsctp_session.specs.Options.{ShowsOptions, never};
 ghost use Rattle.dcsctp_session.specs.Views.{view};
 ghost use Rattle.dcsctp_session.specs.Calls.{Creates, Connected, ShutDown, Closed, InputHandled, Advanced, SettingMade, SizeLimited, MessageSent, StreamsReset};
@@ -13,7 +13,7 @@ ghost use Rattle.dcsctp_session.specs.Calls.{Creates, Connected, ShutDown, Close
 use crate::copying::stream_ids;
 use crate::options::{OptionsRecord, SendOptionsRecord};
 use crate::status::Status;
-use dcsctp_api::handover::SocketHandoverState;
+use dcsctp_core::api::handover::SocketHandoverState;
 use dcsctp_socket::{
     DcSctpSocket, Message, PpId, SendError, Socket, SocketEvent, SocketFault, SocketState,
     SocketTime, StreamId,

@@ -2,7 +2,7 @@
 use Rattle.std.proofs.Common.{◌≡◌, ℕ, ◌^◌, ◌<◌, ◌++◌, List, Some, refl, subst, append_assoc, FitsSigned}
 use Rattle.std.specs.Prelude.{IfSome}
 use Rattle.std.specs.Int.{w16, w32, w64}
-use Rattle.dcsctp_machine.specs.SnapshotItems.{OutstandingPart}
+use Rattle.dcsctp_types.specs.SnapshotItems.{OutstandingPart}
 use Rattle.dcsctp_snapshot_bytes.specs.declared.outstanding.FragmentNumbers.{FragmentNumbers}
 use Rattle.dcsctp_snapshot_bytes.specs.declared.outstanding.FragmentFlags.{FragmentFlags}
 use Rattle.dcsctp_snapshot_bytes.specs.declared.outstanding.FragmentLimits.{FragmentLimits}

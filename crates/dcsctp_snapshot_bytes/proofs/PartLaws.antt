@@ -1,8 +1,8 @@
 -- The parts of a snapshot: what is read of each was written so, and what was written is read again.
 use Rattle.std.proofs.Common.{◌≡◌, ℕ, ◌^◌, ◌<◌, ◌++◌, List, Some, refl, subst, append_assoc}
 use Rattle.std.specs.Int.{w32, w64}
-use Rattle.dcsctp_machine.specs.declared.snapshot.HandoverCapabilities.{HandoverCapabilities}
-use Rattle.dcsctp_machine.specs.Snapshot.{SendPart, ReceivePart}
+use Rattle.dcsctp_types.specs.declared.snapshot.HandoverCapabilities.{HandoverCapabilities}
+use Rattle.dcsctp_types.specs.Snapshot.{SendPart, ReceivePart}
 use Rattle.dcsctp_snapshot_bytes.specs.declared.transmission.SendWindows.{SendWindows}
 use Rattle.dcsctp_snapshot_bytes.specs.declared.transmission.SendProgress.{SendProgress}
 use Rattle.dcsctp_snapshot_bytes.specs.declared.receive.ReceiveNumbers.{ReceiveNumbers}

@@ -2,7 +2,7 @@
 use Rattle.std.proofs.Common.{◌≡◌, ℕ, ◌^◌, ◌<◌, ◌++◌, List, Some, refl, subst, append_assoc, FitsSigned}
 use Rattle.std.specs.Prelude.{IfSome}
 use Rattle.std.specs.Int.{w16, w32, w64}
-use Rattle.dcsctp_machine.specs.SnapshotItems.{QueuedPart}
+use Rattle.dcsctp_types.specs.SnapshotItems.{QueuedPart}
 use Rattle.dcsctp_snapshot_bytes.specs.declared.queued.QueuedLimits.{QueuedLimits}
 use Rattle.dcsctp_snapshot_bytes.specs.declared.queued.QueuedProgress.{QueuedProgress}
 use Rattle.dcsctp_snapshot_bytes.specs.Fields.{number_bytes, signed_bytes, optional_bytes}

@@ -6,9 +6,9 @@ use Rattle.std.specs.Int.{w16, w32, w64}
 use Rattle.std.proofs.lemmas.Bool.{eqb-true, and_parts}
 use Rattle.std.proofs.lemmas.Option.{cond_some}
 use Rattle.std.proofs.lemmas.List.{append-nil, nil_from_length}
-use Rattle.dcsctp_machine.specs.declared.snapshot.HandoverSocketState.{HandoverSocketState}
-use Rattle.dcsctp_machine.specs.declared.snapshot.HandoverSocketState.TheVariants.{Closed, Connected}
-use Rattle.dcsctp_machine.specs.Snapshot.{Snapshot}
+use Rattle.dcsctp_types.specs.declared.snapshot.HandoverSocketState.{HandoverSocketState}
+use Rattle.dcsctp_types.specs.declared.snapshot.HandoverSocketState.TheVariants.{Closed, Connected}
+use Rattle.dcsctp_types.specs.Snapshot.{Snapshot}
 use Rattle.dcsctp_snapshot_bytes.specs.declared.state.Tags.{Tags}
 use Rattle.dcsctp_snapshot_bytes.specs.Fields.{◌>>=◌, number_bytes, flag_bytes}
 use Rattle.dcsctp_snapshot_bytes.specs.Fits.{FitsSnapshot}

@@ -2,10 +2,10 @@
 use Rattle.std.proofs.Common.{◌≡◌, ℕ, ◌++◌, negsuc, true, List, [], ◌∷◌, Some, None, refl}
 use Rattle.std.specs.Prelude.{codes, replicate}
 use Rattle.std.specs.Int.{w32}
-use Rattle.dcsctp_machine.specs.declared.snapshot.HandoverOutgoingStream.{HandoverOutgoingStream}
-use Rattle.dcsctp_machine.specs.declared.snapshot.HandoverOrderedStream.{HandoverOrderedStream}
-use Rattle.dcsctp_machine.specs.SnapshotItems.{QueuedPart}
-use Rattle.dcsctp_machine.specs.Snapshot.{empty_snapshot}
+use Rattle.dcsctp_types.specs.declared.snapshot.HandoverOutgoingStream.{HandoverOutgoingStream}
+use Rattle.dcsctp_types.specs.declared.snapshot.HandoverOrderedStream.{HandoverOrderedStream}
+use Rattle.dcsctp_types.specs.SnapshotItems.{QueuedPart}
+use Rattle.dcsctp_types.specs.Snapshot.{empty_snapshot}
 use Rattle.dcsctp_snapshot_bytes.specs.Fields.{number_bytes, number_at, signed_bytes, signed_at, flag_bytes, flag_at, payload_bytes, payload_at, optional_bytes, optional_at, list_bytes, list_at, elements_at}
 use Rattle.dcsctp_snapshot_bytes.specs.Spelling.{magic, queued_bytes, outgoing_bytes, ordered_bytes, send_bytes, received_bytes, capabilities_bytes, snapshot_bytes}
 use Rattle.dcsctp_snapshot_bytes.specs.ReadingItems.{queued_at, limits_at, progress_at, ordered_at}

@@ -1,8 +1,8 @@
 -- Streams: what is read of each was written so, and what was written is read again.
 use Rattle.std.proofs.Common.{◌≡◌, ℕ, ◌++◌, List, Some, refl, subst, append_assoc}
-use Rattle.dcsctp_machine.specs.declared.snapshot.HandoverOutgoingStream.{HandoverOutgoingStream}
-use Rattle.dcsctp_machine.specs.declared.snapshot.HandoverOrderedStream.{HandoverOrderedStream}
-use Rattle.dcsctp_machine.specs.declared.snapshot.HandoverUnorderedStream.{HandoverUnorderedStream}
+use Rattle.dcsctp_types.specs.declared.snapshot.HandoverOutgoingStream.{HandoverOutgoingStream}
+use Rattle.dcsctp_types.specs.declared.snapshot.HandoverOrderedStream.{HandoverOrderedStream}
+use Rattle.dcsctp_types.specs.declared.snapshot.HandoverUnorderedStream.{HandoverUnorderedStream}
 use Rattle.dcsctp_snapshot_bytes.specs.Fits.{FitsOutgoing, FitsOrdered, FitsUnordered}
 use Rattle.dcsctp_snapshot_bytes.specs.Laws.{AreBytes}
 use Rattle.dcsctp_snapshot_bytes.specs.Spelling.{outgoing_bytes, ordered_bytes, unordered_bytes}

@@ -2,12 +2,12 @@
 use Rattle.std.specs.Prelude.{◌<◌, ◌^◌, List, length, IfSome, FitsSigned}
 use Rattle.std.specs.Int.{w32}
 use Rattle.std.specs.List.{AllByRecursion}
-use Rattle.dcsctp_machine.specs.declared.snapshot.HandoverCapabilities.{HandoverCapabilities}
-use Rattle.dcsctp_machine.specs.declared.snapshot.HandoverOutgoingStream.{HandoverOutgoingStream}
-use Rattle.dcsctp_machine.specs.declared.snapshot.HandoverOrderedStream.{HandoverOrderedStream}
-use Rattle.dcsctp_machine.specs.declared.snapshot.HandoverUnorderedStream.{HandoverUnorderedStream}
-use Rattle.dcsctp_machine.specs.SnapshotItems.{QueuedPart, OutstandingPart}
-use Rattle.dcsctp_machine.specs.Snapshot.{SendPart, ReceivePart, Snapshot}
+use Rattle.dcsctp_types.specs.declared.snapshot.HandoverCapabilities.{HandoverCapabilities}
+use Rattle.dcsctp_types.specs.declared.snapshot.HandoverOutgoingStream.{HandoverOutgoingStream}
+use Rattle.dcsctp_types.specs.declared.snapshot.HandoverOrderedStream.{HandoverOrderedStream}
+use Rattle.dcsctp_types.specs.declared.snapshot.HandoverUnorderedStream.{HandoverUnorderedStream}
+use Rattle.dcsctp_types.specs.SnapshotItems.{QueuedPart, OutstandingPart}
+use Rattle.dcsctp_types.specs.Snapshot.{SendPart, ReceivePart, Snapshot}
 
 -- as many as a count can say, and each fits
 pub record FitsList {A : Type 0} (Fits : A → Type 0) (elements : List A) : Type 0 where

@@ -1,6 +1,6 @@
 -- What is written is read back, and what is read was written so.
 use Rattle.std.specs.Prelude.{◌≡◌, ℕ, ◌<◌, List, get_or, Some}
-use Rattle.dcsctp_machine.specs.Snapshot.{Snapshot}
+use Rattle.dcsctp_types.specs.Snapshot.{Snapshot}
 use Rattle.dcsctp_snapshot_bytes.specs.Fits.{FitsSnapshot}
 use Rattle.dcsctp_snapshot_bytes.specs.Spelling.{snapshot_bytes}
 use Rattle.dcsctp_snapshot_bytes.specs.Reading.{read_snapshot}

@@ -1,10 +1,10 @@
 -- A snapshot, read from bytes.
 use Rattle.std.specs.Prelude.{ℕ, Bool, true, false, ◌&&◌, ◌==◌, List, length, Option, Some, None, if◌then◌else◌}
 use Rattle.std.specs.Int.{w16, w32, w64}
-use Rattle.dcsctp_machine.specs.declared.snapshot.HandoverSocketState.{HandoverSocketState}
-use Rattle.dcsctp_machine.specs.declared.snapshot.HandoverSocketState.TheVariants.{Closed, Connected}
-use Rattle.dcsctp_machine.specs.declared.snapshot.HandoverCapabilities.{HandoverCapabilities}
-use Rattle.dcsctp_machine.specs.Snapshot.{SendPart, ReceivePart, Snapshot}
+use Rattle.dcsctp_types.specs.declared.snapshot.HandoverSocketState.{HandoverSocketState}
+use Rattle.dcsctp_types.specs.declared.snapshot.HandoverSocketState.TheVariants.{Closed, Connected}
+use Rattle.dcsctp_types.specs.declared.snapshot.HandoverCapabilities.{HandoverCapabilities}
+use Rattle.dcsctp_types.specs.Snapshot.{SendPart, ReceivePart, Snapshot}
 use Rattle.dcsctp_snapshot_bytes.specs.declared.transmission.SendWindows.{SendWindows}
 use Rattle.dcsctp_snapshot_bytes.specs.declared.transmission.SendProgress.{SendProgress}
 use Rattle.dcsctp_snapshot_bytes.specs.declared.receive.ReceiveNumbers.{ReceiveNumbers}

@@ -1,10 +1,10 @@
 -- The elements of a snapshot's lists, read from the front of bytes, with what each leaves.
 use Rattle.std.specs.Prelude.{ℕ, List, Option, Some}
 use Rattle.std.specs.Int.{w16, w32, w64}
-use Rattle.dcsctp_machine.specs.declared.snapshot.HandoverOutgoingStream.{HandoverOutgoingStream}
-use Rattle.dcsctp_machine.specs.declared.snapshot.HandoverOrderedStream.{HandoverOrderedStream}
-use Rattle.dcsctp_machine.specs.declared.snapshot.HandoverUnorderedStream.{HandoverUnorderedStream}
-use Rattle.dcsctp_machine.specs.SnapshotItems.{QueuedPart, OutstandingPart}
+use Rattle.dcsctp_types.specs.declared.snapshot.HandoverOutgoingStream.{HandoverOutgoingStream}
+use Rattle.dcsctp_types.specs.declared.snapshot.HandoverOrderedStream.{HandoverOrderedStream}
+use Rattle.dcsctp_types.specs.declared.snapshot.HandoverUnorderedStream.{HandoverUnorderedStream}
+use Rattle.dcsctp_types.specs.SnapshotItems.{QueuedPart, OutstandingPart}
 use Rattle.dcsctp_snapshot_bytes.specs.declared.queued.QueuedLimits.{QueuedLimits}
 use Rattle.dcsctp_snapshot_bytes.specs.declared.queued.QueuedProgress.{QueuedProgress}
 use Rattle.dcsctp_snapshot_bytes.specs.declared.outstanding.FragmentNumbers.{FragmentNumbers}

@@ -1,14 +1,14 @@
 -- A snapshot as bytes. After each field stands how many bytes it has.
 use Rattle.std.specs.Prelude.{ℕ, Bool, true, false, List, ◌++◌}
 use Rattle.std.specs.Int.{w16, w32, w64}
-use Rattle.dcsctp_machine.specs.declared.snapshot.HandoverSocketState.{HandoverSocketState}
-use Rattle.dcsctp_machine.specs.declared.snapshot.HandoverSocketState.TheVariants.{Closed, Connected}
-use Rattle.dcsctp_machine.specs.declared.snapshot.HandoverCapabilities.{HandoverCapabilities}
-use Rattle.dcsctp_machine.specs.declared.snapshot.HandoverOutgoingStream.{HandoverOutgoingStream}
-use Rattle.dcsctp_machine.specs.declared.snapshot.HandoverOrderedStream.{HandoverOrderedStream}
-use Rattle.dcsctp_machine.specs.declared.snapshot.HandoverUnorderedStream.{HandoverUnorderedStream}
-use Rattle.dcsctp_machine.specs.SnapshotItems.{QueuedPart, OutstandingPart}
-use Rattle.dcsctp_machine.specs.Snapshot.{SendPart, ReceivePart, Snapshot}
+use Rattle.dcsctp_types.specs.declared.snapshot.HandoverSocketState.{HandoverSocketState}
+use Rattle.dcsctp_types.specs.declared.snapshot.HandoverSocketState.TheVariants.{Closed, Connected}
+use Rattle.dcsctp_types.specs.declared.snapshot.HandoverCapabilities.{HandoverCapabilities}
+use Rattle.dcsctp_types.specs.declared.snapshot.HandoverOutgoingStream.{HandoverOutgoingStream}
+use Rattle.dcsctp_types.specs.declared.snapshot.HandoverOrderedStream.{HandoverOrderedStream}
+use Rattle.dcsctp_types.specs.declared.snapshot.HandoverUnorderedStream.{HandoverUnorderedStream}
+use Rattle.dcsctp_types.specs.SnapshotItems.{QueuedPart, OutstandingPart}
+use Rattle.dcsctp_types.specs.Snapshot.{SendPart, ReceivePart, Snapshot}
 use Rattle.dcsctp_snapshot_bytes.specs.Fields.{number_bytes, signed_bytes, flag_bytes, payload_bytes, optional_bytes, list_bytes}
 
 -- "dcSn", for a snapshot of dcsctp

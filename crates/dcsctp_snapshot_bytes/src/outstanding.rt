@@ -1,7 +1,7 @@
 //! What was sent under one TSN, as bytes.
 
 ghost use Rattle.std.specs.Prelude.{◌≡◌, ◌++◌, OnOk};
-ghost use Rattle.dcsctp_machine.specs.SnapshotItems.{OutstandingPart, outstanding_part};
+ghost use Rattle.dcsctp_types.specs.SnapshotItems.{OutstandingPart, outstanding_part};
 ghost use Rattle.dcsctp_snapshot_bytes.specs.Spelling.{fragment_bytes, sending_bytes, outstanding_bytes};
 ghost use Rattle.dcsctp_snapshot_bytes.specs.ReadingItems.{fragment_numbers_at, fragment_flags_at, fragment_limits_at, fragment_fate_at, outstanding_at};
 ghost use Rattle.dcsctp_snapshot_bytes.specs.Fits.{FitsFragment, FitsSending, FitsOutstanding};
@@ -12,7 +12,7 @@ use crate::reader::{ReadError, Reader};
 use crate::writer::{
     write_flag, write_i32, write_optional_i32, write_payload, write_u16, write_u32, write_u64,
 };
-use dcsctp_machine::HandoverOutstandingData;
+use dcsctp_types::HandoverOutstandingData;
 use std::alloc::{AllocError, Global};
 
 // Which fragment it is.

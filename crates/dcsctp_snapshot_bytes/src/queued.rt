@@ -1,7 +1,7 @@
 //! A message that waits, or of which a part was sent, as bytes.
 
 ghost use Rattle.std.specs.Prelude.{◌≡◌, ◌++◌, OnOk};
-ghost use Rattle.dcsctp_machine.specs.SnapshotItems.{QueuedPart, queued_part};
+ghost use Rattle.dcsctp_types.specs.SnapshotItems.{QueuedPart, queued_part};
 ghost use Rattle.dcsctp_snapshot_bytes.specs.Spelling.{queued_bytes};
 ghost use Rattle.dcsctp_snapshot_bytes.specs.ReadingItems.{limits_at, progress_at, queued_at};
 ghost use Rattle.dcsctp_snapshot_bytes.specs.Fits.{FitsQueued};
@@ -13,7 +13,7 @@ use crate::writer::{
     write_flag, write_optional_i32, write_optional_u16, write_optional_u32, write_payload,
     write_u16, write_u32, write_u64,
 };
-use dcsctp_machine::HandoverStreamMessage;
+use dcsctp_types::HandoverStreamMessage;
 use std::alloc::{AllocError, Global};
 
 // How long a message is tried, and its names.

@@ -1,7 +1,7 @@
 //! All that concerns receiving, as bytes.
 
 ghost use Rattle.std.specs.Prelude.{◌≡◌, ◌++◌, OnOk};
-ghost use Rattle.dcsctp_machine.specs.Snapshot.{received_part};
+ghost use Rattle.dcsctp_types.specs.Snapshot.{received_part};
 ghost use Rattle.dcsctp_snapshot_bytes.specs.Spelling.{received_bytes};
 ghost use Rattle.dcsctp_snapshot_bytes.specs.Reading.{receive_numbers_at, received_at};
 ghost use Rattle.dcsctp_snapshot_bytes.specs.Fits.{FitsReceived};
@@ -10,7 +10,7 @@ ghost use Rattle.dcsctp_snapshot_bytes.specs.Gives.{Reads};
 use crate::element::{read_list, write_list};
 use crate::reader::{ReadError, Reader};
 use crate::writer::{write_flag, write_u32};
-use dcsctp_machine::HandoverReceive;
+use dcsctp_types::HandoverReceive;
 use std::alloc::{AllocError, Global};
 
 // How far receiving is.

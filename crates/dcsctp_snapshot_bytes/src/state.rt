@@ -2,7 +2,7 @@
 
 ghost use Rattle.std.specs.Prelude.{◌≡◌, ◌++◌, OnOk, IfOk, IfSome, MatchResult, Some};
 ghost use Rattle.std.specs.Option.{option_map};
-ghost use Rattle.dcsctp_machine.specs.Snapshot.{snapshot};
+ghost use Rattle.dcsctp_types.specs.Snapshot.{snapshot};
 ghost use Rattle.dcsctp_snapshot_bytes.specs.Spelling.{capabilities_bytes, snapshot_bytes};
 ghost use Rattle.dcsctp_snapshot_bytes.specs.Reading.{capabilities_at, tags_at, content_at, after_header, read_snapshot};
 ghost use Rattle.dcsctp_snapshot_bytes.specs.Fits.{FitsCapabilities, FitsSnapshot};
@@ -12,7 +12,7 @@ use crate::reader::{ReadError, Reader};
 use crate::receive::{read_receive, write_receive};
 use crate::transmission::{read_transmission, write_transmission};
 use crate::writer::{write_flag, write_u16, write_u32, write_u64};
-use dcsctp_machine::{HandoverCapabilities, HandoverSocketState, SocketHandoverState};
+use dcsctp_types::{HandoverCapabilities, HandoverSocketState, SocketHandoverState};
 use std::alloc::{AllocError, Global};
 
 /// `dcSn`, with which each snapshot begins.

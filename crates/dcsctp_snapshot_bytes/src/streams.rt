@@ -1,9 +1,9 @@
 //! The streams of a snapshot, as bytes.
 
 ghost use Rattle.std.specs.Prelude.{◌≡◌, ◌++◌, OnOk};
-ghost use Rattle.dcsctp_machine.specs.declared.snapshot.HandoverOutgoingStream.{HandoverOutgoingStream as OutgoingPart};
-ghost use Rattle.dcsctp_machine.specs.declared.snapshot.HandoverOrderedStream.{HandoverOrderedStream as OrderedPart};
-ghost use Rattle.dcsctp_machine.specs.declared.snapshot.HandoverUnorderedStream.{HandoverUnorderedStream as UnorderedPart};
+ghost use Rattle.dcsctp_types.specs.declared.snapshot.HandoverOutgoingStream.{HandoverOutgoingStream as OutgoingPart};
+ghost use Rattle.dcsctp_types.specs.declared.snapshot.HandoverOrderedStream.{HandoverOrderedStream as OrderedPart};
+ghost use Rattle.dcsctp_types.specs.declared.snapshot.HandoverUnorderedStream.{HandoverUnorderedStream as UnorderedPart};
 ghost use Rattle.dcsctp_snapshot_bytes.specs.Spelling.{outgoing_bytes, ordered_bytes, unordered_bytes};
 ghost use Rattle.dcsctp_snapshot_bytes.specs.ReadingItems.{outgoing_at, ordered_at, unordered_at};
 ghost use Rattle.dcsctp_snapshot_bytes.specs.Fits.{FitsOutgoing, FitsOrdered, FitsUnordered};
@@ -12,7 +12,7 @@ ghost use Rattle.dcsctp_snapshot_bytes.specs.Gives.{Reads};
 use crate::element::Element;
 use crate::reader::{ReadError, Reader};
 use crate::writer::{write_u16, write_u32};
-use dcsctp_machine::{HandoverOrderedStream, HandoverOutgoingStream, HandoverUnorderedStream};
+use dcsctp_types::{HandoverOrderedStream, HandoverOutgoingStream, HandoverUnorderedStream};
 use std::alloc::{AllocError, Global};
 
 impl Element for HandoverOutgoingStream {

@@ -1,7 +1,7 @@
 //! All that concerns sending, as bytes.
 
 ghost use Rattle.std.specs.Prelude.{◌≡◌, ◌++◌, OnOk};
-ghost use Rattle.dcsctp_machine.specs.Snapshot.{send_part};
+ghost use Rattle.dcsctp_types.specs.Snapshot.{send_part};
 ghost use Rattle.dcsctp_snapshot_bytes.specs.Spelling.{send_bytes};
 ghost use Rattle.dcsctp_snapshot_bytes.specs.Reading.{windows_at, send_progress_at, send_at};
 ghost use Rattle.dcsctp_snapshot_bytes.specs.Fits.{FitsSend};
@@ -10,7 +10,7 @@ ghost use Rattle.dcsctp_snapshot_bytes.specs.Gives.{Reads};
 use crate::element::{read_list, write_list};
 use crate::reader::{ReadError, Reader};
 use crate::writer::{write_u32, write_u64};
-use dcsctp_machine::HandoverTransmission;
+use dcsctp_types::HandoverTransmission;
 use std::alloc::{AllocError, Global};
 
 // The next numbers, and the windows.

@@ -2,8 +2,8 @@
 
 use crate::bytes::{EMPTY, FULL};
 use crate::states::full;
-use dcsctp_machine::{HandoverCapabilities, SocketHandoverState};
 use dcsctp_snapshot_bytes::{from_bytes, to_bytes};
+use dcsctp_types::{HandoverCapabilities, SocketHandoverState};
 use std::alloc::Global;
 use std::process::Abort;
 

@@ -1,6 +1,6 @@
 //! The snapshot whose bytes `bytes::FULL` are.
 
-use dcsctp_machine::{
+use dcsctp_types::{
     HandoverCapabilities, HandoverOrderedStream, HandoverOutgoingStream, HandoverOutstandingData,
     HandoverReceive, HandoverSocketState, HandoverStreamMessage, HandoverTransmission,
     HandoverUnorderedStream, SocketHandoverState,

@@ -1,28 +1,28 @@
 -- Calls, by what their socket answers.
 use Rattle.std.proofs.Common.{◌≡◌, ℕ, Bool, true, false, List, [], ◌∷◌, sym, ap, subst, ◌∙◌, Result, Ok, Err, map}
 use Rattle.rand_core.specs.Stream.{Stream}
-use Rattle.dcsctp_machine.specs.control.Acts.{abort_with}
-use Rattle.dcsctp_api.specs.declared.errors.SocketFault.{SocketFault}
-use Rattle.dcsctp_api.specs.Calls.{UserView, Connects, Follows, FailsWhole, Closes, RanOut}
+use Rattle.dcsctp_core.specs.spec.association.Acts.{abort_with}
+use Rattle.dcsctp_core.specs.api.declared.errors.SocketFault.{SocketFault}
+use Rattle.dcsctp_core.specs.api.Calls.{UserView, Connects, Follows, FailsWhole, Closes, RanOut}
 use Rattle.dcsctp_core.specs.declared.context.Context.{Context}
 use Rattle.dcsctp_core.specs.View.{View, view_of, call_start}
 use Rattle.dcsctp_socket_calls.specs.Parts.{WorksConnect, CallMoved, CallCut, ActTurns, WorksCall}
 use Rattle.dcsctp_socket.specs.SocketView.{Settles, user_view_of}
-use Rattle.dcsctp_machine.specs.declared.ends.AbortReason.TheVariants.{CloseCalled}
-use Rattle.dcsctp_machine.specs.declared.message.SendOptions.{SendOptions}
-use Rattle.dcsctp_machine.specs.transfer.Messages.{MessageContent}
-use Rattle.dcsctp_machine.specs.Endpoint.{Endpoint}
-use Rattle.dcsctp_machine.specs.CallTurns.{Turned}
-use Rattle.dcsctp_machine.specs.turns.MessageOutcomes.{sending_of}
-use Rattle.dcsctp_api.specs.declared.errors.BatchSendError.{BatchSendError}
-use Rattle.dcsctp_api.specs.declared.errors.HandoverError.{HandoverError}
-use Rattle.dcsctp_machine.specs.declared.snapshot.SocketHandoverState.{SocketHandoverState}
-use Rattle.dcsctp_api.specs.Handover.{HandsOver}
+use Rattle.dcsctp_core.specs.types.declared.ends.AbortReason.TheVariants.{CloseCalled}
+use Rattle.dcsctp_core.specs.types.declared.message.SendOptions.{SendOptions}
+use Rattle.dcsctp_core.specs.types.queues.Messages.{MessageContent}
+use Rattle.dcsctp_core.specs.spec.endpoint.Endpoint.{Endpoint}
+use Rattle.dcsctp_core.specs.spec.endpoint.CallTurns.{Turned}
+use Rattle.dcsctp_core.specs.spec.endpoint.MessageOutcomes.{sending_of}
+use Rattle.dcsctp_core.specs.api.declared.errors.BatchSendError.{BatchSendError}
+use Rattle.dcsctp_core.specs.api.declared.errors.HandoverError.{HandoverError}
+use Rattle.dcsctp_core.specs.types.declared.snapshot.SocketHandoverState.{SocketHandoverState}
+use Rattle.dcsctp_core.specs.api.Handover.{HandsOver}
 use Rattle.dcsctp_socket_calls.specs.HandoverParts.{HandoverTurns, WorksHandover}
-use Rattle.dcsctp_api.specs.declared.errors.ResetStreamsError.{ResetStreamsError}
-use Rattle.dcsctp_api.specs.declared.errors.SendError.{SendError}
-use Rattle.dcsctp_api.specs.Messages.{Sends, SendsMany}
-use Rattle.dcsctp_api.specs.Resets.{ResetsOwn}
+use Rattle.dcsctp_core.specs.api.declared.errors.ResetStreamsError.{ResetStreamsError}
+use Rattle.dcsctp_core.specs.api.declared.errors.SendError.{SendError}
+use Rattle.dcsctp_core.specs.api.Messages.{Sends, SendsMany}
+use Rattle.dcsctp_core.specs.api.Resets.{ResetsOwn}
 use Rattle.dcsctp_socket_calls.specs.MessageParts.{SendTurns, WorksSend, WorksSendMany}
 use Rattle.dcsctp_socket_calls.specs.ResetParts.{ResetTurns, WorksReset}
 

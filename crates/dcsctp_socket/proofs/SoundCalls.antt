@@ -2,26 +2,28 @@
 -- an allocation fails.
 use Rattle.std.proofs.Common.{◌≡◌, ℕ, max, Bool, true, false, Result, Ok, Err, Option, List, [], ◌∷◌, refl, sym, subst}
 use Rattle.rand_core.specs.Stream.{Stream}
-use Rattle.dcsctp_machine.specs.declared.ends.AbortReason.TheVariants.{CloseCalled}
-use Rattle.dcsctp_machine.specs.declared.message.SendOptions.{SendOptions}
-use Rattle.dcsctp_machine.specs.declared.snapshot.SocketHandoverState.{SocketHandoverState}
-use Rattle.dcsctp_machine.specs.CallTurns.{Turned, turned, after_all}
-use Rattle.dcsctp_machine.specs.Turn.{clock_at, user_sets, user_takes}
-use Rattle.dcsctp_machine.specs.declared.message.Message.{Message}
-use Rattle.dcsctp_machine.specs.Endpoint.{Endpoint}
-use Rattle.dcsctp_machine.specs.Schedule.{CallContent, connect_call, close_call, shutdown_call, advance_call, set_call, send_call, send_many_call, reset_call, take_call, hand_over_call}
-use Rattle.dcsctp_machine.specs.Snapshot.{Snapshot, is_valid_snapshot}
-use Rattle.dcsctp_machine.specs.Sockets.{UserTurns}
-use Rattle.dcsctp_machine.specs.Soundness.{IsSound, CallsKeepSoundness}
-use Rattle.dcsctp_machine.specs.control.Acts.{shut_down, abort_with}
-use Rattle.dcsctp_machine.specs.transfer.Messages.{MessageContent}
-use Rattle.dcsctp_machine.specs.turns.SettingOutcomes.{Setting, endpoint_with, setting_outcome}
-use Rattle.dcsctp_api.specs.declared.errors.SocketFault.{SocketFault}
-use Rattle.dcsctp_api.specs.declared.errors.BatchSendError.{BatchSendError}
-use Rattle.dcsctp_api.specs.declared.errors.HandoverError.{HandoverError}
-use Rattle.dcsctp_api.specs.declared.errors.ResetStreamsError.{ResetStreamsError}
-use Rattle.dcsctp_api.specs.declared.errors.RestoreError.{RestoreError}
-use Rattle.dcsctp_api.specs.declared.errors.SendError.{SendError}
+use Rattle.dcsctp_core.specs.types.declared.ends.AbortReason.TheVariants.{CloseCalled}
+use Rattle.dcsctp_core.specs.types.declared.message.SendOptions.{SendOptions}
+use Rattle.dcsctp_core.specs.types.declared.snapshot.SocketHandoverState.{SocketHandoverState}
+use Rattle.dcsctp_core.specs.spec.endpoint.CallTurns.{Turned, turned, after_all}
+use Rattle.dcsctp_core.specs.spec.endpoint.Turn.{clock_at, user_sets, user_takes}
+use Rattle.dcsctp_core.specs.types.declared.message.Message.{Message}
+use Rattle.dcsctp_core.specs.spec.endpoint.Endpoint.{Endpoint}
+use Rattle.dcsctp_core.specs.types.Schedule.{CallContent, connect_call, close_call, shutdown_call, advance_call, set_call, send_call, send_many_call, reset_call, take_call, hand_over_call}
+use Rattle.dcsctp_core.specs.types.Snapshot.{Snapshot, is_valid_snapshot}
+use Rattle.dcsctp_core.specs.spec.endpoint.UserTurns.{UserTurns}
+use Rattle.dcsctp_core.specs.spec.Soundness.{IsSound}
+use Rattle.dcsctp_spec_laws.specs.SoundnessLaws.{CallsKeepSoundness}
+use Rattle.dcsctp_core.specs.spec.association.Acts.{shut_down, abort_with}
+use Rattle.dcsctp_core.specs.types.queues.Messages.{MessageContent}
+use Rattle.dcsctp_core.specs.types.Setting.{Setting}
+use Rattle.dcsctp_core.specs.spec.endpoint.SettingOutcomes.{endpoint_with, setting_outcome}
+use Rattle.dcsctp_core.specs.api.declared.errors.SocketFault.{SocketFault}
+use Rattle.dcsctp_core.specs.api.declared.errors.BatchSendError.{BatchSendError}
+use Rattle.dcsctp_core.specs.api.declared.errors.HandoverError.{HandoverError}
+use Rattle.dcsctp_core.specs.api.declared.errors.ResetStreamsError.{ResetStreamsError}
+use Rattle.dcsctp_core.specs.api.declared.errors.RestoreError.{RestoreError}
+use Rattle.dcsctp_core.specs.api.declared.errors.SendError.{SendError}
 use Rattle.dcsctp_core.specs.declared.context.Context.{Context}
 use Rattle.dcsctp_core.specs.View.{View, view_of, endpoint_of, call_start, CallMoves}
 use Rattle.dcsctp_socket.specs.SocketView.{Settles}

@@ -1,4 +1,4 @@
 pub mod SocketView
-pub use Rattle.dcsctp_api.specs.Calls
-pub use Rattle.dcsctp_machine.specs.Endpoint
-pub use Rattle.dcsctp_machine.specs.Settings
+pub use Rattle.dcsctp_core.specs.api.Calls
+pub use Rattle.dcsctp_core.specs.spec.endpoint.Endpoint
+pub use Rattle.dcsctp_core.specs.types.Settings

@@ -1,10 +1,10 @@
 -- What a socket is: its view in the machine, and whether an allocation failed.
 use Rattle.std.specs.Prelude.{◌≡◌, Bool, true, false, Result, Ok, Err, []}
-use Rattle.dcsctp_machine.specs.declared.options.Options.{Options}
-use Rattle.dcsctp_machine.specs.Endpoint.{fresh_endpoint}
-use Rattle.dcsctp_api.specs.declared.errors.SocketFault.{SocketFault}
-use Rattle.dcsctp_api.specs.declared.errors.SocketFault.TheVariants.{OutOfMemory}
-use Rattle.dcsctp_api.specs.Calls.{UserView}
+use Rattle.dcsctp_core.specs.types.declared.options.Options.{Options}
+use Rattle.dcsctp_core.specs.spec.endpoint.Endpoint.{fresh_endpoint}
+use Rattle.dcsctp_core.specs.api.declared.errors.SocketFault.{SocketFault}
+use Rattle.dcsctp_core.specs.api.declared.errors.SocketFault.TheVariants.{OutOfMemory}
+use Rattle.dcsctp_core.specs.api.Calls.{UserView}
 use Rattle.dcsctp_core.specs.View.{View}
 
 pub record SocketView (R : Type 0) : Type 0 where

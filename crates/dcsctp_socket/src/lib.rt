@@ -39,8 +39,7 @@
 
 mod socket;
 
-pub use dcsctp_api as api;
-pub use dcsctp_api::{
+pub use dcsctp_core::api::{
     Association, BatchSendError, Capabilities, DcSctpSocket, ErrorKind, Events, HandoverError,
     HandoverReadiness, Held, LifecycleId, Message, Metrics, Options, Pair, Phase, PpId,
     ReconfigurationResponseResult, ResetStreamsError, RestoreError, SctpImplementation, SendError,
@@ -48,5 +47,5 @@ pub use dcsctp_api::{
     ZERO_CHECKSUM_ALTERNATE_ERROR_DETECTION_METHOD_LOWER_LAYER_DTLS,
     ZERO_CHECKSUM_ALTERNATE_ERROR_DETECTION_METHOD_NONE, ZeroChecksumAlternateErrorDetectionMethod,
 };
-pub use dcsctp_core::{Context, State, TransmissionControlBlock, TxErrorCounter};
+pub use dcsctp_core::{Context, State, TransmissionControlBlock, TxErrorCounter, api};
 pub use socket::Socket;

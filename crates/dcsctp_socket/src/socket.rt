@@ -2,14 +2,14 @@
 
 ghost use Rattle.dcsctp_socket.specs.SocketView.{Settles};
 
-use dcsctp_api::handover::SocketHandoverState;
-use dcsctp_api::{
+use dcsctp_core::api::handover::SocketHandoverState;
+use dcsctp_core::api::{
     Association, BatchSendError, DcSctpSocket, HandoverError, HandoverReadiness, Message, Metrics,
     Options, Pair, ResetStreamsError, RestoreError, SendError, SendOptions, SocketEvent,
     SocketFault, SocketState, SocketTime, StreamId, Word,
 };
 use dcsctp_core::{Context, Deadlines, is_quiet, list_deadlines, poll_timeout};
-use dcsctp_machine::{calls_keep_soundness, time_passes_quietly};
+use dcsctp_spec_laws::{calls_keep_soundness, time_passes_quietly};
 use rand_core::Rng;
 use std::alloc::{AllocError, Global};
 use std::marker::Model;
@@ -42,7 +42,7 @@ impl<R: Drop> Drop for Socket<R> {
 
 impl<R> Model for Socket<R> {
     ghost use Rattle.std.specs.Prelude.{◌≡◌, false};
-    ghost use Rattle.dcsctp_machine.specs.Soundness.{IsSound};
+    ghost use Rattle.dcsctp_core.specs.spec.Soundness.{IsSound};
     ghost use Rattle.dcsctp_core.specs.Timeout.{IsTold};
     ghost use Rattle.dcsctp_core.specs.View.{endpoint_of, view_of};
     ghost use Rattle.dcsctp_socket.specs.SocketView.{SocketView};
@@ -71,8 +71,8 @@ fn settled<T>(failed: &mut bool, outcome: Result<T, AllocError>) -> Result<T, So
 
 impl<R: Rng + Drop> Socket<R> {
     ghost use Rattle.std.specs.Prelude.{◌≡◌, IfOk, IsOkUnless};
-    ghost use Rattle.dcsctp_machine.specs.Endpoint.{association_of, own_tag};
-    ghost use Rattle.dcsctp_machine.specs.Settings.{IsValid};
+    ghost use Rattle.dcsctp_core.specs.spec.endpoint.Endpoint.{association_of, own_tag};
+    ghost use Rattle.dcsctp_core.specs.types.Settings.{IsValid};
     ghost use Rattle.dcsctp_socket.specs.SocketView.{fresh_socket};
 
     /// Makes a closed socket, at moment zero. Random words come from `rng`; `name` has no effect.
@@ -146,19 +146,19 @@ impl<R: Rng + Drop> Socket<R> {
 
 impl<R: Rng + Drop> DcSctpSocket for Socket<R> {
     ghost use Rattle.std.specs.Prelude.{◌≡◌, ◌≢◌, ◌<◌, [], true, false, None, map, IsOk, OnOk, IsErrOf};
-    ghost use Rattle.dcsctp_api.specs.Calls.{PollsEvent, HandlesInput, Connects, Closes, ShutsDown, takes_shutdown, Sets, with_setting, is_closed};
-    ghost use Rattle.dcsctp_machine.specs.turns.PreparedResets.{reset_refusal};
-    ghost use Rattle.dcsctp_machine.specs.turns.SettingOutcomes.{stream_priority, stream_low_threshold, longest_message};
-    ghost use Rattle.dcsctp_machine.specs.TimeTurns.{Waits, next_moment};
-    ghost use Rattle.dcsctp_api.specs.Time.{Advances, OnlyMovesClock};
-    ghost use Rattle.dcsctp_api.specs.Handover.{HandsOver, Restores};
-    ghost use Rattle.dcsctp_machine.specs.Handover.{readiness_of};
-    ghost use Rattle.dcsctp_machine.specs.Snapshot.{snapshot, is_valid_snapshot};
-    ghost use Rattle.dcsctp_machine.specs.Sockets.{inputs_of_restore};
-    ghost use Rattle.dcsctp_api.specs.Messages.{Sends, SendsMany, TakesNext};
-    ghost use Rattle.dcsctp_api.specs.Resets.{ResetsOwn};
-    ghost use Rattle.dcsctp_machine.specs.Ids.{stream_numbers};
-    ghost use Rattle.dcsctp_machine.specs.transfer.Messages.{message_content};
+    ghost use Rattle.dcsctp_core.specs.api.Calls.{PollsEvent, HandlesInput, Connects, Closes, ShutsDown, takes_shutdown, Sets, with_setting, is_closed};
+    ghost use Rattle.dcsctp_core.specs.spec.endpoint.PreparedResets.{reset_refusal};
+    ghost use Rattle.dcsctp_core.specs.types.Setting.{stream_priority, stream_low_threshold, longest_message};
+    ghost use Rattle.dcsctp_core.specs.spec.endpoint.TimeTurns.{Waits, next_moment};
+    ghost use Rattle.dcsctp_core.specs.api.Time.{Advances, OnlyMovesClock};
+    ghost use Rattle.dcsctp_core.specs.api.Handover.{HandsOver, Restores};
+    ghost use Rattle.dcsctp_core.specs.spec.Handover.{readiness_of};
+    ghost use Rattle.dcsctp_core.specs.types.Snapshot.{snapshot, is_valid_snapshot};
+    ghost use Rattle.dcsctp_core.specs.spec.HandoverInputs.{inputs_of_restore};
+    ghost use Rattle.dcsctp_core.specs.api.Messages.{Sends, SendsMany, TakesNext};
+    ghost use Rattle.dcsctp_core.specs.api.Resets.{ResetsOwn};
+    ghost use Rattle.dcsctp_core.specs.types.Ids.{stream_numbers};
+    ghost use Rattle.dcsctp_core.specs.types.queues.Messages.{message_content};
     ghost use Rattle.dcsctp_core.specs.View.{Drawn};
     ghost use Rattle.dcsctp_socket.specs.SocketView.{user_view_of};
 
@@ -444,7 +444,7 @@ impl<R: Rng + Drop> DcSctpSocket for Socket<R> {
     }
 
     fn get_stream_priority(&self, stream_id: StreamId) -> u16 {
-        self.context.send_queue.priority(stream_id)
+        self.context.send_queue.get_priority(stream_id)
     }
 
     fn buffered_amount(&self, stream_id: StreamId) -> usize {

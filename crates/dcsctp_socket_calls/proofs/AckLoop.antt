@@ -3,18 +3,18 @@ use Rattle.std.proofs.Common.{◌≡◌, ℕ, ◌+◌, ◌<◌, Bool, true, fals
 use Rattle.std.specs.List.{AllByRecursion}
 use Rattle.std.proofs.lemmas.List.{take-append-drop}
 use Rattle.std.proofs.Math.Seq.{take-append_seam}
-use Rattle.dcsctp_wire.specs.declared.chunk.Chunk.{Chunk}
-use Rattle.dcsctp_wire.specs.declared.chunk.Chunk.TheVariants as kinds
-use Rattle.dcsctp_wire.specs.Content.{chunk_content}
-use Rattle.dcsctp_machine.specs.Packet.{Packet, Content, init, init_ack, cookie_echo, cookie_ack, re_config, abort, shutdown, shutdown_ack, shutdown_complete, plain, content_in}
-use Rattle.dcsctp_machine.specs.declared.association.Pair.{Pair}
-use Rattle.dcsctp_machine.specs.declared.association.Held.{Held}
-use Rattle.dcsctp_machine.specs.Endpoint.{Endpoint, Core, closed, cookie_wait, cookie_echoed, open_in, OpenPhase}
-use Rattle.dcsctp_machine.specs.Following.{next_chunk}
-use Rattle.dcsctp_machine.specs.Admission.{shutdown_acks_alone, shutdown_acks_in, admitted_where, admits_by, admits}
-use Rattle.dcsctp_machine.specs.CallTurns.{Turned, ChunkTurns, after_all}
-use Rattle.dcsctp_machine.proofs.TurnLemmas.{GoOn, further, and_further}
-use Rattle.dcsctp_core_shutdown.specs.Shutdown.{is_open}
+use Rattle.dcsctp_core.specs.wire.declared.chunk.Chunk.{Chunk}
+use Rattle.dcsctp_core.specs.wire.declared.chunk.Chunk.TheVariants as kinds
+use Rattle.dcsctp_core.specs.wire.Content.{chunk_content}
+use Rattle.dcsctp_core.specs.spec.Packet.{Packet, Content, init, init_ack, cookie_echo, cookie_ack, re_config, abort, shutdown, shutdown_ack, shutdown_complete, plain, content_in}
+use Rattle.dcsctp_core.specs.types.declared.association.Pair.{Pair}
+use Rattle.dcsctp_core.specs.types.declared.association.Held.{Held}
+use Rattle.dcsctp_core.specs.spec.endpoint.Endpoint.{Endpoint, Core, closed, cookie_wait, cookie_echoed, open_in, OpenPhase}
+use Rattle.dcsctp_core.specs.spec.endpoint.Following.{next_chunk}
+use Rattle.dcsctp_core.specs.spec.Admission.{shutdown_acks_alone, shutdown_acks_in, admitted_where, admits_by, admits}
+use Rattle.dcsctp_core.specs.spec.endpoint.CallTurns.{Turned, ChunkTurns, after_all}
+use Rattle.dcsctp_spec_laws.proofs.TurnLemmas.{GoOn, further, and_further}
+use Rattle.dcsctp_core_ends.specs.Shutdown.{is_open}
 use Rattle.dcsctp_socket_calls.proofs.ChunkLoop.{contents_of, contents_append, contents_more}
 
 -- ---- where they are worked alone

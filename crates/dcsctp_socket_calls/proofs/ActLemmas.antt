@@ -2,14 +2,14 @@
 use Rattle.std.proofs.Common.{◌≡◌, ℕ, List, [], ◌∷◌, map, take, drop, refl, sym, ap, subst, ◌∙◌}
 use Rattle.std.proofs.lemmas.List.{append-nil, take-append-drop}
 use Rattle.rand_core.specs.Stream.{Stream}
-use Rattle.dcsctp_machine.specs.Settings.{ports_of}
-use Rattle.dcsctp_machine.specs.Event.{Event}
-use Rattle.dcsctp_machine.specs.Packet.{Emission}
-use Rattle.dcsctp_machine.specs.Outcome.{Outcome}
-use Rattle.dcsctp_machine.specs.Turn.{ActTurn, act_input}
-use Rattle.dcsctp_machine.specs.control.Acts.{Act}
-use Rattle.dcsctp_machine.specs.CallTurns.{Turned, turned}
-use Rattle.dcsctp_api.specs.Calls.{user_event}
+use Rattle.dcsctp_core.specs.types.Settings.{ports_of}
+use Rattle.dcsctp_core.specs.spec.endpoint.Event.{Event}
+use Rattle.dcsctp_core.specs.spec.Packet.{Emission}
+use Rattle.dcsctp_core.specs.spec.endpoint.Outcome.{Outcome}
+use Rattle.dcsctp_core.specs.spec.endpoint.Turn.{ActTurn, act_input}
+use Rattle.dcsctp_core.specs.spec.association.Acts.{Act}
+use Rattle.dcsctp_core.specs.spec.endpoint.CallTurns.{Turned, turned}
+use Rattle.dcsctp_core.specs.api.Calls.{user_event}
 use Rattle.dcsctp_core.specs.View.{View, call_start, Moves, CutTurn}
 use Rattle.dcsctp_core.proofs.Moving.{moves_one}
 use Rattle.dcsctp_socket_calls.specs.Parts.{CallMoved, CallCut, ActTurns}

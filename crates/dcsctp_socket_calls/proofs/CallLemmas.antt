@@ -2,20 +2,20 @@
 use Rattle.std.proofs.Common.{◌≡◌, ℕ, Bool, true, false, List, [], ◌∷◌, ◌++◌, map, take, drop, refl, sym, ap, subst, ◌∙◌, append_assoc, inr}
 use Rattle.std.proofs.lemmas.List.{append-nil, map-append, take-append-drop}
 use Rattle.rand_core.specs.Stream.{Stream}
-use Rattle.dcsctp_wire.specs.Content.{PacketContent}
-use Rattle.dcsctp_wire.specs.Format.{IsPacket}
-use Rattle.dcsctp_machine.specs.Settings.{Ports, ports_of, wire_options}
-use Rattle.dcsctp_machine.specs.Event.{Event}
-use Rattle.dcsctp_machine.specs.Packet.{packet_in, Emission}
-use Rattle.dcsctp_machine.specs.Admission.{Admission, shutdown_acks_alone, refused, admits}
-use Rattle.dcsctp_machine.specs.Endpoint.{Endpoint, Core}
-use Rattle.dcsctp_machine.specs.Outcome.{Outcome}
-use Rattle.dcsctp_machine.specs.Turn.{arrival, refusal, packet_ends, EndTurn, arrival_outcome, refusal_outcome, unreadable_text}
-use Rattle.dcsctp_machine.specs.CallTurns.{Turned, turned, IsTurn, after_all, AdmittedTurns, HandleInput, unreadable, readable, FirstAdmitted, CutInput, unread, read, events_of}
-use Rattle.dcsctp_api.specs.Calls.{AddsFront, user_event}
-use Rattle.dcsctp_machine.proofs.TurnLemmas.{events_of-append}
+use Rattle.dcsctp_core.specs.wire.Content.{PacketContent}
+use Rattle.dcsctp_core.specs.wire.Format.{IsPacket}
+use Rattle.dcsctp_core.specs.types.Settings.{Ports, ports_of, wire_options}
+use Rattle.dcsctp_core.specs.spec.endpoint.Event.{Event}
+use Rattle.dcsctp_core.specs.spec.Packet.{packet_in, Emission}
+use Rattle.dcsctp_core.specs.spec.Admission.{Admission, shutdown_acks_alone, refused, admits}
+use Rattle.dcsctp_core.specs.spec.endpoint.Endpoint.{Endpoint, Core}
+use Rattle.dcsctp_core.specs.spec.endpoint.Outcome.{Outcome}
+use Rattle.dcsctp_core.specs.spec.endpoint.Turn.{arrival, refusal, packet_ends, EndTurn, arrival_outcome, refusal_outcome, unreadable_text}
+use Rattle.dcsctp_core.specs.spec.endpoint.CallTurns.{Turned, turned, IsTurn, after_all, AdmittedTurns, HandleInput, unreadable, readable, FirstAdmitted, CutInput, unread, read, events_of}
+use Rattle.dcsctp_core.specs.api.Calls.{AddsFront, user_event}
+use Rattle.dcsctp_core.proofs.spec_lemmas.TurnLists.{events_of-append}
 use Rattle.dcsctp_core.specs.View.{View, call_start, Moves, MovesAll, CutTurn}
-use Rattle.dcsctp_wire.specs.declared.packet.WireOptions.{WireOptions}
+use Rattle.dcsctp_core.specs.wire.declared.packet.WireOptions.{WireOptions}
 use Rattle.dcsctp_socket_calls.specs.Parts.{MoveToEnd, ChunksMove, ChunksCut, AcksMove, PacketMoves, InputMoves, AcksCut, PacketCut, InputCut}
 use Rattle.dcsctp_core.specs.Handling.{TakesIn, CutIn}
 use Rattle.dcsctp_core.proofs.Moving.{moves_one, moves_then}

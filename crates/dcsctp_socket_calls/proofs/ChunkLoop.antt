@@ -1,16 +1,17 @@
 -- The chunks of a packet are worked one after another.
 use Rattle.std.proofs.Common.{◌≡◌, ℕ, ◌+◌, ◌<◌, List, [], ◌∷◌, ◌++◌, length, map, take, drop, get_or, refl, sym, ap, subst, ◌∙◌, append_assoc}
 use Rattle.std.proofs.lemmas.List.{take_more, take-map, map-append, take-append-drop}
-use Rattle.dcsctp_wire.specs.declared.chunk.Chunk.{Chunk}
-use Rattle.dcsctp_wire.specs.Content.{ChunkContent, chunk_content}
-use Rattle.dcsctp_machine.specs.Packet.{Content, content_in}
-use Rattle.dcsctp_machine.specs.Endpoint.{Endpoint}
-use Rattle.dcsctp_machine.specs.Outcome.{Outcome}
-use Rattle.dcsctp_machine.specs.Settings.{ports_of}
-use Rattle.dcsctp_machine.specs.Following.{packet_end, dropped_rest}
-use Rattle.dcsctp_machine.specs.Turn.{chunk_input, packet_ends, ContentTurn}
-use Rattle.dcsctp_machine.specs.CallTurns.{Turned, turned, IsTurn, ChunkTurns, FirstTurns, after_all}
-use Rattle.dcsctp_machine.proofs.TurnLemmas.{GoOn, chunk_turns-push, chunk_turns-end, chunk_turns-cut, chunk_turns-whole, content_keeps_options, same_ports, after_all-append}
+use Rattle.dcsctp_core.specs.wire.declared.chunk.Chunk.{Chunk}
+use Rattle.dcsctp_core.specs.wire.Content.{ChunkContent, chunk_content}
+use Rattle.dcsctp_core.specs.spec.Packet.{Content, content_in}
+use Rattle.dcsctp_core.specs.spec.endpoint.Endpoint.{Endpoint}
+use Rattle.dcsctp_core.specs.spec.endpoint.Outcome.{Outcome}
+use Rattle.dcsctp_core.specs.types.Settings.{ports_of}
+use Rattle.dcsctp_core.specs.spec.endpoint.Following.{packet_end, dropped_rest}
+use Rattle.dcsctp_core.specs.spec.endpoint.Turn.{chunk_input, packet_ends, ContentTurn}
+use Rattle.dcsctp_core.specs.spec.endpoint.CallTurns.{Turned, turned, IsTurn, ChunkTurns, FirstTurns, after_all}
+use Rattle.dcsctp_spec_laws.proofs.TurnLemmas.{GoOn, chunk_turns-push, chunk_turns-end, chunk_turns-cut, chunk_turns-whole, content_keeps_options, same_ports}
+use Rattle.dcsctp_core.proofs.spec_lemmas.TurnLists.{after_all-append}
 
 -- what the chunks of a packet say
 abbrev pub contents_of : List Chunk → List Content

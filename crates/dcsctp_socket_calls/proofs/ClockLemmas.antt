@@ -3,11 +3,11 @@ use Rattle.std.proofs.Common.{◌≡◌, ◌≤◌, ◌<◌, ℕ, Bool, true, fa
 use Rattle.std.proofs.lemmas.List.{append-nil}
 use Rattle.std.specs.Prelude.{nat_le}
 use Rattle.rand_core.specs.Stream.{Stream}
-use Rattle.dcsctp_machine.specs.Endpoint.{Endpoint}
-use Rattle.dcsctp_machine.specs.Outcome.{still}
-use Rattle.dcsctp_machine.specs.Turn.{time_passes, clock_at}
-use Rattle.dcsctp_machine.specs.CallTurns.{Turned, turned}
-use Rattle.dcsctp_machine.specs.TimeTurns.{Timer, timers_in, DueTurns, ExpiryThen, ExpiryTurns, TimeTurns, NoneIsDue}
+use Rattle.dcsctp_core.specs.spec.endpoint.Endpoint.{Endpoint}
+use Rattle.dcsctp_core.specs.spec.endpoint.Outcome.{still}
+use Rattle.dcsctp_core.specs.spec.endpoint.Turn.{time_passes, clock_at}
+use Rattle.dcsctp_core.specs.spec.endpoint.CallTurns.{Turned, turned}
+use Rattle.dcsctp_core.specs.spec.endpoint.TimeTurns.{Timer, timers_in, DueTurns, ExpiryThen, ExpiryTurns, TimeTurns, NoneIsDue}
 use Rattle.dcsctp_core.specs.declared.context.Context.{Context}
 use Rattle.dcsctp_core.specs.View.{View, view_of, endpoint_of, core_of, call_start, MovesAll}
 use Rattle.dcsctp_socket_calls.specs.TimeParts.{TimeMoves}

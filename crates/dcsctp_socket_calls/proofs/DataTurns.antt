@@ -1,23 +1,23 @@
 -- Behind the turns of data, COOKIE ACK and RE-CONFIG the next chunk follows.
 use Rattle.std.proofs.Common.{◌≡◌, ℕ, Bool, true, false, cond, Option, None, Some, List, [], ◌∷◌, refl, ap, ◌∙◌}
-use Rattle.dcsctp_wire.specs.Content.{SackContent}
-use Rattle.dcsctp_machine.specs.declared.association.Pair.{Pair}
-use Rattle.dcsctp_machine.specs.declared.association.Held.{Held}
-use Rattle.dcsctp_machine.specs.Event.{Event}
-use Rattle.dcsctp_machine.specs.Packet.{Emission}
-use Rattle.dcsctp_machine.specs.Reconfiguration.{ResetParameter}
-use Rattle.dcsctp_machine.specs.declared.arrivals.SkippedTo.{SkippedTo}
-use Rattle.dcsctp_machine.specs.transfer.Arrivals.{Arrival}
-use Rattle.dcsctp_machine.specs.transfer.Transfer.{Transfer}
-use Rattle.dcsctp_machine.specs.Endpoint.{Endpoint, Core, closed, cookie_wait, cookie_echoed, open_in, held_in}
-use Rattle.dcsctp_machine.specs.Following.{next_chunk}
-use Rattle.dcsctp_machine.specs.Outcome.{Outcome, quiet, sends}
-use Rattle.dcsctp_machine.specs.turns.DataOutcomes.{no_user_data_outcome, ReceiveTurn, DataWhere, DataTurn, ForwardTurn, SackWhere, SackBy, SackTurn}
-use Rattle.dcsctp_machine.specs.transfer.Acknowledging.{is_sack_valid}
-use Rattle.dcsctp_machine.specs.turns.FlushOutcomes.{Answer, first_ask, packets_allowed, draft_to, flush_answered}
-use Rattle.dcsctp_machine.specs.turns.HandshakeOutcomes.{connected_after, cookie_ack_by, CookieAckAnswers, CookieAckTurn}
-use Rattle.dcsctp_machine.specs.turns.ResetOutcomes.{responses_outcome, responses_by, ResponseAnswers, worked_in, answered_in, resets_worked, told_of, WorksResets, ResetTurn}
-use Rattle.dcsctp_machine.proofs.FlushKeeps.{flush_keeps}
+use Rattle.dcsctp_core.specs.wire.Content.{SackContent}
+use Rattle.dcsctp_core.specs.types.declared.association.Pair.{Pair}
+use Rattle.dcsctp_core.specs.types.declared.association.Held.{Held}
+use Rattle.dcsctp_core.specs.spec.endpoint.Event.{Event}
+use Rattle.dcsctp_core.specs.spec.Packet.{Emission}
+use Rattle.dcsctp_core.specs.spec.Reconfiguration.{ResetParameter}
+use Rattle.dcsctp_core.specs.types.declared.arrivals.SkippedTo.{SkippedTo}
+use Rattle.dcsctp_core.specs.spec.queues.Arrivals.{Arrival}
+use Rattle.dcsctp_core.specs.spec.queues.Transfer.{Transfer}
+use Rattle.dcsctp_core.specs.spec.endpoint.Endpoint.{Endpoint, Core, closed, cookie_wait, cookie_echoed, open_in, held_in}
+use Rattle.dcsctp_core.specs.spec.endpoint.Following.{next_chunk}
+use Rattle.dcsctp_core.specs.spec.endpoint.Outcome.{Outcome, quiet, sends}
+use Rattle.dcsctp_core.specs.spec.endpoint.DataOutcomes.{no_user_data_outcome, ReceiveTurn, DataWhere, DataTurn, ForwardTurn, SackWhere, SackBy, SackTurn}
+use Rattle.dcsctp_core.specs.spec.queues.Acknowledging.{is_sack_valid}
+use Rattle.dcsctp_core.specs.spec.endpoint.FlushOutcomes.{Answer, first_ask, packets_allowed, draft_to, flush_answered}
+use Rattle.dcsctp_core.specs.spec.endpoint.HandshakeOutcomes.{connected_after, cookie_ack_by, CookieAckAnswers, CookieAckTurn}
+use Rattle.dcsctp_core.specs.spec.endpoint.ResetOutcomes.{responses_outcome, responses_by, ResponseAnswers, worked_in, answered_in, resets_worked, told_of, WorksResets, ResetTurn}
+use Rattle.dcsctp_core.proofs.spec_lemmas.FlushKeeps.{flush_keeps}
 
 -- The next chunk follows.
 abbrev pub GoesOn : Outcome → Type 0

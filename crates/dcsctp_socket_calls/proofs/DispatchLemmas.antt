@@ -2,34 +2,34 @@
 use Rattle.std.proofs.Common.{◌≡◌, ◌==◌, ℕ, Bool, true, false, cond, Option, None, Some, List, [], ◌∷◌, refl, sym, ap, subst, ◌∙◌}
 use Rattle.std.proofs.lemmas.List.{append-nil}
 use Rattle.rand_core.specs.Stream.{Stream}
-use Rattle.dcsctp_wire.specs.declared.chunk.Chunk.{Chunk}
-use Rattle.dcsctp_wire.specs.declared.chunk.Chunk.TheVariants as kinds
-use Rattle.dcsctp_wire.specs.Content.{chunk_content, error_chunk}
-use Rattle.dcsctp_machine.specs.declared.ends.Violation.{Violation}
-use Rattle.dcsctp_machine.specs.declared.ends.AbortReason.TheVariants as reasons
-use Rattle.dcsctp_machine.specs.Cause.{Cause}
-use Rattle.dcsctp_machine.specs.Event.{Event}
-use Rattle.dcsctp_machine.specs.Packet.{Plain, Content, content_in, init, init_ack, cookie_echo, cookie_ack, re_config, abort, shutdown, shutdown_ack, shutdown_complete, plain, unknown, heartbeat, heartbeat_ack, unworked, Emission}
-use Rattle.dcsctp_wire.specs.Content.{ParameterContent}
-use Rattle.dcsctp_machine.specs.turns.HeartbeatOutcomes.{heartbeat_outcome, heartbeat_ack_outcome, answered}
+use Rattle.dcsctp_core.specs.wire.declared.chunk.Chunk.{Chunk}
+use Rattle.dcsctp_core.specs.wire.declared.chunk.Chunk.TheVariants as kinds
+use Rattle.dcsctp_core.specs.wire.Content.{chunk_content, error_chunk}
+use Rattle.dcsctp_core.specs.types.declared.ends.Violation.{Violation}
+use Rattle.dcsctp_core.specs.types.declared.ends.AbortReason.TheVariants as reasons
+use Rattle.dcsctp_core.specs.spec.endpoint.Cause.{Cause}
+use Rattle.dcsctp_core.specs.spec.endpoint.Event.{Event}
+use Rattle.dcsctp_core.specs.spec.Packet.{Plain, Content, content_in, init, init_ack, cookie_echo, cookie_ack, re_config, abort, shutdown, shutdown_ack, shutdown_complete, plain, unknown, heartbeat, heartbeat_ack, unworked, Emission}
+use Rattle.dcsctp_core.specs.wire.Content.{ParameterContent}
+use Rattle.dcsctp_core.specs.spec.endpoint.HeartbeatOutcomes.{heartbeat_outcome, heartbeat_ack_outcome, answered}
 use Rattle.dcsctp_core_heartbeat.specs.Heartbeats.{heartbeat_turn, heartbeat_ack_turn}
-use Rattle.dcsctp_machine.specs.Endpoint.{Endpoint, Core, closed, cookie_wait, cookie_echoed, open_in, OpenPhase, established, shutdown_pending, shutdown_sent, shutdown_received, shutdown_ack_sent}
-use Rattle.dcsctp_machine.specs.Outcome.{Outcome, still, quiet, sends, fits, to_peer}
-use Rattle.dcsctp_machine.specs.Following.{next_chunk, dropped_rest}
-use Rattle.dcsctp_machine.specs.Turn.{ContentTurn}
-use Rattle.dcsctp_machine.specs.CallTurns.{Turned, ChunkTurns}
-use Rattle.dcsctp_machine.specs.declared.association.Pair.{Pair}
-use Rattle.dcsctp_machine.specs.declared.association.Held.{Held}
-use Rattle.dcsctp_machine.specs.turns.EndOutcomes.{aborting_outcome, reflected_outcome}
-use Rattle.dcsctp_machine.specs.turns.ShutdownOutcomes.{is_all_acknowledged, step_by, phase_at, shutdown_outcome, shutdown_ack_outcome}
-use Rattle.dcsctp_machine.specs.turns.PlainOutcomes.{violation_at, PlainTurnBy, PlainTurn, error_outcome}
+use Rattle.dcsctp_core.specs.spec.endpoint.Endpoint.{Endpoint, Core, closed, cookie_wait, cookie_echoed, open_in, OpenPhase, established, shutdown_pending, shutdown_sent, shutdown_received, shutdown_ack_sent}
+use Rattle.dcsctp_core.specs.spec.endpoint.Outcome.{Outcome, still, quiet, sends, fits, to_peer}
+use Rattle.dcsctp_core.specs.spec.endpoint.Following.{next_chunk, dropped_rest}
+use Rattle.dcsctp_core.specs.spec.endpoint.Turn.{ContentTurn}
+use Rattle.dcsctp_core.specs.spec.endpoint.CallTurns.{Turned, ChunkTurns}
+use Rattle.dcsctp_core.specs.types.declared.association.Pair.{Pair}
+use Rattle.dcsctp_core.specs.types.declared.association.Held.{Held}
+use Rattle.dcsctp_core.specs.spec.endpoint.EndOutcomes.{aborting_outcome, reflected_outcome}
+use Rattle.dcsctp_core.specs.spec.endpoint.ShutdownOutcomes.{is_all_acknowledged, step_by, phase_at, shutdown_outcome, shutdown_ack_outcome}
+use Rattle.dcsctp_core.specs.spec.endpoint.PlainOutcomes.{violation_at, PlainTurnBy, PlainTurn, error_outcome}
 use Rattle.dcsctp_core.specs.declared.context.Context.{Context}
 use Rattle.dcsctp_core.specs.declared.following.Following.TheVariants.{NextChunk, DroppedRest}
 use Rattle.dcsctp_core.specs.View.{View, core_of, endpoint_of, view_of, Moves, MovesAll, CutTurn}
 use Rattle.dcsctp_core.specs.Handling.{TakesIn, CutIn}
 use Rattle.dcsctp_core.proofs.Moving.{moves_one}
 use Rattle.dcsctp_core_ends.specs.Ends.{violation_in, aborting_turn, error_turn}
-use Rattle.dcsctp_core_shutdown.specs.Shutdown.{is_open, reflected_turn, shutdown_turn}
+use Rattle.dcsctp_core_ends.specs.Shutdown.{is_open, reflected_turn, shutdown_turn}
 use Rattle.dcsctp_socket_calls.specs.Parts.{ChunkMoves, ChunkCut, AckMoves}
 use Rattle.dcsctp_socket_calls.specs.Unknown.{unknown_turn}
 use Rattle.dcsctp_socket_calls.proofs.AckLoop.{no_ack}

@@ -2,33 +2,33 @@
 use Rattle.std.proofs.Common.{◌≡◌, ℕ, Bool, true, false, cond, ◌||◌, Option, None, Some, List, [], ◌∷◌, ◌++◌, map, Result, Ok, Err, refl, sym, ap, subst, ◌∙◌, append_assoc}
 use Rattle.std.proofs.lemmas.List.{map-append}
 use Rattle.rand_core.specs.Stream.{Stream}
-use Rattle.dcsctp_machine.specs.Settings.{Ports, ports_of}
-use Rattle.dcsctp_machine.specs.Event.{Event}
-use Rattle.dcsctp_machine.specs.Packet.{Emission}
-use Rattle.dcsctp_machine.specs.declared.association.Held.{Held}
-use Rattle.dcsctp_machine.specs.transfer.Transfer.{Transfer}
-use Rattle.dcsctp_machine.specs.Endpoint.{Endpoint, Core, closed, cookie_wait, cookie_echoed, open_in, held_in}
-use Rattle.dcsctp_machine.specs.Outcome.{Outcome, still, fits}
-use Rattle.dcsctp_machine.specs.declared.ends.AbortReason.TheVariants.{TooManyErrors}
-use Rattle.dcsctp_machine.specs.Turn.{Input, act_input, ActTurn, Turn}
-use Rattle.dcsctp_machine.specs.control.Acts.{abort_with, shutdown_repeats, t1_expires, flushes}
-use Rattle.dcsctp_machine.specs.CallTurns.{Turned, turned, Turns, events_of}
-use Rattle.dcsctp_machine.specs.TimeTurns.{Timer, t1_timer, own_timer, t2_timer, t2_input, deadline, has_come, has_restart, expiry_input, inputs_behind, ExpiryThen, ExpiryTurns}
-use Rattle.dcsctp_machine.specs.turns.DataOutcomes.{with_transfer, flush_by, AnswersTo, FlushTurn, delay_outcome, LossTurn}
-use Rattle.dcsctp_machine.specs.turns.EndOutcomes.{aborting_outcome}
-use Rattle.dcsctp_machine.specs.turns.FlushOutcomes.{Answer, first_ask, packets_allowed, draft_to, flush_answered}
-use Rattle.dcsctp_machine.specs.turns.HandshakeOutcomes.{echo_emission, EchoAnswers}
-use Rattle.dcsctp_machine.specs.turns.HeartbeatOutcomes.{error_counted, interval_outcome, is_exhausted, timeout_outcome}
-use Rattle.dcsctp_machine.specs.turns.OwnTimers.{OwnTimer, acknowledgement_delay, retransmission, heartbeat_interval, heartbeat_timeout, reconfiguration, TimerTurn}
-use Rattle.dcsctp_machine.specs.turns.ReconfigurationOutcomes.{reconfiguration_outcome}
-use Rattle.dcsctp_machine.specs.turns.ShutdownOutcomes.{t2_again_outcome}
-use Rattle.dcsctp_machine.specs.turns.TransferMoves.{lost_all}
-use Rattle.dcsctp_machine.specs.turns.TimerOutcomes.{t1_goes_on, t1_again_by, AgainAnswers, t1_gives_up_outcome}
-use Rattle.dcsctp_machine.proofs.AnswerLemmas.{any_answers}
-use Rattle.dcsctp_machine.proofs.TurnLemmas.{events_of-append}
-use Rattle.dcsctp_machine.proofs.HeartbeatLemmas.{timer_controlled}
-use Rattle.dcsctp_machine.proofs.ControlLemmas.{acts_are_controlled}
-use Rattle.dcsctp_api.specs.Calls.{AddsFront, user_event}
+use Rattle.dcsctp_core.specs.types.Settings.{Ports, ports_of}
+use Rattle.dcsctp_core.specs.spec.endpoint.Event.{Event}
+use Rattle.dcsctp_core.specs.spec.Packet.{Emission}
+use Rattle.dcsctp_core.specs.types.declared.association.Held.{Held}
+use Rattle.dcsctp_core.specs.spec.queues.Transfer.{Transfer}
+use Rattle.dcsctp_core.specs.spec.endpoint.Endpoint.{Endpoint, Core, closed, cookie_wait, cookie_echoed, open_in, held_in}
+use Rattle.dcsctp_core.specs.spec.endpoint.Outcome.{Outcome, still, fits}
+use Rattle.dcsctp_core.specs.types.declared.ends.AbortReason.TheVariants.{TooManyErrors}
+use Rattle.dcsctp_core.specs.spec.endpoint.Turn.{Input, act_input, ActTurn, Turn}
+use Rattle.dcsctp_core.specs.spec.association.Acts.{abort_with, shutdown_repeats, t1_expires, flushes}
+use Rattle.dcsctp_core.specs.spec.endpoint.CallTurns.{Turned, turned, Turns, events_of}
+use Rattle.dcsctp_core.specs.spec.endpoint.TimeTurns.{Timer, t1_timer, own_timer, t2_timer, t2_input, deadline, has_come, has_restart, expiry_input, inputs_behind, ExpiryThen, ExpiryTurns}
+use Rattle.dcsctp_core.specs.spec.endpoint.DataOutcomes.{with_transfer, flush_by, AnswersTo, FlushTurn, delay_outcome, LossTurn}
+use Rattle.dcsctp_core.specs.spec.endpoint.EndOutcomes.{aborting_outcome}
+use Rattle.dcsctp_core.specs.spec.endpoint.FlushOutcomes.{Answer, first_ask, packets_allowed, draft_to, flush_answered}
+use Rattle.dcsctp_core.specs.spec.endpoint.HandshakeOutcomes.{echo_emission, EchoAnswers}
+use Rattle.dcsctp_core.specs.spec.endpoint.HeartbeatOutcomes.{error_counted, interval_outcome, is_exhausted, timeout_outcome}
+use Rattle.dcsctp_core.specs.spec.endpoint.OwnTimers.{OwnTimer, acknowledgement_delay, retransmission, heartbeat_interval, heartbeat_timeout, reconfiguration, TimerTurn}
+use Rattle.dcsctp_core.specs.spec.endpoint.ReconfigurationOutcomes.{reconfiguration_outcome}
+use Rattle.dcsctp_core.specs.spec.endpoint.ShutdownOutcomes.{t2_again_outcome}
+use Rattle.dcsctp_core.specs.spec.endpoint.TransferMoves.{lost_all}
+use Rattle.dcsctp_core.specs.spec.endpoint.TimerOutcomes.{t1_goes_on, t1_again_by, AgainAnswers, t1_gives_up_outcome}
+use Rattle.dcsctp_core.proofs.spec_lemmas.AnswerLemmas.{any_answers}
+use Rattle.dcsctp_core.proofs.spec_lemmas.TurnLists.{events_of-append}
+use Rattle.dcsctp_spec_laws.proofs.HeartbeatLemmas.{timer_controlled}
+use Rattle.dcsctp_spec_laws.proofs.ControlLemmas.{acts_are_controlled}
+use Rattle.dcsctp_core.specs.api.Calls.{AddsFront, user_event}
 use Rattle.dcsctp_core.specs.declared.context.Context.{Context}
 use Rattle.dcsctp_core.specs.Handling.{TakesIn, CutIn}
 use Rattle.dcsctp_core.specs.Timing.{is_timer_due, ExpiryTurn, Expires}

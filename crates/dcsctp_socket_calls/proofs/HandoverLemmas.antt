@@ -2,27 +2,28 @@
 use Rattle.std.proofs.Common.{◌≡◌, ◌≢◌, ◌⊎◌, ◌==◌, inl, inr, ℕ, zero, suc, Bool, true, false, Result, Ok, Err, List, [], ◌∷◌, ◌++◌, refl, sym, ap, subst, ◌∙◌, arith}
 use Rattle.std.proofs.lemmas.Bool.Decides.{nat_tests}
 use Rattle.rand_core.specs.Stream.{Stream}
-use Rattle.dcsctp_machine.specs.declared.snapshot.HandoverSocketState.{HandoverSocketState}
-use Rattle.dcsctp_machine.specs.declared.snapshot.HandoverSocketState.TheVariants as states
-use Rattle.dcsctp_machine.specs.declared.snapshot.SocketHandoverState.{SocketHandoverState}
-use Rattle.dcsctp_machine.specs.Endpoint.{Endpoint, Core, closed, cookie_wait, cookie_echoed, open_in}
-use Rattle.dcsctp_machine.specs.Event.{Event}
-use Rattle.dcsctp_machine.specs.Handover.{readiness_of}
-use Rattle.dcsctp_machine.specs.Outcome.{Outcome}
-use Rattle.dcsctp_machine.specs.Settings.{Ports, ports_of}
-use Rattle.dcsctp_machine.specs.Snapshot.{Snapshot, snapshot, is_valid_snapshot}
-use Rattle.dcsctp_machine.specs.SocketSnapshot.{snapshot_of}
-use Rattle.dcsctp_machine.specs.Soundness.{IsSound, IsSoundBelow, SnapshotsAreValid}
-use Rattle.dcsctp_machine.specs.Turn.{act_input, restores}
-use Rattle.dcsctp_machine.specs.control.Acts.{flushes, hands_over}
-use Rattle.dcsctp_machine.specs.turns.DataOutcomes.{FlushTurn}
-use Rattle.dcsctp_machine.specs.turns.RestoreOutcomes.{RestoreTurn}
-use Rattle.dcsctp_machine.specs.CallTurns.{Turned, turned, Turns}
-use Rattle.dcsctp_machine.specs.Sockets.{inputs_of_handover, inputs_of_snapshot, inputs_of_restore}
-use Rattle.dcsctp_api.specs.declared.errors.HandoverError.TheVariants.{NotReady}
-use Rattle.dcsctp_api.specs.declared.errors.RestoreError.TheVariants.{SocketNotClosed}
-use Rattle.dcsctp_api.specs.Calls.{AddsFront, is_closed}
-use Rattle.dcsctp_api.specs.Handover.{IsHandoverAnswer, RestoreTurns}
+use Rattle.dcsctp_core.specs.types.declared.snapshot.HandoverSocketState.{HandoverSocketState}
+use Rattle.dcsctp_core.specs.types.declared.snapshot.HandoverSocketState.TheVariants as states
+use Rattle.dcsctp_core.specs.types.declared.snapshot.SocketHandoverState.{SocketHandoverState}
+use Rattle.dcsctp_core.specs.spec.endpoint.Endpoint.{Endpoint, Core, closed, cookie_wait, cookie_echoed, open_in}
+use Rattle.dcsctp_core.specs.spec.endpoint.Event.{Event}
+use Rattle.dcsctp_core.specs.spec.Handover.{readiness_of}
+use Rattle.dcsctp_core.specs.spec.endpoint.Outcome.{Outcome}
+use Rattle.dcsctp_core.specs.types.Settings.{Ports, ports_of}
+use Rattle.dcsctp_core.specs.types.Snapshot.{Snapshot, snapshot, is_valid_snapshot}
+use Rattle.dcsctp_core.specs.spec.SocketSnapshot.{snapshot_of}
+use Rattle.dcsctp_core.specs.spec.Soundness.{IsSound, IsSoundBelow}
+use Rattle.dcsctp_spec_laws.specs.SoundnessLaws.{SnapshotsAreValid}
+use Rattle.dcsctp_core.specs.spec.endpoint.Turn.{act_input, restores}
+use Rattle.dcsctp_core.specs.spec.association.Acts.{flushes, hands_over}
+use Rattle.dcsctp_core.specs.spec.endpoint.DataOutcomes.{FlushTurn}
+use Rattle.dcsctp_core.specs.spec.endpoint.RestoreOutcomes.{RestoreTurn}
+use Rattle.dcsctp_core.specs.spec.endpoint.CallTurns.{Turned, turned, Turns}
+use Rattle.dcsctp_core.specs.spec.HandoverInputs.{inputs_of_handover, inputs_of_snapshot, inputs_of_restore}
+use Rattle.dcsctp_core.specs.api.declared.errors.HandoverError.TheVariants.{NotReady}
+use Rattle.dcsctp_core.specs.api.declared.errors.RestoreError.TheVariants.{SocketNotClosed}
+use Rattle.dcsctp_core.specs.api.Calls.{AddsFront, is_closed}
+use Rattle.dcsctp_core.specs.api.Handover.{IsHandoverAnswer, RestoreTurns}
 use Rattle.dcsctp_core.specs.View.{View, call_start, Moves, MovesAll, CallMoves}
 use Rattle.dcsctp_core.specs.Handling.{TakesIn, CutIn, FlushAt}
 use Rattle.dcsctp_core.proofs.Moving.{moves_one, moves_then}

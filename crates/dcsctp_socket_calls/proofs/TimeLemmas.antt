@@ -3,14 +3,14 @@ use Rattle.std.proofs.Common.{◌≡◌, ◌≤◌, ◌<◌, ℕ, Bool, true, Li
 use Rattle.std.proofs.lemmas.List.{append-nil}
 use Rattle.std.specs.Prelude.{nat_le}
 use Rattle.rand_core.specs.Stream.{Stream}
-use Rattle.dcsctp_machine.specs.Settings.{ports_of}
-use Rattle.dcsctp_machine.specs.Event.{Event}
-use Rattle.dcsctp_machine.specs.Endpoint.{Endpoint, Core, closed, cookie_wait, cookie_echoed, open_in}
-use Rattle.dcsctp_machine.specs.Outcome.{still}
-use Rattle.dcsctp_machine.specs.Turn.{time_passes, clock_at}
-use Rattle.dcsctp_machine.specs.CallTurns.{Turned, turned}
-use Rattle.dcsctp_machine.specs.TimeTurns.{t1_timer, timers_in, timers_told, deadlines_of, next_of, DueTurns, TimeTurns, AdvanceTurns, AwaitsNoCookieAck, NoneIsDue, Waits}
-use Rattle.dcsctp_machine.proofs.TimerLemmas.{none_is_due}
+use Rattle.dcsctp_core.specs.types.Settings.{ports_of}
+use Rattle.dcsctp_core.specs.spec.endpoint.Event.{Event}
+use Rattle.dcsctp_core.specs.spec.endpoint.Endpoint.{Endpoint, Core, closed, cookie_wait, cookie_echoed, open_in}
+use Rattle.dcsctp_core.specs.spec.endpoint.Outcome.{still}
+use Rattle.dcsctp_core.specs.spec.endpoint.Turn.{time_passes, clock_at}
+use Rattle.dcsctp_core.specs.spec.endpoint.CallTurns.{Turned, turned}
+use Rattle.dcsctp_core.specs.spec.endpoint.TimeTurns.{t1_timer, timers_in, timers_told, deadlines_of, next_of, DueTurns, TimeTurns, AdvanceTurns, AwaitsNoCookieAck, NoneIsDue, Waits}
+use Rattle.dcsctp_spec_laws.proofs.TimerLemmas.{none_is_due}
 use Rattle.dcsctp_core.specs.declared.context.Context.{Context}
 use Rattle.dcsctp_core.specs.View.{View, view_of, endpoint_of, core_of, call_start, MovesAll}
 use Rattle.dcsctp_core.proofs.Moving.{moves_then}

@@ -4,7 +4,7 @@ use Rattle.std.proofs.Math.Bool.{or_comm}
 use Rattle.std.proofs.lemmas.List.{at_drop_more, at_drop_all}
 use Rattle.std.specs.declared.alloc.AllocError.{AllocError}
 use Rattle.rand_core.specs.Stream.{Stream}
-use Rattle.dcsctp_machine.specs.TimeTurns.{Timer, timers_in, ExpiryTurns, DueTurns, NoneIsDue}
+use Rattle.dcsctp_core.specs.spec.endpoint.TimeTurns.{Timer, timers_in, ExpiryTurns, DueTurns, NoneIsDue}
 use Rattle.dcsctp_core.specs.declared.context.Context.{Context}
 use Rattle.dcsctp_core.specs.Timing.{Expires}
 use Rattle.dcsctp_core.specs.View.{View, view_of, core_of, endpoint_of}

@@ -4,19 +4,19 @@ use Rattle.std.specs.Prelude.{nat_le}
 use Rattle.std.proofs.lemmas.Bool.Decides.{nat_tests}
 use Rattle.std.proofs.lemmas.List.{append-nil, length-take}
 use Rattle.rand_core.specs.Stream.{Stream}
-use Rattle.dcsctp_wire.specs.Content.{error_chunk, unrecognized_chunk_type}
-use Rattle.dcsctp_wire.specs.Format.{padding_of}
-use Rattle.dcsctp_wire.specs.Spelling.{parameters_len, chunk_bytes, chunk_len}
-use Rattle.dcsctp_wire.proofs.Lengths.{length-chunk_bytes}
-use Rattle.dcsctp_machine.specs.declared.options.Options.{Options}
-use Rattle.dcsctp_machine.specs.declared.kinds.ErrorKind.TheVariants.{ParseFailed}
-use Rattle.dcsctp_machine.specs.Settings.{packet_size_limit, IsValid, ports_of}
-use Rattle.dcsctp_machine.specs.Event.{error}
-use Rattle.dcsctp_machine.specs.Packet.{plain}
-use Rattle.dcsctp_machine.specs.Endpoint.{Endpoint}
-use Rattle.dcsctp_machine.specs.Outcome.{Outcome, sends, reports}
-use Rattle.dcsctp_machine.specs.turns.PlainOutcomes.{unknown_text, unknown_error, unknown_report, unknown_told}
-use Rattle.dcsctp_api.specs.Calls.{user_event}
+use Rattle.dcsctp_core.specs.wire.Content.{error_chunk, unrecognized_chunk_type}
+use Rattle.dcsctp_core.specs.wire.Format.{padding_of}
+use Rattle.dcsctp_core.specs.wire.Spelling.{parameters_len, chunk_bytes, chunk_len}
+use Rattle.dcsctp_core.proofs.wire_lemmas.Lengths.{length-chunk_bytes}
+use Rattle.dcsctp_core.specs.types.declared.options.Options.{Options}
+use Rattle.dcsctp_core.specs.types.declared.kinds.ErrorKind.TheVariants.{ParseFailed}
+use Rattle.dcsctp_core.specs.types.Settings.{packet_size_limit, IsValid, ports_of}
+use Rattle.dcsctp_core.specs.spec.endpoint.Event.{error}
+use Rattle.dcsctp_core.specs.spec.Packet.{plain}
+use Rattle.dcsctp_core.specs.spec.endpoint.Endpoint.{Endpoint}
+use Rattle.dcsctp_core.specs.spec.endpoint.Outcome.{Outcome, sends, reports}
+use Rattle.dcsctp_core.specs.spec.endpoint.PlainOutcomes.{unknown_text, unknown_error, unknown_report, unknown_told}
+use Rattle.dcsctp_core.specs.api.Calls.{user_event}
 use Rattle.dcsctp_core.specs.declared.state.State.{State}
 use Rattle.dcsctp_core.specs.declared.state.State.TheVariants.{Closed, CookieWait, CookieEchoed, Open}
 use Rattle.dcsctp_core.specs.declared.transmission_control_block.TransmissionControlBlock.{TransmissionControlBlock}

@@ -1,20 +1,20 @@
 -- A packet that is worked whole: the turn that stands before its chunks, they, and its end.
 use Rattle.std.proofs.Common.{◌≡◌, ℕ, Bool, true, false, List, [], ◌∷◌, refl, ap, subst, ◌∙◌, inl, inr, Result, Ok, Err}
 use Rattle.rand_core.specs.Stream.{Stream}
-use Rattle.dcsctp_wire.specs.Content.{PacketContent}
-use Rattle.dcsctp_machine.specs.declared.association.Pair.{Pair}
-use Rattle.dcsctp_machine.specs.declared.association.Held.{Held}
-use Rattle.dcsctp_machine.specs.Settings.{ports_of}
-use Rattle.dcsctp_machine.specs.Event.{Event}
-use Rattle.dcsctp_machine.specs.Packet.{packet_in}
-use Rattle.dcsctp_machine.specs.Endpoint.{Endpoint, Core, closed, cookie_wait, cookie_echoed, open_in, OpenPhase, established, shutdown_pending, shutdown_sent, shutdown_received, shutdown_ack_sent}
-use Rattle.dcsctp_machine.specs.Outcome.{still}
-use Rattle.dcsctp_machine.specs.Turn.{packet_begins, has_data, BeginTurn}
-use Rattle.dcsctp_machine.specs.CallTurns.{Turned, turned, IsTurn, FirstTurns}
+use Rattle.dcsctp_core.specs.wire.Content.{PacketContent}
+use Rattle.dcsctp_core.specs.types.declared.association.Pair.{Pair}
+use Rattle.dcsctp_core.specs.types.declared.association.Held.{Held}
+use Rattle.dcsctp_core.specs.types.Settings.{ports_of}
+use Rattle.dcsctp_core.specs.spec.endpoint.Event.{Event}
+use Rattle.dcsctp_core.specs.spec.Packet.{packet_in}
+use Rattle.dcsctp_core.specs.spec.endpoint.Endpoint.{Endpoint, Core, closed, cookie_wait, cookie_echoed, open_in, OpenPhase, established, shutdown_pending, shutdown_sent, shutdown_received, shutdown_ack_sent}
+use Rattle.dcsctp_core.specs.spec.endpoint.Outcome.{still}
+use Rattle.dcsctp_core.specs.spec.endpoint.Turn.{packet_begins, has_data, BeginTurn}
+use Rattle.dcsctp_core.specs.spec.endpoint.CallTurns.{Turned, turned, IsTurn, FirstTurns}
 use Rattle.dcsctp_core.specs.declared.context.Context.{Context}
 use Rattle.dcsctp_core.specs.View.{View, Moves, view_of}
 use Rattle.dcsctp_core.proofs.Moving.{moves_one, moves_then}
-use Rattle.dcsctp_core_shutdown.specs.Shutdown.{where_open, repeated_in}
+use Rattle.dcsctp_core_ends.specs.Shutdown.{where_open, repeated_in}
 use Rattle.dcsctp_socket_calls.specs.Parts.{begun_by, begin_turn, ChunksToEnd, ChunksMove, WholeMoves, ChunksCut, WholeCut, WorksChunks, WorksWhole}
 use Rattle.dcsctp_socket_calls.proofs.ExpiryLemmas.{adds_behind}
 

@@ -1,15 +1,15 @@
 -- What the calls that hand a socket over and restore it do, by their parts.
 use Rattle.std.specs.Prelude.{◌≡◌, ◌⊎◌, Result, Ok, Err, List, []}
 use Rattle.rand_core.specs.Stream.{Stream}
-use Rattle.dcsctp_machine.specs.Endpoint.{Endpoint}
-use Rattle.dcsctp_machine.specs.Handover.{readiness_of}
-use Rattle.dcsctp_machine.specs.Sockets.{inputs_of_handover}
-use Rattle.dcsctp_machine.specs.CallTurns.{Turned, Turns}
-use Rattle.dcsctp_machine.specs.declared.snapshot.SocketHandoverState.{SocketHandoverState}
-use Rattle.dcsctp_api.specs.declared.errors.HandoverError.{HandoverError}
-use Rattle.dcsctp_machine.specs.Snapshot.{Snapshot}
-use Rattle.dcsctp_api.specs.declared.errors.RestoreError.{RestoreError}
-use Rattle.dcsctp_api.specs.Handover.{IsHandoverAnswer, IsRestoreAnswer, RestoreTurns}
+use Rattle.dcsctp_core.specs.spec.endpoint.Endpoint.{Endpoint}
+use Rattle.dcsctp_core.specs.spec.Handover.{readiness_of}
+use Rattle.dcsctp_core.specs.spec.HandoverInputs.{inputs_of_handover}
+use Rattle.dcsctp_core.specs.spec.endpoint.CallTurns.{Turned, Turns}
+use Rattle.dcsctp_core.specs.types.declared.snapshot.SocketHandoverState.{SocketHandoverState}
+use Rattle.dcsctp_core.specs.api.declared.errors.HandoverError.{HandoverError}
+use Rattle.dcsctp_core.specs.types.Snapshot.{Snapshot}
+use Rattle.dcsctp_core.specs.api.declared.errors.RestoreError.{RestoreError}
+use Rattle.dcsctp_core.specs.api.Handover.{IsHandoverAnswer, IsRestoreAnswer, RestoreTurns}
 use Rattle.dcsctp_core.specs.declared.context.Context.{Context}
 use Rattle.dcsctp_core.specs.View.{view_of, call_start}
 use Rattle.dcsctp_socket_calls.specs.Parts.{CallMoved, CallCut}

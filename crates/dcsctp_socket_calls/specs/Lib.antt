@@ -4,3 +4,4 @@ pub mod Parts
 pub mod ResetParts
 pub mod TimeParts
 pub mod Unknown
+pub mod Admission

@@ -1,16 +1,16 @@
 -- What the calls that send and take messages do, by their parts.
 use Rattle.std.specs.Prelude.{◌≡◌, Option, Result, Ok, Err, List, [], ◌∷◌, map, length}
 use Rattle.rand_core.specs.Stream.{Stream}
-use Rattle.dcsctp_machine.specs.declared.message.Message.{Message}
-use Rattle.dcsctp_machine.specs.declared.message.SendOptions.{SendOptions}
-use Rattle.dcsctp_machine.specs.transfer.Messages.{MessageContent}
-use Rattle.dcsctp_machine.specs.Endpoint.{Endpoint}
-use Rattle.dcsctp_machine.specs.Turn.{user_sends}
-use Rattle.dcsctp_machine.specs.turns.MessageOutcomes.{Sending, message_refusal, sending_of, refused_from}
-use Rattle.dcsctp_machine.specs.CallTurns.{Turned, Turns}
-use Rattle.dcsctp_api.specs.declared.errors.BatchSendError.{BatchSendError}
-use Rattle.dcsctp_api.specs.declared.errors.SendError.{SendError}
-use Rattle.dcsctp_api.specs.Messages.{refusal_in, IsBatchAnswer}
+use Rattle.dcsctp_core.specs.types.declared.message.Message.{Message}
+use Rattle.dcsctp_core.specs.types.declared.message.SendOptions.{SendOptions}
+use Rattle.dcsctp_core.specs.types.queues.Messages.{MessageContent}
+use Rattle.dcsctp_core.specs.spec.endpoint.Endpoint.{Endpoint}
+use Rattle.dcsctp_core.specs.spec.endpoint.Turn.{user_sends}
+use Rattle.dcsctp_core.specs.spec.endpoint.MessageOutcomes.{Sending, message_refusal, sending_of, refused_from}
+use Rattle.dcsctp_core.specs.spec.endpoint.CallTurns.{Turned, Turns}
+use Rattle.dcsctp_core.specs.api.declared.errors.BatchSendError.{BatchSendError}
+use Rattle.dcsctp_core.specs.api.declared.errors.SendError.{SendError}
+use Rattle.dcsctp_core.specs.api.Messages.{refusal_in, IsBatchAnswer}
 use Rattle.dcsctp_core.specs.declared.context.Context.{Context}
 use Rattle.dcsctp_core.specs.View.{View, view_of, call_start}
 use Rattle.dcsctp_core_messages.specs.Taking.{TakesNextOf}

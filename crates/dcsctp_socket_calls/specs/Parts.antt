@@ -2,24 +2,25 @@
 use Rattle.std.specs.Prelude.{◌≡◌, ◌⊎◌, ℕ, Bool, true, false, Result, Ok, Err, List, [], ◌∷◌, ◌++◌}
 use Rattle.std.specs.List.{AllByRecursion}
 use Rattle.rand_core.specs.Stream.{Stream}
-use Rattle.dcsctp_wire.specs.Content.{PacketContent}
-use Rattle.dcsctp_machine.specs.Admission.{admits, shutdown_acks_in}
-use Rattle.dcsctp_machine.specs.Packet.{Content, Packet, packet_in}
-use Rattle.dcsctp_machine.specs.Endpoint.{Endpoint}
-use Rattle.dcsctp_machine.specs.Following.{next_chunk}
-use Rattle.dcsctp_machine.specs.Outcome.{Outcome, still}
-use Rattle.dcsctp_machine.specs.Settings.{ports_of}
-use Rattle.dcsctp_machine.specs.Event.{Event}
-use Rattle.dcsctp_machine.specs.Turn.{ContentTurn, act_input, packet_ends, has_data}
-use Rattle.dcsctp_machine.specs.control.Acts.{Act, connect}
-use Rattle.dcsctp_machine.specs.turns.SettingOutcomes.{Setting, endpoint_with}
-use Rattle.dcsctp_machine.specs.CallTurns.{Turned, IsTurn, Turns, after_all, ChunkTurns, WholeTurns, AdmittedTurns, HandleInput, FirstTurns, FirstOfWhole, FirstAdmitted, CutInput}
-use Rattle.dcsctp_api.specs.Calls.{AddsFront}
+use Rattle.dcsctp_core.specs.wire.Content.{PacketContent}
+use Rattle.dcsctp_core.specs.spec.Admission.{admits, shutdown_acks_in}
+use Rattle.dcsctp_core.specs.spec.Packet.{Content, Packet, packet_in}
+use Rattle.dcsctp_core.specs.spec.endpoint.Endpoint.{Endpoint}
+use Rattle.dcsctp_core.specs.spec.endpoint.Following.{next_chunk}
+use Rattle.dcsctp_core.specs.spec.endpoint.Outcome.{Outcome, still}
+use Rattle.dcsctp_core.specs.types.Settings.{ports_of}
+use Rattle.dcsctp_core.specs.spec.endpoint.Event.{Event}
+use Rattle.dcsctp_core.specs.spec.endpoint.Turn.{ContentTurn, act_input, packet_ends, has_data}
+use Rattle.dcsctp_core.specs.spec.association.Acts.{Act, connect}
+use Rattle.dcsctp_core.specs.types.Setting.{Setting}
+use Rattle.dcsctp_core.specs.spec.endpoint.SettingOutcomes.{endpoint_with}
+use Rattle.dcsctp_core.specs.spec.endpoint.CallTurns.{Turned, IsTurn, Turns, after_all, ChunkTurns, WholeTurns, AdmittedTurns, HandleInput, FirstTurns, FirstOfWhole, FirstAdmitted, CutInput}
+use Rattle.dcsctp_core.specs.api.Calls.{AddsFront}
 use Rattle.dcsctp_core.specs.declared.context.Context.{Context}
 use Rattle.dcsctp_core.specs.View.{View, view_of, call_start, Moves, MovesAll, CallMoves, CutTurn}
 use Rattle.dcsctp_core.specs.declared.following.Following.{Following}
 use Rattle.dcsctp_core.specs.Handling.{following_of, OnlyDrew}
-use Rattle.dcsctp_core_shutdown.specs.Shutdown.{answer_turn}
+use Rattle.dcsctp_core_ends.specs.Shutdown.{answer_turn}
 
 -- A chunk had its turn, and this follows it.
 pub record ChunkMoves {R : Type 0} (stream : R → Stream) (tag : ℕ) (content : Content) (old : View R) (next : Following) (new : View R) : Type 0 where

@@ -1,12 +1,12 @@
 -- What the call that resets streams does, by its parts.
 use Rattle.std.specs.Prelude.{◌≡◌, ℕ, Result, Ok, Err, List, [], ◌∷◌}
 use Rattle.rand_core.specs.Stream.{Stream}
-use Rattle.dcsctp_machine.specs.Endpoint.{Endpoint}
-use Rattle.dcsctp_machine.specs.Turn.{user_resets}
-use Rattle.dcsctp_machine.specs.turns.PreparedResets.{reset_refusal}
-use Rattle.dcsctp_machine.specs.CallTurns.{Turned, Turns}
-use Rattle.dcsctp_api.specs.declared.errors.ResetStreamsError.{ResetStreamsError}
-use Rattle.dcsctp_api.specs.Resets.{reset_refusal_in}
+use Rattle.dcsctp_core.specs.spec.endpoint.Endpoint.{Endpoint}
+use Rattle.dcsctp_core.specs.spec.endpoint.Turn.{user_resets}
+use Rattle.dcsctp_core.specs.spec.endpoint.PreparedResets.{reset_refusal}
+use Rattle.dcsctp_core.specs.spec.endpoint.CallTurns.{Turned, Turns}
+use Rattle.dcsctp_core.specs.api.declared.errors.ResetStreamsError.{ResetStreamsError}
+use Rattle.dcsctp_core.specs.api.Resets.{reset_refusal_in}
 use Rattle.dcsctp_core.specs.declared.context.Context.{Context}
 use Rattle.dcsctp_core.specs.View.{view_of}
 use Rattle.dcsctp_socket_calls.specs.Parts.{CallMoved, CallCut}

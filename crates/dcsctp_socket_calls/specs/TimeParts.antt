@@ -1,14 +1,14 @@
 -- What `advance_time` does to a socket, by its parts.
 use Rattle.std.specs.Prelude.{ℕ, true, Result, Ok, Err, List, []}
 use Rattle.rand_core.specs.Stream.{Stream}
-use Rattle.dcsctp_machine.specs.Settings.{ports_of}
-use Rattle.dcsctp_machine.specs.Event.{Event}
-use Rattle.dcsctp_machine.specs.Endpoint.{Endpoint}
-use Rattle.dcsctp_machine.specs.Turn.{Input}
-use Rattle.dcsctp_machine.specs.TimeTurns.{Timer, t1_timer, own_timer, t2_timer, unless_exhausted, ExpiryTurns, AdvanceTurns}
-use Rattle.dcsctp_machine.specs.turns.OwnTimers.{acknowledgement_delay, retransmission, heartbeat_interval, heartbeat_timeout, reconfiguration}
-use Rattle.dcsctp_machine.specs.CallTurns.{Turned, Turns}
-use Rattle.dcsctp_api.specs.Calls.{AddsFront}
+use Rattle.dcsctp_core.specs.types.Settings.{ports_of}
+use Rattle.dcsctp_core.specs.spec.endpoint.Event.{Event}
+use Rattle.dcsctp_core.specs.spec.endpoint.Endpoint.{Endpoint}
+use Rattle.dcsctp_core.specs.spec.endpoint.Turn.{Input}
+use Rattle.dcsctp_core.specs.spec.endpoint.TimeTurns.{Timer, t1_timer, own_timer, t2_timer, unless_exhausted, ExpiryTurns, AdvanceTurns}
+use Rattle.dcsctp_core.specs.spec.endpoint.OwnTimers.{acknowledgement_delay, retransmission, heartbeat_interval, heartbeat_timeout, reconfiguration}
+use Rattle.dcsctp_core.specs.spec.endpoint.CallTurns.{Turned, Turns}
+use Rattle.dcsctp_core.specs.api.Calls.{AddsFront}
 use Rattle.dcsctp_core.specs.declared.context.Context.{Context}
 use Rattle.dcsctp_core.specs.View.{View, view_of, MovesAll, CallMoves}
 use Rattle.dcsctp_socket_calls.specs.declared.timers.SocketTimer.{SocketTimer}

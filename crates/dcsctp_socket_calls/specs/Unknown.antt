@@ -1,8 +1,8 @@
 -- What is done with a chunk of a type that isn't known, as turns of a socket's view (RFC 9260, section 3.2).
 use Rattle.std.specs.Prelude.{ℕ, List, []}
-use Rattle.dcsctp_machine.specs.Endpoint.{Endpoint, Core, cookie_echoed, open_in}
-use Rattle.dcsctp_machine.specs.Outcome.{Outcome, still, sends}
-use Rattle.dcsctp_machine.specs.turns.PlainOutcomes.{unknown_report, unknown_told, unknown_outcome}
+use Rattle.dcsctp_core.specs.spec.endpoint.Endpoint.{Endpoint, Core, cookie_echoed, open_in}
+use Rattle.dcsctp_core.specs.spec.endpoint.Outcome.{Outcome, still, sends}
+use Rattle.dcsctp_core.specs.spec.endpoint.PlainOutcomes.{unknown_report, unknown_told, unknown_outcome}
 use Rattle.dcsctp_core.specs.View.{View}
 
 -- The peer is told, if it is known.

@@ -1,31 +1,30 @@
 //! The calls of a socket, over its parts: each is a list of turns.
 
 ghost use Rattle.std.specs.Prelude.{◌≡◌, ◌<◌, true, false, IsOk, map};
-ghost use Rattle.dcsctp_wire.specs.Content.{chunk_content, packet_content};
-ghost use Rattle.dcsctp_machine.specs.Packet.{content_in};
-ghost use Rattle.dcsctp_machine.specs.control.Acts.{abort_with, shut_down};
-ghost use Rattle.dcsctp_machine.specs.Settings.{wire_options};
-ghost use Rattle.dcsctp_machine.specs.TimeTurns.{Waits};
-ghost use Rattle.dcsctp_machine.specs.Turn.{has_data};
-ghost use Rattle.dcsctp_api.specs.Calls.{is_closed, takes_shutdown};
+ghost use Rattle.dcsctp_core.specs.wire.Content.{chunk_content, packet_content};
+ghost use Rattle.dcsctp_core.specs.spec.Packet.{content_in};
+ghost use Rattle.dcsctp_core.specs.spec.association.Acts.{abort_with, shut_down};
+ghost use Rattle.dcsctp_core.specs.types.Settings.{wire_options};
+ghost use Rattle.dcsctp_core.specs.spec.endpoint.TimeTurns.{Waits};
+ghost use Rattle.dcsctp_core.specs.spec.endpoint.Turn.{has_data};
+ghost use Rattle.dcsctp_core.specs.api.Calls.{is_closed, takes_shutdown};
 ghost use Rattle.dcsctp_core.specs.View.{core_of, endpoint_of};
 ghost use Rattle.dcsctp_core.specs.Handling.{Tries};
-ghost use Rattle.dcsctp_core_shutdown.specs.Shutdown.{is_open};
+ghost use Rattle.dcsctp_core_ends.specs.Shutdown.{is_open};
 ghost use Rattle.dcsctp_socket_calls.specs.Parts.{begin_turn, WorksToEnd, WorksChunks, WorksWhole, WorksAck, WorksAcks, WorksPacket, WorksInput, WorksCall, ActTurns, WorksConnect};
 ghost use Rattle.dcsctp_socket_calls.specs.TimeParts.{WorksTime};
 
+use crate::admission::{Admission, admit};
 use crate::dispatch::handle_chunk;
 use crate::texts::UNREADABLE;
 use crate::timers::handle_timers;
-use dcsctp_api::{ErrorKind, Options, SocketTime};
+use dcsctp_core::api::{ErrorKind, Options, SocketTime};
+use dcsctp_core::types::AbortReason;
+use dcsctp_core::wire::{Chunk, PacketError, SctpPacket, WireOptions};
 use dcsctp_core::{Context, Following};
 use dcsctp_core_data::end_packet;
-use dcsctp_core_decisions::{Admission, admit};
-use dcsctp_core_ends::abort_association;
+use dcsctp_core_ends::{abort_association, answer_data, do_shutdown, reflect_shutdown_ack};
 use dcsctp_core_handshake::do_connect;
-use dcsctp_core_shutdown::{answer_data, do_shutdown, reflect_shutdown_ack};
-use dcsctp_machine::AbortReason;
-use dcsctp_wire::{Chunk, PacketError, SctpPacket, WireOptions};
 use rand_core::Rng;
 use std::alloc::AllocError;
 

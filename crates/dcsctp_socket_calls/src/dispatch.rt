@@ -1,24 +1,26 @@
 //! Which handler a chunk goes to.
 
 ghost use Rattle.std.specs.Prelude.{◌≡◌, None};
-ghost use Rattle.dcsctp_wire.specs.Content.{chunk_content};
-ghost use Rattle.dcsctp_machine.specs.Packet.{content_in};
+ghost use Rattle.dcsctp_core.specs.wire.Content.{chunk_content};
+ghost use Rattle.dcsctp_core.specs.spec.Packet.{content_in};
 ghost use Rattle.dcsctp_core.specs.View.{core_of};
 ghost use Rattle.dcsctp_core_ends.specs.Ends.{violation_in};
 ghost use Rattle.dcsctp_socket_calls.specs.Parts.{WorksChunk};
 
 use crate::unknown::handle_unknown;
+use dcsctp_core::types::AbortReason;
+use dcsctp_core::wire::Chunk;
 use dcsctp_core::{Context, Following};
 use dcsctp_core_data::{
     DataPart, handle_data, handle_forward_tsn, handle_i_forward_tsn, handle_sack,
 };
-use dcsctp_core_ends::{abort_association, handle_abort, handle_error, violation_of};
+use dcsctp_core_ends::{
+    abort_association, handle_abort, handle_error, handle_shutdown, handle_shutdown_ack,
+    handle_shutdown_complete, violation_of,
+};
 use dcsctp_core_handshake::{handle_cookie_ack, handle_cookie_echo, handle_init, handle_init_ack};
 use dcsctp_core_heartbeat::{handle_heartbeat_ack, handle_heartbeat_request};
 use dcsctp_core_resets::handle_re_config;
-use dcsctp_core_shutdown::{handle_shutdown, handle_shutdown_ack, handle_shutdown_complete};
-use dcsctp_machine::AbortReason;
-use dcsctp_wire::Chunk;
 use rand_core::Rng;
 use std::alloc::AllocError;
 

@@ -1,18 +1,18 @@
 //! The calls that hand a socket over and restore it, over its parts.
 
 ghost use Rattle.std.specs.Prelude.{◌≡◌, ◌≢◌, true, [], IsOk};
-ghost use Rattle.dcsctp_machine.specs.Handover.{readiness_of};
-ghost use Rattle.dcsctp_machine.specs.Snapshot.{snapshot, is_valid_snapshot};
-ghost use Rattle.dcsctp_machine.specs.Sockets.{inputs_of_restore};
-ghost use Rattle.dcsctp_machine.specs.Soundness.{IsSound};
+ghost use Rattle.dcsctp_core.specs.spec.Handover.{readiness_of};
+ghost use Rattle.dcsctp_core.specs.types.Snapshot.{snapshot, is_valid_snapshot};
+ghost use Rattle.dcsctp_core.specs.spec.HandoverInputs.{inputs_of_restore};
+ghost use Rattle.dcsctp_core.specs.spec.Soundness.{IsSound};
 ghost use Rattle.dcsctp_core.specs.View.{core_of, endpoint_of};
 ghost use Rattle.dcsctp_socket_calls.specs.HandoverParts.{WorksHandover, WorksRestore};
 
-use dcsctp_api::handover::{HandoverSocketState, SocketHandoverState};
-use dcsctp_api::{HandoverError, RestoreError};
 use dcsctp_core::Context;
+use dcsctp_core::api::handover::{HandoverSocketState, SocketHandoverState};
+use dcsctp_core::api::{HandoverError, RestoreError};
 use dcsctp_core_handover::{hand_over, handover_state};
-use dcsctp_machine::snapshots_are_valid;
+use dcsctp_spec_laws::snapshots_are_valid;
 use rand_core::Rng;
 use std::alloc::AllocError;
 

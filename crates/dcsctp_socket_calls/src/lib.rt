@@ -4,6 +4,8 @@
 //! and restored. `dcsctp_socket` calls them, and keeps a socket that has failed from calling any.
 #![tactic(auto)]
 
+mod admission;
+mod admission_texts;
 mod calls;
 mod dispatch;
 mod handover;

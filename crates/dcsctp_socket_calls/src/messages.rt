@@ -1,15 +1,17 @@
 //! Messages that a user sends and takes, and streams that a user resets, over the parts of a socket.
 
 ghost use Rattle.std.specs.Prelude.{◌≢◌, None, IsOk, map};
-ghost use Rattle.dcsctp_machine.specs.Ids.{stream_numbers};
-ghost use Rattle.dcsctp_machine.specs.transfer.Messages.{message_content};
-ghost use Rattle.dcsctp_machine.specs.turns.PreparedResets.{reset_refusal};
+ghost use Rattle.dcsctp_core.specs.types.Ids.{stream_numbers};
+ghost use Rattle.dcsctp_core.specs.types.queues.Messages.{message_content};
+ghost use Rattle.dcsctp_core.specs.spec.endpoint.PreparedResets.{reset_refusal};
 ghost use Rattle.dcsctp_core.specs.View.{view_of, endpoint_of};
 ghost use Rattle.dcsctp_socket_calls.specs.MessageParts.{WorksSend, WorksSendMany, WorksTake};
 ghost use Rattle.dcsctp_socket_calls.specs.ResetParts.{WorksReset};
 
-use dcsctp_api::{BatchSendError, Message, ResetStreamsError, SendError, SendOptions, StreamId};
 use dcsctp_core::Context;
+use dcsctp_core::api::{
+    BatchSendError, Message, ResetStreamsError, SendError, SendOptions, StreamId,
+};
 use dcsctp_core_messages::{do_reset_streams, do_send, do_send_many};
 use rand_core::Rng;
 use std::alloc::AllocError;

@@ -1,12 +1,12 @@
 //! What the user sets of a socket, over its parts. Nothing of it is sent to the peer.
 
 ghost use Rattle.std.specs.Prelude.{◌≡◌};
-ghost use Rattle.dcsctp_machine.specs.turns.SettingOutcomes.{stream_priority, stream_low_threshold, longest_message};
+ghost use Rattle.dcsctp_core.specs.types.Setting.{stream_priority, stream_low_threshold, longest_message};
 ghost use Rattle.dcsctp_core.specs.View.{view_of};
 ghost use Rattle.dcsctp_socket_calls.specs.Parts.{WorksSetting, set_view};
 
-use dcsctp_api::StreamId;
 use dcsctp_core::Context;
+use dcsctp_core::api::StreamId;
 use rand_core::Rng;
 use std::alloc::AllocError;
 

@@ -1,22 +1,21 @@
 //! Which timers are due, and what follows them.
 
 ghost use Rattle.std.specs.Prelude.{◌≡◌, [], ◌∷◌, max, IsOk, map};
-ghost use Rattle.dcsctp_machine.specs.TimeTurns.{timers_in, NoneIsDue, DueTurns};
-ghost use Rattle.dcsctp_machine.specs.Turn.{act_input, clock_at};
-ghost use Rattle.dcsctp_machine.specs.control.Acts.{flushes};
+ghost use Rattle.dcsctp_core.specs.spec.endpoint.TimeTurns.{timers_in, NoneIsDue, DueTurns};
+ghost use Rattle.dcsctp_core.specs.spec.endpoint.Turn.{act_input, clock_at};
+ghost use Rattle.dcsctp_core.specs.spec.association.Acts.{flushes};
 ghost use Rattle.dcsctp_core.specs.Timing.{Expires};
 ghost use Rattle.dcsctp_core.specs.View.{call_start, core_of, endpoint_of, view_of};
 ghost use Rattle.dcsctp_socket_calls.specs.TimeParts.{timer_in, EndTurns, TimeMoves, TurnsBehind, WorksTurns};
 
-use dcsctp_api::SocketTime;
+use dcsctp_core::api::SocketTime;
+use dcsctp_core::types::AbortReason;
 use dcsctp_core::{Context, State};
 use dcsctp_core_data::{handle_acknowledgement_delay, handle_retransmission};
-use dcsctp_core_ends::abort_association;
+use dcsctp_core_ends::{abort_association, handle_t2};
 use dcsctp_core_handshake::handle_t1;
 use dcsctp_core_heartbeat::{handle_heartbeat_interval, handle_heartbeat_timeout};
 use dcsctp_core_resets::handle_reconfiguration;
-use dcsctp_core_shutdown::handle_t2;
-use dcsctp_machine::AbortReason;
 use rand_core::Rng;
 use std::alloc::AllocError;
 

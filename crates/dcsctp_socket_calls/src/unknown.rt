@@ -1,15 +1,15 @@
 //! A chunk of a type that isn't known (RFC 9260, section 3.2): its first two bits say what is done with it.
 
 ghost use Rattle.std.specs.Prelude.{◌≡◌, ◌-◌, false, take, IfOk, [], ◌∷◌, string_bytes};
-ghost use Rattle.dcsctp_wire.specs.Content.{error_chunk, unrecognized_chunk_type};
-ghost use Rattle.dcsctp_machine.specs.Settings.{packet_size_limit};
-ghost use Rattle.dcsctp_machine.specs.turns.PlainOutcomes.{is_reported, after_unknown, unknown_text, unknown_bytes};
+ghost use Rattle.dcsctp_core.specs.wire.Content.{error_chunk, unrecognized_chunk_type};
+ghost use Rattle.dcsctp_core.specs.types.Settings.{packet_size_limit};
+ghost use Rattle.dcsctp_core.specs.spec.endpoint.PlainOutcomes.{is_reported, after_unknown, unknown_text, unknown_bytes};
 ghost use Rattle.dcsctp_core.specs.Handling.{Emits, Takes, Tries, Works, following_of};
 ghost use Rattle.dcsctp_socket_calls.specs.Unknown.{unknown_turn, told_turn, reported_turn};
 
-use dcsctp_api::ErrorKind;
+use dcsctp_core::api::ErrorKind;
+use dcsctp_core::wire::{Chunk, ErrorCause, ErrorChunk, UnknownChunk};
 use dcsctp_core::{Context, Following};
-use dcsctp_wire::{Chunk, ErrorCause, ErrorChunk, UnknownChunk};
 use rand_core::Rng;
 use std::alloc::{AllocError, Global};
 

@@ -2,10 +2,10 @@
 //! bytes and 2 for each stream, padded to a multiple of 4, after a header of 12 bytes. And by which chunk a
 //! fragment goes to the peer (RFC 9260, section 3.3.1; RFC 8260, section 2.1).
 
-use dcsctp_api::{Capabilities, Events, Options, Pair, PpId, SocketTime, StreamId};
+use dcsctp_core::api::{Capabilities, Events, Options, Pair, PpId, SocketTime, StreamId};
+use dcsctp_core::transfer::{DataToSend, SendQueue};
+use dcsctp_core::wire::Chunk;
 use dcsctp_core::{Peer, TransmissionControlBlock};
-use dcsctp_transfer::{DataToSend, QueuedMessages};
-use dcsctp_wire::Chunk;
 use std::alloc::{AllocError, Global};
 use std::process::Abort;
 
@@ -50,7 +50,7 @@ fn begin(rt: &impl Abort, alloc: Global, mtu: usize, streams: u16) -> Result<Lef
     };
     assert!(rt; options.is_valid());
     let mut tcb = association(alloc, &options, &Capabilities::default());
-    let mut queue = QueuedMessages::new(alloc, &options);
+    let mut queue = SendQueue::new(alloc, &options);
     let mut events = Events::new(alloc);
     for id in 0..streams {
         queue.prepare_reset_stream(&mut events, StreamId(id))?;

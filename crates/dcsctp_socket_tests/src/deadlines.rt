@@ -1,6 +1,6 @@
 //! The list of deadlines by its calls: three deadlines, set in each order.
 
-use dcsctp_api::SocketTime;
+use dcsctp_core::api::SocketTime;
 use dcsctp_core::{DeadlineKind, Deadlines};
 use std::time::Duration;
 

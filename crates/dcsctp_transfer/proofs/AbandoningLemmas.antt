@@ -4,22 +4,22 @@ use Rattle.std.proofs.lemmas.Bool.Decides.{nat_tests}
 use Rattle.std.proofs.lemmas.List.{append-nil}
 use Rattle.std.specs.List.{AllByRecursion, flat_map}
 use Rattle.std.specs.declared.alloc.AllocError.{AllocError}
-use Rattle.dcsctp_api.specs.declared.events.SocketEvent.{SocketEvent}
-use Rattle.dcsctp_wire.specs.Spelling.{chunk_bytes}
+use Rattle.dcsctp_send_retransmission.specs.api.declared.events.SocketEvent.{SocketEvent}
+use Rattle.dcsctp_send_retransmission.specs.wire.Spelling.{chunk_bytes}
 use Rattle.dcsctp_wire_build.specs.Building.{Building, bytes_remaining}
-use Rattle.dcsctp_machine.specs.Event.{Event}
-use Rattle.dcsctp_machine.specs.Packet.{Plain, unworked, plain_out}
-use Rattle.dcsctp_machine.specs.transfer.Abandoning.{GivesUpFirst, GivesUpAll}
-use Rattle.dcsctp_machine.specs.transfer.Filling.{Stage, Steps, none, more}
-use Rattle.dcsctp_machine.specs.transfer.NextItem.{is_due}
-use Rattle.dcsctp_machine.specs.transfer.Items.{Item, is_first_abandoned}
-use Rattle.dcsctp_machine.specs.transfer.Retransmission.{RetransmissionState, outstanding_count}
-use Rattle.dcsctp_machine.specs.transfer.SendQueue.{SendQueueState}
-use Rattle.dcsctp_machine.specs.transfer.Transfer.{Transfer}
-use Rattle.dcsctp_machine.specs.turns.FlushOutcomes.{FitsPlain, where_fits, stage_of, next_forward, may_abandon, ForwardsWhere, GivesUpWhere}
-use Rattle.dcsctp_machine.proofs.TellingLemmas.{tells_abandoned}
-use Rattle.dcsctp_machine.proofs.ToldLemmas.{behind_events, given_up_before}
-use Rattle.dcsctp_send_streams.specs.Telling.{contents}
+use Rattle.dcsctp_send_retransmission.specs.spec.endpoint.Event.{Event}
+use Rattle.dcsctp_send_retransmission.specs.spec.Packet.{Plain, unworked, plain_out}
+use Rattle.dcsctp_send_retransmission.specs.spec.queues.Abandoning.{GivesUpFirst, GivesUpAll}
+use Rattle.dcsctp_send_retransmission.specs.spec.queues.Filling.{Stage, Steps, none, more}
+use Rattle.dcsctp_send_retransmission.specs.spec.queues.NextItem.{is_due}
+use Rattle.dcsctp_send_retransmission.specs.spec.queues.Items.{Item, is_first_abandoned}
+use Rattle.dcsctp_send_retransmission.specs.spec.queues.Retransmission.{RetransmissionState, outstanding_count}
+use Rattle.dcsctp_send_retransmission.specs.spec.queues.SendQueue.{SendQueueState}
+use Rattle.dcsctp_send_retransmission.specs.spec.queues.Transfer.{Transfer}
+use Rattle.dcsctp_send_retransmission.specs.spec.endpoint.FlushOutcomes.{FitsPlain, where_fits, stage_of, next_forward, may_abandon, ForwardsWhere, GivesUpWhere}
+use Rattle.dcsctp_send_retransmission.proofs.spec_lemmas.TellingLemmas.{tells_abandoned}
+use Rattle.dcsctp_send_retransmission.proofs.spec_lemmas.ToldLemmas.{behind_events, given_up_before}
+use Rattle.dcsctp_send_retransmission.specs.send_streams.Telling.{contents}
 use Rattle.dcsctp_send_retransmission.specs.GivingUp.{GivesUpDue, StopsGivingUp}
 use Rattle.dcsctp_send_retransmission.specs.Sending.{Keeps}
 use Rattle.dcsctp_send_retransmission.specs.States.{stage}

@@ -4,18 +4,18 @@ use Rattle.std.specs.List.{AllByRecursion, flat_map, slice_get}
 use Rattle.std.proofs.lemmas.Option.{slice_get_within}
 use Rattle.std.proofs.lemmas.List.{append-nil}
 use Rattle.std.proofs.lemmas.Grind.{flat_map-append}
-use Rattle.dcsctp_wire.specs.Content.{DataContent, IDataContent, ChunkContent, data_chunk, i_data_chunk}
-use Rattle.dcsctp_wire.specs.ReadsBack.{IsByte, FitsChunk}
-use Rattle.dcsctp_wire.specs.Spelling.{chunk_bytes, data_fields, i_data_fields}
-use Rattle.dcsctp_wire.specs.declared.chunk.user_data.DataFlags.{DataFlags}
-use Rattle.dcsctp_wire.proofs.Lengths.{length-chunk_bytes, length-data_fields, length-i_data_fields}
+use Rattle.dcsctp_send_retransmission.specs.wire.Content.{DataContent, IDataContent, ChunkContent, data_chunk, i_data_chunk}
+use Rattle.dcsctp_send_retransmission.specs.wire.ReadsBack.{IsByte, FitsChunk}
+use Rattle.dcsctp_send_retransmission.specs.wire.Spelling.{chunk_bytes, data_fields, i_data_fields}
+use Rattle.dcsctp_send_retransmission.specs.wire.declared.chunk.user_data.DataFlags.{DataFlags}
+use Rattle.dcsctp_send_retransmission.proofs.wire_lemmas.Lengths.{length-chunk_bytes, length-data_fields, length-i_data_fields}
 use Rattle.dcsctp_wire_build.specs.Building.{Building, bytes_remaining}
-use Rattle.dcsctp_machine.specs.Packet.{unworked}
-use Rattle.dcsctp_machine.specs.transfer.Chunks.{byte_field, flags_said, data_said, i_data_said, chunk_said, IsChunkOf, AreChunks}
-use Rattle.dcsctp_machine.specs.transfer.Items.{Item, chunk_size}
-use Rattle.dcsctp_machine.specs.transfer.Outstanding.{OutstandingState, header_of, header, distance_to}
-use Rattle.dcsctp_machine.specs.transfer.Sending.{Fragment}
-use Rattle.dcsctp_send_outstanding.specs.Outstanding.{FindsPlaces}
+use Rattle.dcsctp_send_retransmission.specs.spec.Packet.{unworked}
+use Rattle.dcsctp_send_retransmission.specs.spec.queues.Chunks.{byte_field, flags_said, data_said, i_data_said, chunk_said, IsChunkOf, AreChunks}
+use Rattle.dcsctp_send_retransmission.specs.spec.queues.Items.{Item, chunk_size}
+use Rattle.dcsctp_send_retransmission.specs.spec.queues.Outstanding.{OutstandingState, header_of, header, distance_to}
+use Rattle.dcsctp_send_retransmission.specs.spec.queues.Sending.{Fragment}
+use Rattle.dcsctp_send_retransmission.specs.send_outstanding.Outstanding.{FindsPlaces}
 use Rattle.dcsctp_send_retransmission.specs.Sending.{HasFragment, PackedFrom, HandsOut, none as none_packed, more as more_packed}
 use Rattle.dcsctp_transfer.specs.Adding.{HasChunk, HaveChunks, none, more, HasChunkWithin, AddsChunk, AddsChunkOf, AddsChunks, HasRest}
 

@@ -3,25 +3,25 @@ use Rattle.std.proofs.Common.{suc, zero, ◌≡◌, ◌∙◌, inl, inr, ℕ, �
 use Rattle.std.proofs.lemmas.List.{append-nil}
 use Rattle.std.proofs.lemmas.Bool.Decides.{nat_tests}
 use Rattle.std.specs.declared.alloc.Global.{Global}
-use Rattle.dcsctp_api.specs.declared.events.SocketEvent.{SocketEvent}
-use Rattle.dcsctp_wire.specs.Content.{ChunkContent}
+use Rattle.dcsctp_send_retransmission.specs.api.declared.events.SocketEvent.{SocketEvent}
+use Rattle.dcsctp_send_retransmission.specs.wire.Content.{ChunkContent}
 use Rattle.dcsctp_wire_build.specs.Building.{Building, bytes_remaining}
-use Rattle.dcsctp_machine.specs.Event.{Event}
-use Rattle.dcsctp_machine.specs.Packet.{unworked}
-use Rattle.dcsctp_machine.specs.transfer.Chunks.{AreChunks}
-use Rattle.dcsctp_machine.specs.transfer.Filling.{Stage, FillsPacket as Fills}
-use Rattle.dcsctp_machine.specs.transfer.Items.{Item, marked_items}
-use Rattle.dcsctp_machine.specs.Timers.{TimerModel}
-use Rattle.dcsctp_machine.specs.transfer.NextItem.{Halts}
-use Rattle.dcsctp_machine.specs.transfer.Outstanding.{OutstandingState}
-use Rattle.dcsctp_machine.specs.transfer.SendQueue.{SendQueueState, has_data}
-use Rattle.dcsctp_machine.specs.transfer.Transfer.{Transfer, may_give}
-use Rattle.dcsctp_machine.specs.transfer.Retransmission.{RetransmissionState, outstanding_count, can_send}
-use Rattle.dcsctp_machine.specs.turns.FlushOutcomes.{stage_of, FillsWhere}
-use Rattle.dcsctp_machine.proofs.TellingLemmas.{tells_filled}
-use Rattle.dcsctp_machine.proofs.ToldLemmas.{behind_events, filled_before}
-use Rattle.dcsctp_send_streams.specs.Telling.{contents}
-use Rattle.dcsctp_send_outstanding.specs.Outstanding.{FindsPlaces}
+use Rattle.dcsctp_send_retransmission.specs.spec.endpoint.Event.{Event}
+use Rattle.dcsctp_send_retransmission.specs.spec.Packet.{unworked}
+use Rattle.dcsctp_send_retransmission.specs.spec.queues.Chunks.{AreChunks}
+use Rattle.dcsctp_send_retransmission.specs.spec.queues.Filling.{Stage, FillsPacket as Fills}
+use Rattle.dcsctp_send_retransmission.specs.spec.queues.Items.{Item, marked_items}
+use Rattle.dcsctp_send_retransmission.specs.spec.endpoint.Timers.{TimerModel}
+use Rattle.dcsctp_send_retransmission.specs.spec.queues.NextItem.{Halts}
+use Rattle.dcsctp_send_retransmission.specs.spec.queues.Outstanding.{OutstandingState}
+use Rattle.dcsctp_send_retransmission.specs.spec.queues.SendQueue.{SendQueueState, has_data}
+use Rattle.dcsctp_send_retransmission.specs.spec.queues.Transfer.{Transfer, may_give}
+use Rattle.dcsctp_send_retransmission.specs.spec.queues.Retransmission.{RetransmissionState, outstanding_count, can_send}
+use Rattle.dcsctp_send_retransmission.specs.spec.endpoint.FlushOutcomes.{stage_of, FillsWhere}
+use Rattle.dcsctp_send_retransmission.proofs.spec_lemmas.TellingLemmas.{tells_filled}
+use Rattle.dcsctp_send_retransmission.proofs.spec_lemmas.ToldLemmas.{behind_events, filled_before}
+use Rattle.dcsctp_send_retransmission.specs.send_streams.Telling.{contents}
+use Rattle.dcsctp_send_retransmission.specs.send_outstanding.Outstanding.{FindsPlaces}
 use Rattle.dcsctp_send_retransmission.specs.Halting.{FillsUp}
 use Rattle.dcsctp_send_retransmission.specs.States.{stage, StopsFilling, SendsPacket}
 use Rattle.dcsctp_transfer.specs.Adding.{AddsChunks}

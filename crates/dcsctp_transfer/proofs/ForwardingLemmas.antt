@@ -4,18 +4,18 @@ use Rattle.std.proofs.lemmas.Bool.Decides.{nat_tests}
 use Rattle.std.proofs.lemmas.List.{append-nil}
 use Rattle.std.specs.List.{AllByRecursion, flat_map}
 use Rattle.std.specs.Int.{w32, to_be_bytes}
-use Rattle.dcsctp_wire.specs.Content.{ChunkContent, forward_tsn_chunk, i_forward_tsn_chunk}
-use Rattle.dcsctp_wire.specs.ReadsBack.{IsByte, FitsChunk}
-use Rattle.dcsctp_wire.specs.Spelling.{chunk_bytes}
-use Rattle.dcsctp_wire.specs.declared.chunk.forward_tsn.SkippedStream.{SkippedStream}
-use Rattle.dcsctp_wire.specs.declared.chunk.forward_tsn.SkippedMessages.{SkippedMessages}
-use Rattle.dcsctp_wire.proofs.Lengths.{length-chunk_bytes}
+use Rattle.dcsctp_send_retransmission.specs.wire.Content.{ChunkContent, forward_tsn_chunk, i_forward_tsn_chunk}
+use Rattle.dcsctp_send_retransmission.specs.wire.ReadsBack.{IsByte, FitsChunk}
+use Rattle.dcsctp_send_retransmission.specs.wire.Spelling.{chunk_bytes}
+use Rattle.dcsctp_send_retransmission.specs.wire.declared.chunk.forward_tsn.SkippedStream.{SkippedStream}
+use Rattle.dcsctp_send_retransmission.specs.wire.declared.chunk.forward_tsn.SkippedMessages.{SkippedMessages}
+use Rattle.dcsctp_send_retransmission.proofs.wire_lemmas.Lengths.{length-chunk_bytes}
 use Rattle.dcsctp_wire_build.specs.Building.{Building, bytes_remaining}
-use Rattle.dcsctp_machine.specs.Packet.{unworked, plain_out}
-use Rattle.dcsctp_machine.specs.transfer.Items.{Item}
-use Rattle.dcsctp_machine.specs.transfer.Retransmission.{RetransmissionState}
-use Rattle.dcsctp_machine.specs.transfer.Skipping.{entry_limit, entry_bytes, forward_chunk, ListsEntries, IsRow, SaysForward}
-use Rattle.dcsctp_machine.specs.turns.FlushOutcomes.{FitsPlain, where_fits}
+use Rattle.dcsctp_send_retransmission.specs.spec.Packet.{unworked, plain_out}
+use Rattle.dcsctp_send_retransmission.specs.spec.queues.Items.{Item}
+use Rattle.dcsctp_send_retransmission.specs.spec.queues.Retransmission.{RetransmissionState}
+use Rattle.dcsctp_send_retransmission.specs.spec.queues.Skipping.{entry_limit, entry_bytes, forward_chunk, ListsEntries, IsRow, SaysForward}
+use Rattle.dcsctp_send_retransmission.specs.spec.endpoint.FlushOutcomes.{FitsPlain, where_fits}
 use Rattle.dcsctp_send_retransmission.specs.declared.forward_tsn.ForwardTsn.{ForwardTsn}
 use Rattle.dcsctp_send_retransmission.specs.declared.forward_tsn.Skipped.{Skipped}
 use Rattle.dcsctp_send_retransmission.specs.declared.forward_tsn.Skipped.TheVariants.{Streams, Messages}

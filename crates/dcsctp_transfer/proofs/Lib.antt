@@ -1,3 +1,5 @@
+pub use Rattle.dcsctp_send_retransmission.proofs.wire_lemmas as wire_lemmas
+pub use Rattle.dcsctp_send_retransmission.proofs.spec_lemmas as spec_lemmas
 pub mod AbandoningLemmas
 pub mod AddingLemmas
 pub mod FillingLemmas

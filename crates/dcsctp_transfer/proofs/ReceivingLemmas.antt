@@ -1,13 +1,13 @@
 -- What comes in, by what the tracker and the reassembly queue do with it.
 use Rattle.std.proofs.Common.{◌≡◌, ◌&&◌, not, ℕ, Bool, true, false, List, refl, ap, ◌∙◌, subst}
-use Rattle.dcsctp_machine.specs.declared.arrivals.SkippedTo.{SkippedTo}
-use Rattle.dcsctp_machine.specs.transfer.Arrivals.{Arrival}
-use Rattle.dcsctp_machine.specs.transfer.Reassembly.{ReassemblyState, is_above_watermark, AddsData, SkipsData}
-use Rattle.dcsctp_machine.specs.transfer.Tracker.{TrackerState, is_valid_tsn, is_new_tsn, observed, is_forward, after_forward}
-use Rattle.dcsctp_machine.specs.transfer.Transfer.{Transfer}
-use Rattle.dcsctp_machine.specs.transfer.Retransmission.{RetransmissionState}
-use Rattle.dcsctp_machine.specs.transfer.Timeout.{TimeoutState}
-use Rattle.dcsctp_machine.specs.turns.TransferMoves.{AddsWhere, TakesData, ReceivesWhere, ReceivesData, SkipsWhere, GoesForward, MovesWhere, MovesForward}
+use Rattle.dcsctp_send_retransmission.specs.types.declared.arrivals.SkippedTo.{SkippedTo}
+use Rattle.dcsctp_send_retransmission.specs.spec.queues.Arrivals.{Arrival}
+use Rattle.dcsctp_send_retransmission.specs.spec.queues.Reassembly.{ReassemblyState, is_above_watermark, AddsData, SkipsData}
+use Rattle.dcsctp_send_retransmission.specs.spec.queues.Tracker.{TrackerState, is_valid_tsn, is_new_tsn, observed, is_forward, after_forward}
+use Rattle.dcsctp_send_retransmission.specs.spec.queues.Transfer.{Transfer}
+use Rattle.dcsctp_send_retransmission.specs.spec.queues.Retransmission.{RetransmissionState}
+use Rattle.dcsctp_send_retransmission.specs.spec.queues.Timeout.{TimeoutState}
+use Rattle.dcsctp_send_retransmission.specs.spec.endpoint.TransferMoves.{AddsWhere, TakesData, ReceivesWhere, ReceivesData, SkipsWhere, GoesForward, MovesWhere, MovesForward}
 
 -- what is shown of a tracker and a queue beside what is sent
 abbrev shown : RetransmissionState → TimeoutState → TrackerState → ReassemblyState → Transfer

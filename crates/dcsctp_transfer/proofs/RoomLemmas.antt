@@ -1,15 +1,15 @@
 -- TSNs of outstanding items tell how much of a packet they take up: so there is one room that is left.
 use Rattle.std.proofs.Common.{◌≡◌, ◌∙◌, ℕ, ◌<◌, Some, List, [], ◌∷◌, length, ap, sym, subst, arith}
 use Rattle.std.specs.List.{slice_get}
-use Rattle.dcsctp_machine.specs.transfer.Filling.{Stage, FillsStage}
-use Rattle.dcsctp_machine.specs.transfer.Items.{size_of}
-use Rattle.dcsctp_machine.specs.transfer.NextItem.{Halts}
-use Rattle.dcsctp_machine.specs.transfer.Outstanding.{OutstandingState, header}
-use Rattle.dcsctp_machine.specs.transfer.Retransmission.{RetransmissionState}
-use Rattle.dcsctp_machine.specs.transfer.SendQueue.{SendQueueState}
-use Rattle.dcsctp_machine.proofs.PackedLemmas.{IsTsnOf, AreTsnsOf, IsPacked}
-use Rattle.dcsctp_machine.proofs.PackingLemmas.{packed_none, packed_filled}
-use Rattle.dcsctp_send_outstanding.specs.Outstanding.{FindsPlaces}
+use Rattle.dcsctp_send_retransmission.specs.spec.queues.Filling.{Stage, FillsStage}
+use Rattle.dcsctp_send_retransmission.specs.spec.queues.Items.{size_of}
+use Rattle.dcsctp_send_retransmission.specs.spec.queues.NextItem.{Halts}
+use Rattle.dcsctp_send_retransmission.specs.spec.queues.Outstanding.{OutstandingState, header}
+use Rattle.dcsctp_send_retransmission.specs.spec.queues.Retransmission.{RetransmissionState}
+use Rattle.dcsctp_send_retransmission.specs.spec.queues.SendQueue.{SendQueueState}
+use Rattle.dcsctp_send_retransmission.proofs.spec_lemmas.PackedLemmas.{IsTsnOf, AreTsnsOf, IsPacked}
+use Rattle.dcsctp_send_retransmission.proofs.spec_lemmas.PackingLemmas.{packed_none, packed_filled}
+use Rattle.dcsctp_send_retransmission.specs.send_outstanding.Outstanding.{FindsPlaces}
 use Rattle.dcsctp_send_retransmission.specs.Halting.{FillsUp}
 use Rattle.dcsctp_transfer.specs.Adding.{HasChunk, HaveChunks, none, more}
 use Rattle.dcsctp_transfer.proofs.AddingLemmas.{found_at, have_packed}

@@ -3,14 +3,14 @@ use Rattle.std.proofs.Common.{◌≡◌, ◌∙◌, ℕ, ◌%◌, ◌^◌, ◌�
 use Rattle.std.specs.List.{flat_map}
 use Rattle.std.specs.Int.{w32, to_be_bytes}
 use Rattle.std.proofs.lemmas.List.{take_all}
-use Rattle.dcsctp_wire.specs.Content.{SackContent, sack_chunk}
+use Rattle.dcsctp_send_retransmission.specs.wire.Content.{SackContent, sack_chunk}
 use Rattle.dcsctp_wire_build.specs.Building.{Building}
-use Rattle.dcsctp_machine.specs.transfer.Reassembly.{remaining_bytes}
-use Rattle.dcsctp_machine.specs.transfer.Transfer.{Transfer}
-use Rattle.dcsctp_machine.specs.declared.tracking.AckState.{AckState}
-use Rattle.dcsctp_machine.specs.declared.tracking.AckState.TheVariants.{Idle, BecomingDelayed, Delayed, Immediate}
+use Rattle.dcsctp_send_retransmission.specs.spec.queues.Reassembly.{remaining_bytes}
+use Rattle.dcsctp_send_retransmission.specs.spec.queues.Transfer.{Transfer}
+use Rattle.dcsctp_send_retransmission.specs.types.declared.tracking.AckState.{AckState}
+use Rattle.dcsctp_send_retransmission.specs.types.declared.tracking.AckState.TheVariants.{Idle, BecomingDelayed, Delayed, Immediate}
 use Rattle.dcsctp_receive_tracker.specs.declared.data_tracker.SelectiveAck.{SelectiveAck}
-use Rattle.dcsctp_machine.specs.transfer.Tracker.{TrackerState, is_due, is_acknowledgement_due, owes_acknowledgement, all_acknowledged, acknowledged, block_bytes, sack_of, sacked}
+use Rattle.dcsctp_send_retransmission.specs.spec.queues.Tracker.{TrackerState, is_due, is_acknowledgement_due, owes_acknowledgement, all_acknowledged, acknowledged, block_bytes, sack_of, sacked}
 use Rattle.dcsctp_transfer.specs.Filling.{is_sack_wanted, with_chunk, Acknowledges}
 use Rattle.dcsctp_transfer.specs.Adding.{said_by}
 

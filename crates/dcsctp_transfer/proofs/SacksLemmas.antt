@@ -1,11 +1,11 @@
 -- A SACK that is taken into account.
 use Rattle.std.proofs.Common.{◌≡◌, ℕ, ◌≤◌, ◌<◌, nat_le, Bool, true, false, if◌then◌else◌, Option, None, Some, refl, arith}
 use Rattle.std.proofs.lemmas.Bool.Decides.{nat_tests}
-use Rattle.dcsctp_machine.specs.transfer.Acknowledging.{is_sack_valid, has_acknowledged}
-use Rattle.dcsctp_machine.specs.transfer.Outstanding.{acknowledged_by}
-use Rattle.dcsctp_machine.specs.transfer.Retransmission.{RetransmissionState, outstanding_count, after_expiry}
-use Rattle.dcsctp_machine.specs.transfer.Transfer.{Transfer}
-use Rattle.dcsctp_machine.specs.turns.TransferMoves.{timed_by}
+use Rattle.dcsctp_send_retransmission.specs.spec.queues.Acknowledging.{is_sack_valid, has_acknowledged}
+use Rattle.dcsctp_send_retransmission.specs.spec.queues.Outstanding.{acknowledged_by}
+use Rattle.dcsctp_send_retransmission.specs.spec.queues.Retransmission.{RetransmissionState, outstanding_count, after_expiry}
+use Rattle.dcsctp_send_retransmission.specs.spec.queues.Transfer.{Transfer}
+use Rattle.dcsctp_send_retransmission.specs.spec.endpoint.TransferMoves.{timed_by}
 use Rattle.dcsctp_transfer.specs.Sacks.{lost_where}
 
 pub is_valid : (state : RetransmissionState) (tsn : ℕ) → acknowledged_by state.outstanding tsn ≤ outstanding_count state → is_sack_valid state tsn ≡ true

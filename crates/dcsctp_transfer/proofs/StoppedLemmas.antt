@@ -1,17 +1,17 @@
 -- If an allocation fails while a packet is filled, what the user was told is the first part of what some whole filling tells.
 use Rattle.std.proofs.Common.{◌≡◌, ◌∙◌, ◌⊎◌, inl, inr, ℕ, ◌+◌, ◌-◌, ◌^◌, min, nat_lt, Bool, true, false, if◌then◌else◌, List, ◌++◌, refl, ap, sym, subst, arith}
-use Rattle.dcsctp_machine.specs.declared.progress.Change.TheVariants.{Abandon}
-use Rattle.dcsctp_machine.specs.Event.{Event}
-use Rattle.dcsctp_machine.specs.transfer.Filling.{Stage, payload_room, StepAgain, MayAdd, StepNew, Steps, none, more, counting}
-use Rattle.dcsctp_machine.specs.transfer.Items.{Item, marked_items}
-use Rattle.dcsctp_machine.specs.transfer.NextItem.{IsNextMarked}
-use Rattle.dcsctp_machine.specs.transfer.Outstanding.{header}
-use Rattle.dcsctp_machine.specs.transfer.SendQueue.{SendQueueState}
-use Rattle.dcsctp_machine.proofs.FilledOutcomes.{filled_from_again, filled_from_new}
-use Rattle.dcsctp_machine.proofs.MarkedItemLemmas.{fewer_marked}
-use Rattle.dcsctp_machine.proofs.SendingOutcomes.{none_marked}
-use Rattle.dcsctp_machine.proofs.ToldLemmas.{behind_events, may_before, before_again, before_anew, before_steps}
-use Rattle.dcsctp_send_queue.specs.Calls.{StopsTaking}
+use Rattle.dcsctp_send_retransmission.specs.types.declared.progress.Change.TheVariants.{Abandon}
+use Rattle.dcsctp_send_retransmission.specs.spec.endpoint.Event.{Event}
+use Rattle.dcsctp_send_retransmission.specs.spec.queues.Filling.{Stage, payload_room, StepAgain, MayAdd, StepNew, Steps, none, more, counting}
+use Rattle.dcsctp_send_retransmission.specs.spec.queues.Items.{Item, marked_items}
+use Rattle.dcsctp_send_retransmission.specs.spec.queues.NextItem.{IsNextMarked}
+use Rattle.dcsctp_send_retransmission.specs.spec.queues.Outstanding.{header}
+use Rattle.dcsctp_send_retransmission.specs.spec.queues.SendQueue.{SendQueueState}
+use Rattle.dcsctp_send_retransmission.proofs.spec_lemmas.FilledOutcomes.{filled_from_again, filled_from_new}
+use Rattle.dcsctp_send_retransmission.proofs.spec_lemmas.MarkedItemLemmas.{fewer_marked}
+use Rattle.dcsctp_send_retransmission.proofs.spec_lemmas.SendingOutcomes.{none_marked}
+use Rattle.dcsctp_send_retransmission.proofs.spec_lemmas.ToldLemmas.{behind_events, may_before, before_again, before_anew, before_steps}
+use Rattle.dcsctp_send_retransmission.specs.send_queue.Calls.{StopsTaking}
 use Rattle.dcsctp_send_retransmission.specs.States.{RefusesUp, Refused, StopsFilling}
 use Rattle.dcsctp_send_retransmission.proofs.SendingLemmas.{counted_outstanding}
 use Rattle.dcsctp_transfer.proofs.StoppedTakingLemmas.{FillsTelling, told_less, fills_same, taking_front}

@@ -1,17 +1,17 @@
 -- If an allocation fails for what the send queue gives, what the user was told is the first part of what some whole filling tells.
 use Rattle.std.proofs.Common.{◌≡◌, ◌∙◌, inl, inr, ℕ, ◌-◌, false, List, [], ◌∷◌, ◌++◌, append_assoc, refl, ap, sym, subst}
-use Rattle.dcsctp_machine.specs.Event.{Event}
-use Rattle.dcsctp_machine.specs.transfer.Filling.{Stage, payload_room, SendsNew, StepAgain, MayAdd, StepNew, Steps, more, counting}
-use Rattle.dcsctp_machine.specs.transfer.Items.{Item, size_of}
-use Rattle.dcsctp_machine.specs.transfer.Outstanding.{header, next_tsn}
-use Rattle.dcsctp_machine.specs.transfer.Progress.{just_sent}
-use Rattle.dcsctp_machine.specs.transfer.SendQueue.{SendQueueState}
-use Rattle.dcsctp_machine.specs.transfer.Sending.{Drops, more as one_more_dropped, fragment, size_produced, produced, produced_events}
-use Rattle.dcsctp_machine.proofs.FilledOutcomes.{Filled, filled_from_new, filled_from_dropped}
-use Rattle.dcsctp_machine.proofs.SendingOutcomes.{none_marked}
-use Rattle.dcsctp_machine.proofs.TakingOutcomes.{drops_idle}
-use Rattle.dcsctp_send_streams.specs.Telling.{TellsFront}
-use Rattle.dcsctp_send_queue.specs.Calls.{DropsNext, PartNext, StopsTaking}
+use Rattle.dcsctp_send_retransmission.specs.spec.endpoint.Event.{Event}
+use Rattle.dcsctp_send_retransmission.specs.spec.queues.Filling.{Stage, payload_room, SendsNew, StepAgain, MayAdd, StepNew, Steps, more, counting}
+use Rattle.dcsctp_send_retransmission.specs.spec.queues.Items.{Item, size_of}
+use Rattle.dcsctp_send_retransmission.specs.spec.queues.Outstanding.{header, next_tsn}
+use Rattle.dcsctp_send_retransmission.specs.types.queues.Progress.{just_sent}
+use Rattle.dcsctp_send_retransmission.specs.spec.queues.SendQueue.{SendQueueState}
+use Rattle.dcsctp_send_retransmission.specs.spec.queues.Sending.{Drops, more as one_more_dropped, fragment, size_produced, produced, produced_events}
+use Rattle.dcsctp_send_retransmission.proofs.spec_lemmas.FilledOutcomes.{Filled, filled_from_new, filled_from_dropped}
+use Rattle.dcsctp_send_retransmission.proofs.spec_lemmas.SendingOutcomes.{none_marked}
+use Rattle.dcsctp_send_retransmission.proofs.spec_lemmas.TakingOutcomes.{drops_idle}
+use Rattle.dcsctp_send_retransmission.specs.send_streams.Telling.{TellsFront}
+use Rattle.dcsctp_send_retransmission.specs.send_queue.Calls.{DropsNext, PartNext, StopsTaking}
 
 abbrev Events : Type 0
 Events = List (Event (List ℕ))

@@ -2,16 +2,16 @@
 -- is if that fails once some messages were.
 use Rattle.std.proofs.Common.{◌≡◌, ◌∙◌, inl, inr, ℕ, ◌+◌, Bool, true, false, Some, List, ◌++◌, append_assoc, refl, ap, sym, subst}
 use Rattle.std.specs.List.{slice_get}
-use Rattle.dcsctp_machine.specs.declared.progress.Change.TheVariants.{Abandon}
-use Rattle.dcsctp_machine.specs.Event.{Event}
-use Rattle.dcsctp_machine.specs.transfer.Abandoning.{IsDueAt, GivesUpFirst, GivesUpAll}
-use Rattle.dcsctp_machine.specs.transfer.Filling.{Stage, maybe_expired, Closes, GivesUpAt, more}
-use Rattle.dcsctp_machine.specs.transfer.Items.{Item, changed_between}
-use Rattle.dcsctp_machine.specs.transfer.Retransmission.{with_items}
-use Rattle.dcsctp_machine.proofs.GivingUpOutcomes.{dropped_at, drops_named, given_up_at, given_up_from}
-use Rattle.dcsctp_machine.proofs.ItemMessageLemmas.{some_row}
-use Rattle.dcsctp_machine.proofs.ToldLemmas.{behind_events, before_first, before_steps}
-use Rattle.dcsctp_send_streams.specs.Telling.{TellsFront}
+use Rattle.dcsctp_send_retransmission.specs.types.declared.progress.Change.TheVariants.{Abandon}
+use Rattle.dcsctp_send_retransmission.specs.spec.endpoint.Event.{Event}
+use Rattle.dcsctp_send_retransmission.specs.spec.queues.Abandoning.{IsDueAt, GivesUpFirst, GivesUpAll}
+use Rattle.dcsctp_send_retransmission.specs.spec.queues.Filling.{Stage, maybe_expired, Closes, GivesUpAt, more}
+use Rattle.dcsctp_send_retransmission.specs.spec.queues.Items.{Item, changed_between}
+use Rattle.dcsctp_send_retransmission.specs.spec.queues.Retransmission.{with_items}
+use Rattle.dcsctp_send_retransmission.proofs.spec_lemmas.GivingUpOutcomes.{dropped_at, drops_named, given_up_at, given_up_from}
+use Rattle.dcsctp_send_retransmission.proofs.spec_lemmas.ItemMessageLemmas.{some_row}
+use Rattle.dcsctp_send_retransmission.proofs.spec_lemmas.ToldLemmas.{behind_events, before_first, before_steps}
+use Rattle.dcsctp_send_retransmission.specs.send_streams.Telling.{TellsFront}
 use Rattle.dcsctp_send_retransmission.specs.GivingUp.{StopsGivingUp}
 use Rattle.dcsctp_send_retransmission.specs.States.{RefusesClosing, RefusesUpAt}
 

@@ -1,15 +1,15 @@
 -- Chunks of what is outstanding, as they go into a packet.
 use Rattle.std.specs.Prelude.{◌≡◌, ℕ, ◌+◌, ◌≤◌, Some, List, [], ◌∷◌, ◌++◌, map, drop, length, slice_get}
 use Rattle.std.specs.List.{AllByRecursion, flat_map}
-use Rattle.dcsctp_wire.specs.Content.{SackContent, ChunkContent}
-use Rattle.dcsctp_wire.specs.ReadsBack.{FitsChunk}
-use Rattle.dcsctp_wire.specs.Spelling.{chunk_bytes}
+use Rattle.dcsctp_send_retransmission.specs.wire.Content.{SackContent, ChunkContent}
+use Rattle.dcsctp_send_retransmission.specs.wire.ReadsBack.{FitsChunk}
+use Rattle.dcsctp_send_retransmission.specs.wire.Spelling.{chunk_bytes}
 use Rattle.dcsctp_wire_build.specs.Building.{Building, bytes_remaining}
 use Rattle.dcsctp_receive_tracker.specs.declared.data_tracker.SelectiveAck.{SelectiveAck}
-use Rattle.dcsctp_machine.specs.Packet.{unworked}
-use Rattle.dcsctp_machine.specs.transfer.Chunks.{IsChunkOf, AreChunks}
-use Rattle.dcsctp_machine.specs.transfer.Items.{Item, size_of}
-use Rattle.dcsctp_machine.specs.transfer.Outstanding.{OutstandingState, header, tsn_at}
+use Rattle.dcsctp_send_retransmission.specs.spec.Packet.{unworked}
+use Rattle.dcsctp_send_retransmission.specs.spec.queues.Chunks.{IsChunkOf, AreChunks}
+use Rattle.dcsctp_send_retransmission.specs.spec.queues.Items.{Item, size_of}
+use Rattle.dcsctp_send_retransmission.specs.spec.queues.Outstanding.{OutstandingState, header, tsn_at}
 
 -- The TSN is that of an item, whose chunk is that long.
 pub record HasChunk (outstanding : OutstandingState) (tsn size : ℕ) : Type 0 where

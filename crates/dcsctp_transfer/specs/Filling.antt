@@ -1,21 +1,21 @@
 -- How a packet is filled: with data, and with what acknowledges data (RFC 9260, sections 6.1 and 6.2).
 use Rattle.std.specs.Prelude.{◌≡◌, ℕ, ◌&&◌, ◌||◌, nat_le, length, if◌then◌else◌, Bool, true, false, List, [], ◌∷◌, ◌++◌, map}
 use Rattle.std.specs.List.{AllByRecursion, flat_map}
-use Rattle.dcsctp_wire.specs.Content.{ChunkContent, sack_chunk}
-use Rattle.dcsctp_wire.specs.ReadsBack.{FitsChunk}
-use Rattle.dcsctp_wire.specs.Spelling.{chunk_bytes}
+use Rattle.dcsctp_send_retransmission.specs.wire.Content.{ChunkContent, sack_chunk}
+use Rattle.dcsctp_send_retransmission.specs.wire.ReadsBack.{FitsChunk}
+use Rattle.dcsctp_send_retransmission.specs.wire.Spelling.{chunk_bytes}
 use Rattle.dcsctp_wire_build.specs.Building.{Building, bytes_remaining}
-use Rattle.dcsctp_machine.specs.Event.{Event}
-use Rattle.dcsctp_machine.specs.Packet.{unworked}
-use Rattle.dcsctp_machine.specs.transfer.Chunks.{AreChunks}
-use Rattle.dcsctp_machine.specs.transfer.Filling.{Stage}
-use Rattle.dcsctp_machine.specs.transfer.Reassembly.{remaining_bytes}
-use Rattle.dcsctp_machine.specs.transfer.Retransmission.{outstanding_count}
-use Rattle.dcsctp_machine.specs.transfer.SendQueue.{SendQueueState, has_data}
-use Rattle.dcsctp_machine.specs.transfer.Tracker.{is_acknowledgement_due, owes_acknowledgement, sack_of, sacked}
-use Rattle.dcsctp_machine.specs.transfer.Transfer.{Transfer, may_give}
-use Rattle.dcsctp_machine.specs.turns.FlushOutcomes.{Told, told_content, stage_of, FillsWhere}
-use Rattle.dcsctp_send_streams.specs.Telling.{TellsFront}
+use Rattle.dcsctp_send_retransmission.specs.spec.endpoint.Event.{Event}
+use Rattle.dcsctp_send_retransmission.specs.spec.Packet.{unworked}
+use Rattle.dcsctp_send_retransmission.specs.spec.queues.Chunks.{AreChunks}
+use Rattle.dcsctp_send_retransmission.specs.spec.queues.Filling.{Stage}
+use Rattle.dcsctp_send_retransmission.specs.spec.queues.Reassembly.{remaining_bytes}
+use Rattle.dcsctp_send_retransmission.specs.spec.queues.Retransmission.{outstanding_count}
+use Rattle.dcsctp_send_retransmission.specs.spec.queues.SendQueue.{SendQueueState, has_data}
+use Rattle.dcsctp_send_retransmission.specs.spec.queues.Tracker.{is_acknowledgement_due, owes_acknowledgement, sack_of, sacked}
+use Rattle.dcsctp_send_retransmission.specs.spec.queues.Transfer.{Transfer, may_give}
+use Rattle.dcsctp_send_retransmission.specs.spec.endpoint.FlushOutcomes.{Told, told_content, stage_of, FillsWhere}
+use Rattle.dcsctp_send_retransmission.specs.send_streams.Telling.{TellsFront}
 
 -- is there any?
 abbrev pub has_chunks : List ChunkContent → Bool

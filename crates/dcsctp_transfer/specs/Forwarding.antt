@@ -1,20 +1,20 @@
 -- What tells the peer to wait no longer for messages that were abandoned (RFC 3758, section 3.5; RFC 8260, section 2.3.1).
 use Rattle.std.specs.Prelude.{◌≡◌, ◌≤◌, ℕ, length, Option, List, [], ◌++◌, map}
 use Rattle.std.specs.List.{AllByRecursion, flat_map}
-use Rattle.dcsctp_wire.specs.Content.{ChunkContent, forward_tsn_chunk, i_forward_tsn_chunk}
-use Rattle.dcsctp_wire.specs.ReadsBack.{FitsChunk}
-use Rattle.dcsctp_wire.specs.Spelling.{chunk_bytes}
+use Rattle.dcsctp_send_retransmission.specs.wire.Content.{ChunkContent, forward_tsn_chunk, i_forward_tsn_chunk}
+use Rattle.dcsctp_send_retransmission.specs.wire.ReadsBack.{FitsChunk}
+use Rattle.dcsctp_send_retransmission.specs.wire.Spelling.{chunk_bytes}
 use Rattle.dcsctp_wire_build.specs.Building.{Building, bytes_remaining}
-use Rattle.dcsctp_machine.specs.Event.{Event}
-use Rattle.dcsctp_machine.specs.Packet.{Plain, plain_out}
-use Rattle.dcsctp_machine.specs.transfer.Abandoning.{GivesUpAll}
-use Rattle.dcsctp_machine.specs.transfer.Filling.{Stage}
-use Rattle.dcsctp_machine.specs.transfer.Retransmission.{RetransmissionState}
-use Rattle.dcsctp_machine.specs.transfer.SendQueue.{SendQueueState}
-use Rattle.dcsctp_machine.specs.transfer.Skipping.{SaysForward}
-use Rattle.dcsctp_machine.specs.transfer.Transfer.{Transfer}
-use Rattle.dcsctp_machine.specs.turns.FlushOutcomes.{Told, told_content, FitsPlain, stage_of, may_abandon, GivesUpWhere}
-use Rattle.dcsctp_send_streams.specs.Telling.{TellsFront}
+use Rattle.dcsctp_send_retransmission.specs.spec.endpoint.Event.{Event}
+use Rattle.dcsctp_send_retransmission.specs.spec.Packet.{Plain, plain_out}
+use Rattle.dcsctp_send_retransmission.specs.spec.queues.Abandoning.{GivesUpAll}
+use Rattle.dcsctp_send_retransmission.specs.spec.queues.Filling.{Stage}
+use Rattle.dcsctp_send_retransmission.specs.spec.queues.Retransmission.{RetransmissionState}
+use Rattle.dcsctp_send_retransmission.specs.spec.queues.SendQueue.{SendQueueState}
+use Rattle.dcsctp_send_retransmission.specs.spec.queues.Skipping.{SaysForward}
+use Rattle.dcsctp_send_retransmission.specs.spec.queues.Transfer.{Transfer}
+use Rattle.dcsctp_send_retransmission.specs.spec.endpoint.FlushOutcomes.{Told, told_content, FitsPlain, stage_of, may_abandon, GivesUpWhere}
+use Rattle.dcsctp_send_retransmission.specs.send_streams.Telling.{TellsFront}
 use Rattle.dcsctp_send_retransmission.specs.declared.forward_tsn.Skipped.{Skipped}
 use Rattle.dcsctp_send_retransmission.specs.declared.forward_tsn.Skipped.TheVariants.{Streams, Messages}
 use Rattle.dcsctp_transfer.specs.Filling.{with_chunk}

@@ -2,20 +2,20 @@
 use Rattle.std.specs.Prelude.{Bool, true, false, Result, Ok, Err, ◌≡◌, ℕ, List, ◌++◌, map}
 use Rattle.std.specs.List.{AllByRecursion, flat_map}
 use Rattle.std.specs.declared.alloc.AllocError.{AllocError}
-use Rattle.dcsctp_wire.specs.Content.{ChunkContent, SackContent}
-use Rattle.dcsctp_wire.specs.ReadsBack.{FitsChunk}
-use Rattle.dcsctp_wire.specs.Spelling.{chunk_bytes}
+use Rattle.dcsctp_send_retransmission.specs.wire.Content.{ChunkContent, SackContent}
+use Rattle.dcsctp_send_retransmission.specs.wire.ReadsBack.{FitsChunk}
+use Rattle.dcsctp_send_retransmission.specs.wire.Spelling.{chunk_bytes}
 use Rattle.dcsctp_wire_build.specs.Building.{Building, bytes_remaining}
-use Rattle.dcsctp_machine.specs.Event.{Event}
-use Rattle.dcsctp_machine.specs.transfer.Acknowledging.{is_sack_valid, has_acknowledged, delivered_by}
-use Rattle.dcsctp_machine.specs.Packet.{unworked}
-use Rattle.dcsctp_machine.specs.transfer.AtOnce.{SendsAtOnce}
-use Rattle.dcsctp_machine.specs.transfer.Chunks.{AreChunks}
-use Rattle.dcsctp_machine.specs.transfer.Retransmission.{RetransmissionState}
-use Rattle.dcsctp_machine.specs.transfer.SendQueue.{SendQueueState}
-use Rattle.dcsctp_machine.specs.transfer.Transfer.{Transfer}
-use Rattle.dcsctp_machine.specs.turns.TransferMoves.{TakesSack, lost_all}
-use Rattle.dcsctp_send_streams.specs.Telling.{TellsFront}
+use Rattle.dcsctp_send_retransmission.specs.spec.endpoint.Event.{Event}
+use Rattle.dcsctp_send_retransmission.specs.spec.queues.Acknowledging.{is_sack_valid, has_acknowledged, delivered_by}
+use Rattle.dcsctp_send_retransmission.specs.spec.Packet.{unworked}
+use Rattle.dcsctp_send_retransmission.specs.spec.queues.AtOnce.{SendsAtOnce}
+use Rattle.dcsctp_send_retransmission.specs.spec.queues.Chunks.{AreChunks}
+use Rattle.dcsctp_send_retransmission.specs.spec.queues.Retransmission.{RetransmissionState}
+use Rattle.dcsctp_send_retransmission.specs.spec.queues.SendQueue.{SendQueueState}
+use Rattle.dcsctp_send_retransmission.specs.spec.queues.Transfer.{Transfer}
+use Rattle.dcsctp_send_retransmission.specs.spec.endpoint.TransferMoves.{TakesSack, lost_all}
+use Rattle.dcsctp_send_retransmission.specs.send_streams.Telling.{TellsFront}
 use Rattle.dcsctp_transfer.specs.declared.sacks.HandledSack.{HandledSack}
 use Rattle.dcsctp_transfer.specs.declared.sacks.HandledSack.TheVariants.{Invalid, Valid}
 

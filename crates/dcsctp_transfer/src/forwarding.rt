@@ -3,22 +3,23 @@
 
 ghost use Rattle.std.specs.Prelude.{◌≡◌, ◌≤◌, ◌<◌, ◌^◌, min, IfOk, OnOk, OnErr, IsOk};
 ghost use Rattle.std.specs.List.{AllByRecursion};
-ghost use Rattle.dcsctp_wire.specs.Content.{chunk_content};
-ghost use Rattle.dcsctp_wire.specs.ReadsBack.{IsByte};
-ghost use Rattle.dcsctp_machine.specs.Timers.{moment_after};
-ghost use Rattle.dcsctp_machine.specs.transfer.Retransmission.{outstanding_count};
-ghost use Rattle.dcsctp_send_streams.specs.Telling.{contents};
+ghost use Rattle.dcsctp_send_retransmission.specs.wire.Content.{chunk_content};
+ghost use Rattle.dcsctp_send_retransmission.specs.wire.ReadsBack.{IsByte};
+ghost use Rattle.dcsctp_send_retransmission.specs.spec.endpoint.Timers.{moment_after};
+ghost use Rattle.dcsctp_send_retransmission.specs.spec.queues.Retransmission.{outstanding_count};
+ghost use Rattle.dcsctp_send_retransmission.specs.send_streams.Telling.{contents};
 ghost use Rattle.dcsctp_send_retransmission.specs.SkippedBytes.{ReadsAs};
 ghost use Rattle.dcsctp_transfer.specs.Filling.{with_chunk};
 ghost use Rattle.dcsctp_transfer.specs.Forwarding.{forward_said, PutsForward, Forwards, TellsAbandoning};
 
-use crate::queued_messages::QueuedMessages;
 use crate::sending::in_bytes;
 use crate::transfer::Transfer;
-use dcsctp_api::Events;
-use dcsctp_machine::SocketTime;
-use dcsctp_send::{ForwardTsn, RetransmissionQueue, RetransmissionTimeout, Skipped};
-use dcsctp_wire::{Chunk, ForwardTsnChunk, IForwardTsnChunk};
+use dcsctp_send_retransmission::api::Events;
+use dcsctp_send_retransmission::send_queue::SendQueue;
+use dcsctp_send_retransmission::send_timer::RetransmissionTimeout;
+use dcsctp_send_retransmission::types::SocketTime;
+use dcsctp_send_retransmission::wire::{Chunk, ForwardTsnChunk, IForwardTsnChunk};
+use dcsctp_send_retransmission::{ForwardTsn, RetransmissionQueue, Skipped};
 use dcsctp_wire_build::SctpPacketBuilder;
 use std::alloc::{AllocError, Global};
 use std::time::Duration;
@@ -36,7 +37,7 @@ impl Transfer {
     pub fn forward_tsn(
         &mut self,
         events: &mut Events,
-        queue: &mut QueuedMessages,
+        queue: &mut SendQueue,
         now: SocketTime,
         packet: &mut SctpPacketBuilder,
     ) -> Result<Option<SocketTime>, AllocError>
@@ -50,7 +51,7 @@ impl Transfer {
         }
         if !self
             .retransmission_queue
-            .should_send_forward_tsn(events, &mut queue.queue, now)?
+            .should_send_forward_tsn(events, queue, now)?
         {
             return Ok(None);
         }

@@ -2,46 +2,16 @@
 
 ghost use Rattle.std.specs.Prelude.{◌≡◌, true, [], OnOk};
 ghost use Rattle.std.specs.List.{list_all};
-ghost use Rattle.dcsctp_machine.specs.Snapshot.{send_part, received_part, has_bytes_or_is_abandoned, is_valid_queued};
-ghost use Rattle.dcsctp_machine.specs.transfer.OutstandingParts.{with_retransmission};
-ghost use Rattle.dcsctp_machine.specs.transfer.QueuedParts.{with_queue, queue_restored};
-ghost use Rattle.dcsctp_machine.specs.transfer.ReceivedParts.{with_tracker, with_reassembly};
-ghost use Rattle.dcsctp_machine.specs.turns.RestoreOutcomes.{RestoresTransfer};
+ghost use Rattle.dcsctp_send_retransmission.specs.types.Snapshot.{send_part, received_part, has_bytes_or_is_abandoned, is_valid_queued};
+ghost use Rattle.dcsctp_send_retransmission.specs.spec.queues.OutstandingParts.{with_retransmission};
+ghost use Rattle.dcsctp_send_retransmission.specs.spec.queues.QueuedParts.{with_queue, queue_restored};
+ghost use Rattle.dcsctp_send_retransmission.specs.spec.queues.ReceivedParts.{with_tracker, with_reassembly};
+ghost use Rattle.dcsctp_send_retransmission.specs.spec.endpoint.RestoreOutcomes.{RestoresTransfer};
 
-use crate::queued_messages::QueuedMessages;
 use crate::transfer::Transfer;
-use dcsctp_api::SocketTime;
-use dcsctp_machine::{HandoverReceive, HandoverTransmission};
+use dcsctp_send_retransmission::api::SocketTime;
+use dcsctp_send_retransmission::types::{HandoverReceive, HandoverTransmission};
 use std::alloc::AllocError;
-
-impl QueuedMessages {
-    /// Adds what a snapshot that is made at the moment `now` has of what waits: the numbers and the priorities
-    /// of all streams, and, if they go along, the messages. `Err`: an allocation failed.
-    pub fn add_to_handover_state(
-        &self,
-        now: SocketTime,
-        with_outstanding_data: bool,
-        tx: &mut HandoverTransmission,
-    ) -> Result<(), AllocError>
-        ensures { OnOk result (send_part tx.new ≡ with_queue now with_outstanding_data self.now (send_part tx.old)) }
-    {
-        self.queue
-            .add_to_handover_state(now, with_outstanding_data, tx)
-    }
-
-    /// Puts what the snapshot has, restored at the moment `now`, in the place of what waits. `Err`: an
-    /// allocation failed, and only some of it is restored.
-    pub fn restore_from_state(
-        &mut self,
-        now: SocketTime,
-        tx: &HandoverTransmission,
-    ) -> Result<(), AllocError>
-        requires { list_all is_valid_queued (send_part tx.now).queued_messages ≡ true }
-        ensures { OnOk result (self.new ≡ queue_restored now (send_part tx.now) self.old) }
-    {
-        self.queue.restore_from_state(now, tx)
-    }
-}
 
 impl Transfer {
     /// Adds what a snapshot that is made at the moment `now` has of the association: the TSNs and the windows,

@@ -1,11 +1,10 @@
-//! The transfer layer, as the rest of a socket sees it. It has what waits to be sent, and what an association
-//! has in flight and has received. Contracts speak of the values that the machine's definitions name, and not
+//! The transfer layer, as the rest of a socket sees it: what an association has in flight and has received.
+//! What waits to be sent outlives an association, and is the socket's `SendQueue`. Contracts speak of the values that the machine's definitions name, and not
 //! of how the crates below represent them.
 #![tactic(auto)]
 
 mod forwarding;
 mod handover;
-mod queued_messages;
 mod receiving;
 mod resets;
 mod sacks;
@@ -13,9 +12,12 @@ mod sending;
 mod showing;
 mod transfer;
 
-pub use dcsctp_receive::{Data, Numbering, SkippedTo};
-pub use dcsctp_send::DataToSend;
-pub use queued_messages::QueuedMessages;
+pub use dcsctp_receive_reassembly::{Data, Numbering, SkippedTo};
+pub use dcsctp_send_retransmission::send_queue::{DataToSend, SendQueue};
 pub use sacks::HandledSack;
 pub use sending::make_data_chunk;
 pub use transfer::Transfer;
+
+// What stands below, for the crates above.
+pub use dcsctp_send_retransmission::{api, send_timer, types, wire};
+pub use dcsctp_wire_build as wire_build;

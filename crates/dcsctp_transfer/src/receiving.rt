@@ -2,17 +2,17 @@
 //! Also when it is acknowledged, and the messages that a user takes.
 
 ghost use Rattle.std.specs.Prelude.{◌≡◌, ◌∷◌, [], length, true, false, if◌then◌else◌, OnOk, OnErr, IsSome, IfSome, IfNone};
-ghost use Rattle.dcsctp_machine.specs.TimeTurns.{has_come};
-ghost use Rattle.dcsctp_machine.specs.turns.TransferMoves.{ReceivesData, MovesForward};
-ghost use Rattle.dcsctp_machine.specs.transfer.Messages.{message_content};
-ghost use Rattle.dcsctp_machine.specs.transfer.Reassembly.{with_ready};
+ghost use Rattle.dcsctp_send_retransmission.specs.spec.endpoint.TimeTurns.{has_come};
+ghost use Rattle.dcsctp_send_retransmission.specs.spec.endpoint.TransferMoves.{ReceivesData, MovesForward};
+ghost use Rattle.dcsctp_send_retransmission.specs.types.queues.Messages.{message_content};
+ghost use Rattle.dcsctp_send_retransmission.specs.spec.queues.Reassembly.{with_ready};
 ghost use Rattle.dcsctp_receive_reassembly.specs.Streams.{chunk_of};
-ghost use Rattle.dcsctp_machine.specs.transfer.Tracker.{after_packet_end, is_acknowledgement_due, delayed_acknowledgement, delay_over};
+ghost use Rattle.dcsctp_send_retransmission.specs.spec.queues.Tracker.{after_packet_end, is_acknowledgement_due, delayed_acknowledgement, delay_over};
 
 use crate::transfer::Transfer;
-use dcsctp_api::Message;
-use dcsctp_machine::SocketTime;
-use dcsctp_receive::{Data, SkippedTo};
+use dcsctp_receive_reassembly::{Data, SkippedTo};
+use dcsctp_send_retransmission::api::Message;
+use dcsctp_send_retransmission::types::SocketTime;
 use std::alloc::AllocError;
 
 impl Transfer {

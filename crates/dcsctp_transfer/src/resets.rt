@@ -1,21 +1,19 @@
 //! Streams that are reset: those of the peer (RFC 6525, section 5.2.2), and our own ones (section 5.1.2).
 
-ghost use Rattle.dcsctp_machine.specs.transfer.Tracker.{cumulative_tsn};
+ghost use Rattle.dcsctp_send_retransmission.specs.spec.queues.Tracker.{cumulative_tsn};
 ghost use Rattle.std.specs.Prelude.{◌≡◌, not, take, IfOk, OnOk, OnErr};
 ghost use Rattle.std.specs.Duration.{as_nanos};
-ghost use Rattle.dcsctp_machine.specs.Ids.{stream_numbers};
-ghost use Rattle.dcsctp_machine.specs.transfer.OwnResets.{ready_streams, queue_handing_out, queue_committed, queue_rolled_back};
-ghost use Rattle.dcsctp_machine.specs.transfer.Retransmission.{with_reset_begun};
-ghost use Rattle.dcsctp_machine.specs.transfer.Transfer.{is_none_ready};
-ghost use Rattle.dcsctp_machine.specs.turns.BegunResets.{last_assigned_tsn};
-ghost use Rattle.dcsctp_machine.specs.turns.ResetOutcomes.{defers_reset, ResetsStreams};
-ghost use Rattle.dcsctp_machine.specs.transfer.Numbers.{is_tsn_beyond};
-ghost use Rattle.dcsctp_send_streams.specs.Telling.{contents};
-ghost use Rattle.dcsctp_transfer.specs.Preparing.{TriesStream};
+ghost use Rattle.dcsctp_send_retransmission.specs.types.Ids.{stream_numbers};
+ghost use Rattle.dcsctp_send_retransmission.specs.spec.queues.OwnResets.{ready_streams, queue_handing_out, queue_committed, queue_rolled_back};
+ghost use Rattle.dcsctp_send_retransmission.specs.spec.queues.Retransmission.{with_reset_begun};
+ghost use Rattle.dcsctp_send_retransmission.specs.spec.queues.Transfer.{is_none_ready};
+ghost use Rattle.dcsctp_send_retransmission.specs.spec.endpoint.BegunResets.{last_assigned_tsn};
+ghost use Rattle.dcsctp_send_retransmission.specs.spec.endpoint.ResetOutcomes.{defers_reset, ResetsStreams};
+ghost use Rattle.dcsctp_send_retransmission.specs.spec.queues.Numbers.{is_tsn_beyond};
+ghost use Rattle.dcsctp_send_retransmission.specs.send_streams.Telling.{contents};
 
-use crate::queued_messages::QueuedMessages;
 use crate::transfer::Transfer;
-use dcsctp_api::{Events, StreamId};
+use dcsctp_send_retransmission::api::{Events, StreamId};
 use std::alloc::AllocError;
 use std::time::Duration;
 
@@ -70,55 +68,5 @@ impl Transfer {
     {
         self.retransmission_queue.begin_reset_streams();
         self.retransmission_queue.last_assigned_tsn()
-    }
-}
-
-impl QueuedMessages {
-    /// Drops the messages of the stream that haven't been started, and reports it. The stream starts no other
-    /// until it was reset, or until that failed. One that already waits for its reset is unchanged.
-    ///
-    /// `Err`: an allocation failed; the first of its events may already have been added.
-    pub fn prepare_reset_stream(
-        &mut self,
-        events: &mut Events,
-        stream_id: StreamId,
-    ) -> Result<(), AllocError>
-        ensures { TriesStream stream_id.0 self.old (contents events.old) result self.new (contents events.new) }
-    {
-        self.queue.prepare_reset_stream(events, stream_id)
-    }
-
-    /// Is a stream ready to be reset?
-    pub fn has_streams_ready_to_be_reset(&self) -> bool
-        ensures { result ≡ not (is_none_ready (ready_streams self.now)) }
-    {
-        self.queue.has_streams_ready_to_be_reset()
-    }
-
-    /// Hands out streams that are ready to be reset, the first of them, at most that many; the others stay
-    /// ready. They stay paused until it is known what became of the reset.
-    ///
-    /// `Err`: an allocation failed, and nothing has changed.
-    pub fn get_streams_ready_to_reset(&mut self, max: usize) -> Result<Vec<StreamId>, AllocError>
-        ensures streams { IfOk result (λ ids. stream_numbers ids.items ≡ take max (ready_streams self.old)) }
-        ensures left { OnOk result (self.new ≡ queue_handing_out max self.old) }
-        ensures err { OnErr result (self.new ≡ self.old) }
-    {
-        self.queue.get_streams_ready_to_reset(max)
-    }
-
-    /// The streams that are handed out were reset: they number their messages from 0, and are paused no
-    /// longer. Allocates nothing.
-    pub fn commit_reset_streams(&mut self)
-        ensures { self.new ≡ queue_committed self.old }
-    {
-        self.queue.commit_reset_streams();
-    }
-
-    /// The streams that are handed out weren't reset: they are paused no longer. Allocates nothing.
-    pub fn rollback_reset_streams(&mut self)
-        ensures { self.new ≡ queue_rolled_back self.old }
-    {
-        self.queue.rollback_reset_streams();
     }
 }

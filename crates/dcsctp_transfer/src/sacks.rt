@@ -3,18 +3,18 @@
 ghost use Rattle.std.specs.Prelude.{◌≡◌};
 ghost use Rattle.std.specs.Duration.{as_nanos};
 ghost use Rattle.std.specs.Option.{option_map};
-ghost use Rattle.dcsctp_wire.specs.Content.{sack_content};
-ghost use Rattle.dcsctp_machine.specs.TimeTurns.{has_come};
-ghost use Rattle.dcsctp_machine.specs.transfer.Retransmission.{retransmission_deadline};
-ghost use Rattle.dcsctp_machine.specs.turns.TransferMoves.{timed_by};
-ghost use Rattle.dcsctp_send_streams.specs.Telling.{contents};
+ghost use Rattle.dcsctp_send_retransmission.specs.wire.Content.{sack_content};
+ghost use Rattle.dcsctp_send_retransmission.specs.spec.endpoint.TimeTurns.{has_come};
+ghost use Rattle.dcsctp_send_retransmission.specs.spec.queues.Retransmission.{retransmission_deadline};
+ghost use Rattle.dcsctp_send_retransmission.specs.spec.endpoint.TransferMoves.{timed_by};
+ghost use Rattle.dcsctp_send_retransmission.specs.send_streams.Telling.{contents};
 ghost use Rattle.dcsctp_transfer.specs.Sacks.{HandlesSack, lost_where};
 
 use crate::transfer::Transfer;
-use dcsctp_api::Events;
-use dcsctp_machine::SocketTime;
-use dcsctp_send::HandleSackResult;
-use dcsctp_wire::{SackChunk, clean_sack};
+use dcsctp_send_retransmission::HandleSackResult;
+use dcsctp_send_retransmission::api::Events;
+use dcsctp_send_retransmission::types::SocketTime;
+use dcsctp_send_retransmission::wire::{SackChunk, clean_sack};
 use std::alloc::AllocError;
 use std::time::Duration;
 

@@ -3,30 +3,30 @@
 
 ghost use Rattle.std.specs.Prelude.{◌≡◌, ◌≤◌, ◌<◌, ◌+◌, ◌^◌, ◌||◌, nat_lt, length, false, true, IfOk, OnOk, OnErr, IsOk};
 ghost use Rattle.std.specs.List.{AllByRecursion};
-ghost use Rattle.dcsctp_wire.specs.Content.{data_chunk, i_data_chunk, sack_chunk, chunk_content};
-ghost use Rattle.dcsctp_wire.specs.ReadsBack.{IsByte, FitsChunk};
-ghost use Rattle.dcsctp_wire.specs.Spelling.{chunk_bytes};
+ghost use Rattle.dcsctp_send_retransmission.specs.wire.Content.{data_chunk, i_data_chunk, sack_chunk, chunk_content};
+ghost use Rattle.dcsctp_send_retransmission.specs.wire.ReadsBack.{IsByte, FitsChunk};
+ghost use Rattle.dcsctp_send_retransmission.specs.wire.Spelling.{chunk_bytes};
 ghost use Rattle.dcsctp_wire_build.specs.Building.{bytes_remaining};
-ghost use Rattle.dcsctp_machine.specs.transfer.SendQueue.{has_data};
-ghost use Rattle.dcsctp_machine.specs.transfer.Retransmission.{outstanding_count, has_fast_retransmit, can_send};
-ghost use Rattle.dcsctp_machine.specs.transfer.Chunks.{flags_said, ppid_or_fsn, data_said, i_data_said, chunk_said};
-ghost use Rattle.dcsctp_machine.specs.transfer.Outstanding.{header_of};
-ghost use Rattle.dcsctp_send_outstanding.specs.Outstanding.{FindsPlaces};
-ghost use Rattle.dcsctp_send_streams.specs.Telling.{contents};
-ghost use Rattle.dcsctp_machine.specs.transfer.Items.{chunk_size, is_first_abandoned};
+ghost use Rattle.dcsctp_send_retransmission.specs.spec.queues.SendQueue.{has_data};
+ghost use Rattle.dcsctp_send_retransmission.specs.spec.queues.Retransmission.{outstanding_count, has_fast_retransmit, can_send};
+ghost use Rattle.dcsctp_send_retransmission.specs.spec.queues.Chunks.{flags_said, ppid_or_fsn, data_said, i_data_said, chunk_said};
+ghost use Rattle.dcsctp_send_retransmission.specs.spec.queues.Outstanding.{header_of};
+ghost use Rattle.dcsctp_send_retransmission.specs.send_outstanding.Outstanding.{FindsPlaces};
+ghost use Rattle.dcsctp_send_retransmission.specs.send_streams.Telling.{contents};
+ghost use Rattle.dcsctp_send_retransmission.specs.spec.queues.Items.{chunk_size, is_first_abandoned};
 ghost use Rattle.dcsctp_send_retransmission.specs.Sending.{HandsOut};
 ghost use Rattle.dcsctp_transfer.specs.Filling.{TellsFilling, FillsPacket, is_sack_wanted, with_chunk, Acknowledges};
-ghost use Rattle.dcsctp_machine.specs.transfer.Transfer.{may_give};
+ghost use Rattle.dcsctp_send_retransmission.specs.spec.queues.Transfer.{may_give};
 ghost use Rattle.dcsctp_transfer.specs.Sacks.{FillsAtOnce};
 ghost use Rattle.dcsctp_transfer.specs.Adding.{HasChunkWithin, AddsChunkOf, AddsChunks, said_by};
 
-use crate::queued_messages::QueuedMessages;
 use crate::transfer::Transfer;
-use dcsctp_api::Events;
-use dcsctp_machine::SocketTime;
-use dcsctp_receive::SelectiveAck;
-use dcsctp_send::{DataToSend, RetransmissionQueue};
-use dcsctp_wire::{Chunk, DataChunk, DataFlags, IDataChunk, SackChunk};
+use dcsctp_receive_tracker::SelectiveAck;
+use dcsctp_send_retransmission::RetransmissionQueue;
+use dcsctp_send_retransmission::api::Events;
+use dcsctp_send_retransmission::send_queue::{DataToSend, SendQueue};
+use dcsctp_send_retransmission::types::SocketTime;
+use dcsctp_send_retransmission::wire::{Chunk, DataChunk, DataFlags, IDataChunk, SackChunk};
 use dcsctp_wire_build::SctpPacketBuilder;
 use std::alloc::AllocError;
 
@@ -40,7 +40,7 @@ impl Transfer {
     pub fn fill_packet(
         &mut self,
         events: &mut Events,
-        queue: &mut QueuedMessages,
+        queue: &mut SendQueue,
         now: SocketTime,
         packet: &mut SctpPacketBuilder,
     ) -> Result<bool, AllocError>
@@ -55,7 +55,7 @@ impl Transfer {
         let room = packet.bytes_remaining();
         let tsns = self
             .retransmission_queue
-            .get_chunks_to_send(events, &mut queue.queue, now, room)?;
+            .get_chunks_to_send(events, queue, now, room)?;
         add_chunks(&self.retransmission_queue, &tsns, packet);
         let has_some = !tsns.is_empty();
         self.retransmission_queue.take_back(tsns);
@@ -121,7 +121,7 @@ impl Transfer {
     }
 
     /// May data be sent now: what waits to be sent again, or a message if the windows allow more?
-    pub fn may_fill(&self, queue: &QueuedMessages) -> bool
+    pub fn may_fill(&self, queue: &SendQueue) -> bool
         ensures { result ≡ may_give queue.now self.now.retransmission }
     {
         0 < self.retransmission_queue.marked_items()
@@ -130,7 +130,7 @@ impl Transfer {
 
     /// May anything go into the first packet of a flush: a SACK, a FORWARD-TSN, or data? A delayed SACK
     /// counts if `also_if_delayed`.
-    pub fn may_fill_first(&self, queue: &QueuedMessages, also_if_delayed: bool) -> bool
+    pub fn may_fill_first(&self, queue: &SendQueue, also_if_delayed: bool) -> bool
         ensures { result ≡ false → (is_sack_wanted also_if_delayed self.now ≡ false) × (is_first_abandoned self.now.retransmission.outstanding.items ≡ false) × (may_give queue.now self.now.retransmission ≡ false) }
     {
         self.data_tracker.is_acknowledgement_due()
@@ -140,7 +140,7 @@ impl Transfer {
     }
 
     // Does a message wait, or is something outstanding?
-    fn may_have_data(&self, queue: &QueuedMessages) -> bool
+    fn may_have_data(&self, queue: &SendQueue) -> bool
         ensures { result ≡ (has_data queue.now || nat_lt 0 (outstanding_count self.now.retransmission)) }
     {
         queue.has_data_to_send() || 0 < self.retransmission_queue.outstanding_items()

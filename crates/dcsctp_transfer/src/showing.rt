@@ -1,14 +1,14 @@
 //! What a user is shown of an association's data, and why it can't be handed over.
 
 ghost use Rattle.std.specs.Prelude.{◌≡◌, ◌<◌};
-ghost use Rattle.dcsctp_machine.specs.Soundness.{IsSoundTransfer};
-ghost use Rattle.dcsctp_machine.specs.transfer.Readiness.{transfer_readiness};
-ghost use Rattle.dcsctp_api.specs.Metrics.{headers, ShowsTransfer};
+ghost use Rattle.dcsctp_send_retransmission.specs.spec.Soundness.{IsSoundTransfer};
+ghost use Rattle.dcsctp_send_retransmission.specs.spec.queues.Readiness.{transfer_readiness};
+ghost use Rattle.dcsctp_send_retransmission.specs.api.Metrics.{headers, ShowsTransfer};
 
-use crate::queued_messages::QueuedMessages;
 use crate::transfer::Transfer;
-use dcsctp_api::{Metrics, SctpImplementation};
-use dcsctp_machine::HandoverReadiness;
+use dcsctp_send_retransmission::api::{Metrics, SctpImplementation};
+use dcsctp_send_retransmission::send_queue::SendQueue;
+use dcsctp_send_retransmission::types::HandoverReadiness;
 
 // A packet's header and one of DATA (RFC 9260, sections 3.1 and 3.3.1).
 const HEADERS: usize = 28;
@@ -16,7 +16,7 @@ const HEADERS: usize = 28;
 impl Transfer {
     /// What is shown of what is in flight, of the path and of the peer's window, with packets of `mtu` bytes.
     /// The caller sets the rest.
-    pub fn metrics(&self, queue: &QueuedMessages, mtu: usize) -> Metrics
+    pub fn metrics(&self, queue: &SendQueue, mtu: usize) -> Metrics
         requires { headers < mtu }
         ensures { ShowsTransfer mtu queue.now self.now result }
     {

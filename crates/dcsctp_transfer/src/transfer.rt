@@ -1,8 +1,10 @@
 //! What belongs to an association: what is in flight, and what was received.
 
-use dcsctp_machine::{Capabilities, Options};
-use dcsctp_receive::{DataTracker, ReassemblyQueue};
-use dcsctp_send::{RetransmissionQueue, RetransmissionTimeout};
+use dcsctp_receive_reassembly::ReassemblyQueue;
+use dcsctp_receive_tracker::DataTracker;
+use dcsctp_send_retransmission::RetransmissionQueue;
+use dcsctp_send_retransmission::send_timer::RetransmissionTimeout;
+use dcsctp_send_retransmission::types::{Capabilities, Options};
 use std::alloc::Global;
 use std::marker::Model;
 
@@ -30,7 +32,7 @@ impl Drop for Transfer {
 }
 
 impl Model for Transfer {
-    ghost use Rattle.dcsctp_machine.specs.transfer.Transfer.{Transfer};
+    ghost use Rattle.dcsctp_send_retransmission.specs.spec.queues.Transfer.{Transfer};
 
     ghost Value = { Transfer };
 
@@ -44,10 +46,10 @@ impl Model for Transfer {
 
 impl Transfer {
     ghost use Rattle.std.specs.Prelude.{◌≡◌, ◌==◌, ◌%◌, ◌^◌, not};
-    ghost use Rattle.dcsctp_machine.specs.transfer.Items.{unacknowledged_items};
-    ghost use Rattle.dcsctp_machine.specs.transfer.Outstanding.{next_tsn};
-    ghost use Rattle.dcsctp_machine.specs.transfer.Transfer.{new_transfer};
-    ghost use Rattle.dcsctp_machine.specs.transfer.Tracker.{cumulative_tsn};
+    ghost use Rattle.dcsctp_send_retransmission.specs.spec.queues.Items.{unacknowledged_items};
+    ghost use Rattle.dcsctp_send_retransmission.specs.spec.queues.Outstanding.{next_tsn};
+    ghost use Rattle.dcsctp_send_retransmission.specs.spec.queues.Transfer.{new_transfer};
+    ghost use Rattle.dcsctp_send_retransmission.specs.spec.queues.Tracker.{cumulative_tsn};
 
     /// Nothing was sent or received yet. `first_tsn` is the first TSN that we send, and `peer_first_tsn` the
     /// first one of the peer. `a_rwnd` is the receive window that the peer announced, in bytes. Allocates

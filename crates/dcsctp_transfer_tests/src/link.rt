@@ -1,7 +1,7 @@
 //! A link that loses, doubles and reorders what goes by it, as its seed says.
 
-use dcsctp_receive::{Data, SkippedTo};
-use dcsctp_wire::GapAckBlock;
+use dcsctp_receive_reassembly::{Data, SkippedTo};
+use dcsctp_send_retransmission::wire::GapAckBlock;
 use rand_core::{Rng, SeedableRng};
 use rand_xoshiro::Xoshiro256PlusPlus;
 use std::alloc::{AllocError, Global};

@@ -1,6 +1,6 @@
 //! The messages of a run, and which of them have arrived.
 
-use dcsctp_api::{Message, PpId, SendOptions, StreamId};
+use dcsctp_send_retransmission::api::{Message, PpId, SendOptions, StreamId};
 use rand_core::Rng;
 use rand_xoshiro::Xoshiro256PlusPlus;
 use std::alloc::{AllocError, Global};

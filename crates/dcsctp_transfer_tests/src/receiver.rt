@@ -3,9 +3,10 @@
 use crate::link::{Link, Parcel};
 use crate::messages::Messages;
 use crate::sender::at;
-use dcsctp_api::Options;
-use dcsctp_receive::{Data, DataTracker, ReassemblyQueue, SkippedTo};
-use dcsctp_wire::clean_sack;
+use dcsctp_receive_reassembly::{Data, ReassemblyQueue, SkippedTo};
+use dcsctp_receive_tracker::DataTracker;
+use dcsctp_send_retransmission::api::Options;
+use dcsctp_send_retransmission::wire::clean_sack;
 use std::alloc::{AllocError, Global};
 use std::process::Abort;
 

@@ -1,13 +1,14 @@
 //! The side that sends.
 
 use crate::link::{Link, Parcel};
-use dcsctp_api::{Events, Message, Options, SendOptions, SocketTime, StreamId};
-use dcsctp_receive::{Data, Numbering, SkippedTo};
-use dcsctp_send::{
-    DataToSend, ForwardTsn, HandleSackResult, RetransmissionQueue, RetransmissionTimeout,
-    SendQueue, Skipped,
+use dcsctp_receive_reassembly::{Data, Numbering, SkippedTo};
+use dcsctp_send_retransmission::api::{
+    Events, Message, Options, SendOptions, SocketTime, StreamId,
 };
-use dcsctp_wire::GapAckBlock;
+use dcsctp_send_retransmission::send_queue::{DataToSend, SendQueue};
+use dcsctp_send_retransmission::send_timer::RetransmissionTimeout;
+use dcsctp_send_retransmission::wire::GapAckBlock;
+use dcsctp_send_retransmission::{ForwardTsn, HandleSackResult, RetransmissionQueue, Skipped};
 use std::alloc::{AllocError, Global};
 use std::process::Abort;
 use std::time::Duration;

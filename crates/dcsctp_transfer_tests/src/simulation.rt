@@ -5,7 +5,7 @@ use crate::link::{Link, Parcel};
 use crate::messages::Messages;
 use crate::receiver::Receiver;
 use crate::sender::Sender;
-use dcsctp_api::Options;
+use dcsctp_send_retransmission::api::Options;
 use rand_core::SeedableRng;
 use rand_xoshiro::Xoshiro256PlusPlus;
 use std::alloc::{AllocError, Global};

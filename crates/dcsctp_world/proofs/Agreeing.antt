@@ -3,29 +3,29 @@ use Rattle.std.proofs.Common.{◌≡◌, ◌<◌, ℕ, zero, suc, arith, true, f
 use Rattle.std.specs.List.{AllByRecursion}
 use Rattle.rand_core.specs.Stream.{Stream}
 use Rattle.std.proofs.lemmas.List.{map-append, reverse-reverse}
-use Rattle.dcsctp_machine.specs.declared.association.Pair.{Pair}
-use Rattle.dcsctp_machine.specs.declared.options.Options.{Options}
-use Rattle.dcsctp_machine.specs.declared.schedule.Side.TheVariants as sides
-use Rattle.dcsctp_machine.specs.declared.schedule.Step.{Step}
-use Rattle.dcsctp_machine.specs.Event.{Event, event_map, sent, connected, closed, connection_restarted, aborted, error, buffered_amount_low, total_buffered_amount_low, streams_reset_failed, streams_reset_performed, incoming_stream_reset, lifecycle_message_fully_sent, lifecycle_message_maybe_expired, lifecycle_message_expired, lifecycle_message_delivered, lifecycle_end}
-use Rattle.dcsctp_machine.specs.Packet.{Emission, emission_bytes}
-use Rattle.dcsctp_machine.specs.Settings.{ports_of}
-use Rattle.dcsctp_machine.specs.Endpoint.{Endpoint}
-use Rattle.dcsctp_machine.specs.CallTurns.{Turned, events_of}
-use Rattle.dcsctp_machine.specs.declared.schedule.Side.{Side}
-use Rattle.dcsctp_machine.specs.Sockets.{Worked, Both, of_side, turns_after, acts_of}
-use Rattle.dcsctp_machine_refinement.specs.Deadlines.{RunsT1}
-use Rattle.dcsctp_machine_refinement.specs.Handshake.{ConnectThroughout, handshake_acts, connections, IsConnected, AreConnected, FittingSocketsConnect}
-use Rattle.dcsctp_machine_refinement.specs.Laws.{SocketLaws}
-use Rattle.dcsctp_machine_refinement.specs.OneSocket.{IsWithinLimit}
-use Rattle.dcsctp_machine_refinement.specs.Telling.{HoldsNoted}
-use Rattle.dcsctp_machine_cookies.specs.Laws.{CookieLaws}
+use Rattle.dcsctp_core.specs.types.declared.association.Pair.{Pair}
+use Rattle.dcsctp_core.specs.types.declared.options.Options.{Options}
+use Rattle.dcsctp_core.specs.types.declared.schedule.Side.TheVariants as sides
+use Rattle.dcsctp_core.specs.types.declared.schedule.Step.{Step}
+use Rattle.dcsctp_core.specs.spec.endpoint.Event.{Event, event_map, sent, connected, closed, connection_restarted, aborted, error, buffered_amount_low, total_buffered_amount_low, streams_reset_failed, streams_reset_performed, incoming_stream_reset, lifecycle_message_fully_sent, lifecycle_message_maybe_expired, lifecycle_message_expired, lifecycle_message_delivered, lifecycle_end}
+use Rattle.dcsctp_core.specs.spec.Packet.{Emission, emission_bytes}
+use Rattle.dcsctp_core.specs.types.Settings.{ports_of}
+use Rattle.dcsctp_core.specs.spec.endpoint.Endpoint.{Endpoint}
+use Rattle.dcsctp_core.specs.spec.endpoint.CallTurns.{Turned, events_of}
+use Rattle.dcsctp_core.specs.types.declared.schedule.Side.{Side}
+use Rattle.dcsctp_spec_runs.specs.Sockets.{Worked, Both, of_side, turns_after, acts_of}
+use Rattle.dcsctp_theorem_sockets.specs.Deadlines.{RunsT1}
+use Rattle.dcsctp_theorem_sockets.specs.Handshake.{ConnectThroughout, handshake_acts, connections, IsConnected, AreConnected, FittingSocketsConnect}
+use Rattle.dcsctp_theorem_sockets.specs.Laws.{SocketLaws}
+use Rattle.dcsctp_theorem_sockets.specs.OneSocket.{IsWithinLimit}
+use Rattle.dcsctp_theorem_sockets.specs.Telling.{HoldsNoted}
+use Rattle.dcsctp_theorem_cookies.specs.Laws.{CookieLaws}
 use Rattle.dcsctp_delivery_shown.specs.Delivery.{UsersReadWhatWasSent}
-use Rattle.dcsctp_machine.specs.Schedule.{ActContent, step_content, step_act}
+use Rattle.dcsctp_core.specs.types.Schedule.{ActContent, step_content, step_act}
 use Rattle.dcsctp_world.specs.Shown.{SideShown, WorldView, options_of}
 use Rattle.dcsctp_world.specs.Run.{SideRuns, IsRun}
-use Rattle.dcsctp_api.specs.declared.errors.SocketFault.{SocketFault}
-use Rattle.dcsctp_api.specs.declared.errors.SocketFault.TheVariants.{OutOfMemory, Failed}
+use Rattle.dcsctp_core.specs.api.declared.errors.SocketFault.{SocketFault}
+use Rattle.dcsctp_core.specs.api.declared.errors.SocketFault.TheVariants.{OutOfMemory, Failed}
 use Rattle.dcsctp_world.specs.Acts.{Applies, Ran, Runs}
 use Rattle.dcsctp_world.specs.Drawing.{DrawOn, AreWhole}
 use Rattle.dcsctp_world.specs.Recording.{Recording, recorded_stream}

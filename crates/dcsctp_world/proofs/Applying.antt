@@ -1,21 +1,21 @@
 -- What the calls of a world do, from what its parts do.
 use Rattle.std.proofs.Common.{◌≡◌, ℕ, ◌+◌, ◌<◌, take, get_or, length, Bool, true, false, Err, List, [], ◌∷◌, ◌++◌, map, refl, sym, ap, subst, ◌∙◌, append_assoc, inl}
 use Rattle.std.proofs.lemmas.List.{append-nil, map-append, take_more}
-use Rattle.dcsctp_machine.specs.declared.options.Options.{Options}
-use Rattle.dcsctp_machine.specs.declared.schedule.Side.{Side}
-use Rattle.dcsctp_machine.specs.declared.schedule.Side.TheVariants as sides
-use Rattle.dcsctp_machine.specs.declared.schedule.Step.{Step}
-use Rattle.dcsctp_machine.specs.Event.{Event, packets_in}
-use Rattle.dcsctp_machine.specs.Settings.{ports_of}
-use Rattle.dcsctp_machine.specs.Endpoint.{association_of}
-use Rattle.dcsctp_machine.specs.CallTurns.{Turned, events_of, words_of, pairs_of}
-use Rattle.dcsctp_machine.specs.Sockets.{Both, of_side, of_other, side_of_act, TurnsOfAct}
+use Rattle.dcsctp_core.specs.types.declared.options.Options.{Options}
+use Rattle.dcsctp_core.specs.types.declared.schedule.Side.{Side}
+use Rattle.dcsctp_core.specs.types.declared.schedule.Side.TheVariants as sides
+use Rattle.dcsctp_core.specs.types.declared.schedule.Step.{Step}
+use Rattle.dcsctp_core.specs.spec.endpoint.Event.{Event, packets_in}
+use Rattle.dcsctp_core.specs.types.Settings.{ports_of}
+use Rattle.dcsctp_core.specs.spec.endpoint.Endpoint.{association_of}
+use Rattle.dcsctp_core.specs.spec.endpoint.CallTurns.{Turned, events_of, words_of, pairs_of}
+use Rattle.dcsctp_spec_runs.specs.Sockets.{Both, of_side, of_other, side_of_act, TurnsOfAct}
 use Rattle.dcsctp_delivery_sockets.specs.UserMessages.{sent_of, read_of}
-use Rattle.dcsctp_api.specs.declared.errors.SocketFault.{SocketFault}
-use Rattle.dcsctp_api.specs.declared.errors.SocketFault.TheVariants.{OutOfMemory, Failed}
-use Rattle.dcsctp_api.specs.Calls.{user_event}
-use Rattle.dcsctp_machine.specs.declared.schedule.Act.{Act}
-use Rattle.dcsctp_machine.specs.Schedule.{StepContent, ActContent, step_content, step_act}
+use Rattle.dcsctp_core.specs.api.declared.errors.SocketFault.{SocketFault}
+use Rattle.dcsctp_core.specs.api.declared.errors.SocketFault.TheVariants.{OutOfMemory, Failed}
+use Rattle.dcsctp_core.specs.api.Calls.{user_event}
+use Rattle.dcsctp_core.specs.types.declared.schedule.Act.{Act}
+use Rattle.dcsctp_core.specs.types.Schedule.{StepContent, ActContent, step_content, step_act}
 use Rattle.dcsctp_world.proofs.Stopping.{shows_nothing}
 use Rattle.dcsctp_delivery_sockets.specs.Delivery.{FitsAct}
 use Rattle.dcsctp_world.specs.declared.act.Reply.{Reply}

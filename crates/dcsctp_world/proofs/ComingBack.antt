@@ -1,40 +1,42 @@
 -- A restore brings back what the snapshot has of the association.
 use Rattle.std.proofs.Common.{◌≡◌, OnOk, ℕ, zero, suc, Bool, true, false, Option, None, Some, Result, Ok, Err, IfOk, List, [], ◌∷◌, map, refl, sym, subst, ap, ◌∙◌}
-use Rattle.dcsctp_machine.specs.Soundness.{UsesOwnMethod, IsSoundCore, IsSound, SocketsStaySound}
-use Rattle.dcsctp_machine.specs.declared.association.Held.{Held}
-use Rattle.dcsctp_machine.specs.declared.association.Pair.{Pair}
-use Rattle.dcsctp_machine.specs.declared.options.Options.{Options}
-use Rattle.dcsctp_machine.specs.declared.snapshot.HandoverSocketState.{HandoverSocketState}
-use Rattle.dcsctp_machine.specs.declared.snapshot.HandoverSocketState.TheVariants as states
-use Rattle.dcsctp_machine.specs.Endpoint.{Endpoint, Core, closed, cookie_wait, cookie_echoed, open_in, established, held_in}
-use Rattle.dcsctp_machine.specs.Event.{Event}
-use Rattle.dcsctp_machine.specs.Packet.{Content, Emission}
-use Rattle.dcsctp_machine.specs.Outcome.{Outcome}
-use Rattle.dcsctp_machine.specs.Snapshot.{Snapshot}
-use Rattle.dcsctp_machine.specs.SocketSnapshot.{connected_snapshot, snapshot_in, snapshot_of}
-use Rattle.dcsctp_machine.specs.Turn.{act_input}
-use Rattle.dcsctp_machine.specs.control.Acts.{hands_over}
-use Rattle.dcsctp_machine.specs.CallTurns.{Turned, Turns, after_all}
-use Rattle.dcsctp_machine.specs.declared.schedule.Side.{Side}
-use Rattle.dcsctp_machine.specs.declared.schedule.Side.TheVariants as sides
-use Rattle.dcsctp_machine.specs.Handover.{readiness_of}
-use Rattle.dcsctp_machine.specs.Schedule.{OutsideContent, input_outside, handover_outside, restore_outside, outside_act}
-use Rattle.dcsctp_machine.specs.Snapshot.{is_valid_snapshot}
-use Rattle.dcsctp_machine.specs.Sockets.{inputs_of_snapshot, inputs_where_valid, inputs_of_both, Both, of_side, of_other, side_of_outside, TurnsOfAct}
-use Rattle.dcsctp_api.specs.declared.errors.SocketFault.{SocketFault}
-use Rattle.dcsctp_api.specs.Calls.{is_closed}
+use Rattle.dcsctp_core.specs.spec.Soundness.{UsesOwnMethod, IsSoundCore, IsSound}
+use Rattle.dcsctp_spec_runs.specs.SoundRuns.{SocketsStaySound}
+use Rattle.dcsctp_core.specs.types.declared.association.Held.{Held}
+use Rattle.dcsctp_core.specs.types.declared.association.Pair.{Pair}
+use Rattle.dcsctp_core.specs.types.declared.options.Options.{Options}
+use Rattle.dcsctp_core.specs.types.declared.snapshot.HandoverSocketState.{HandoverSocketState}
+use Rattle.dcsctp_core.specs.types.declared.snapshot.HandoverSocketState.TheVariants as states
+use Rattle.dcsctp_core.specs.spec.endpoint.Endpoint.{Endpoint, Core, closed, cookie_wait, cookie_echoed, open_in, established, held_in}
+use Rattle.dcsctp_core.specs.spec.endpoint.Event.{Event}
+use Rattle.dcsctp_core.specs.spec.Packet.{Content, Emission}
+use Rattle.dcsctp_core.specs.spec.endpoint.Outcome.{Outcome}
+use Rattle.dcsctp_core.specs.types.Snapshot.{Snapshot}
+use Rattle.dcsctp_core.specs.spec.SocketSnapshot.{connected_snapshot, snapshot_in, snapshot_of}
+use Rattle.dcsctp_core.specs.spec.endpoint.Turn.{act_input}
+use Rattle.dcsctp_core.specs.spec.association.Acts.{hands_over}
+use Rattle.dcsctp_core.specs.spec.endpoint.CallTurns.{Turned, Turns, after_all}
+use Rattle.dcsctp_core.specs.types.declared.schedule.Side.{Side}
+use Rattle.dcsctp_core.specs.types.declared.schedule.Side.TheVariants as sides
+use Rattle.dcsctp_core.specs.spec.Handover.{readiness_of}
+use Rattle.dcsctp_core.specs.types.Schedule.{OutsideContent, input_outside, handover_outside, restore_outside, outside_act}
+use Rattle.dcsctp_core.specs.types.Snapshot.{is_valid_snapshot}
+use Rattle.dcsctp_core.specs.spec.HandoverInputs.{inputs_of_snapshot}
+use Rattle.dcsctp_spec_runs.specs.Sockets.{inputs_where_valid, inputs_of_both, Both, of_side, of_other, side_of_outside, TurnsOfAct}
+use Rattle.dcsctp_core.specs.api.declared.errors.SocketFault.{SocketFault}
+use Rattle.dcsctp_core.specs.api.Calls.{is_closed}
 use Rattle.dcsctp_world.specs.declared.act.Reply.{Reply}
 use Rattle.dcsctp_world.specs.declared.act.Reply.TheVariants.{Restored}
 use Rattle.dcsctp_world.specs.Acts.{Applied, Applies, with_associations}
 use Rattle.dcsctp_world.specs.Growth.{IsReply, IsRestored, IsHandedOver, IsHandedOn}
 use Rattle.dcsctp_world.specs.Shown.{SideShown, WorldView}
-use Rattle.dcsctp_machine.specs.turns.BegunResets.{BegunReset, after_begun}
-use Rattle.dcsctp_machine.specs.turns.DataOutcomes.{FlushTurn, AnswersTo, flush_by}
-use Rattle.dcsctp_machine.specs.turns.FlushOutcomes.{Answer, Ask, Answers, at_limit, at_empty, after_packet, Answered, goes_out, filled, answer_contents, asked, next_draft, flush_of, draft_to, told_event}
-use Rattle.dcsctp_machine.specs.turns.HandoverOutcomes.{hand_over_outcome}
-use Rattle.dcsctp_machine.specs.turns.RestoreOutcomes.{own_pair, held_restored, RestoreTurn}
-use Rattle.dcsctp_machine_refinement.specs.Restores.{RestoredSocketsBeginNothing}
-use Rattle.dcsctp_machine_refinement.proofs.SnapshotsBack.{held_is}
+use Rattle.dcsctp_core.specs.spec.endpoint.BegunResets.{BegunReset, after_begun}
+use Rattle.dcsctp_core.specs.spec.endpoint.DataOutcomes.{FlushTurn, AnswersTo, flush_by}
+use Rattle.dcsctp_core.specs.spec.endpoint.FlushOutcomes.{Answer, Ask, Answers, at_limit, at_empty, after_packet, Answered, goes_out, filled, answer_contents, asked, next_draft, flush_of, draft_to, told_event}
+use Rattle.dcsctp_core.specs.spec.endpoint.HandoverOutcomes.{hand_over_outcome}
+use Rattle.dcsctp_core.specs.spec.endpoint.RestoreOutcomes.{own_pair, held_restored, RestoreTurn}
+use Rattle.dcsctp_theorem_sockets.specs.Restores.{RestoredSocketsBeginNothing}
+use Rattle.dcsctp_theorem_sockets.proofs.SnapshotsBack.{held_is}
 use Rattle.dcsctp_world.specs.Returning.{GoesOnFrom, GoesOn, BothSound, RestoresBy}
 use Rattle.dcsctp_world.specs.Run.{IsRun}
 

@@ -1,16 +1,16 @@
 -- What a side shows once a call was made, and what it brought was kept: messages first.
 use Rattle.std.proofs.Common.{◌≡◌, ℕ, List, [], ◌∷◌, ◌++◌, inr, refl, sym, ap, subst, ◌∙◌}
 use Rattle.std.proofs.lemmas.List.{append-nil}
-use Rattle.dcsctp_machine.specs.declared.association.Pair.{Pair}
-use Rattle.dcsctp_machine.specs.declared.word.Word.{Word}
-use Rattle.dcsctp_machine.specs.CallTurns.{Turned, after_all, words_of, pairs_of}
-use Rattle.dcsctp_machine.specs.Endpoint.{association_of}
-use Rattle.dcsctp_machine.specs.Event.{Event, packets_in}
-use Rattle.dcsctp_machine.specs.Schedule.{CallContent}
-use Rattle.dcsctp_machine.specs.Sockets.{UserTurns}
-use Rattle.dcsctp_machine.specs.transfer.Messages.{MessageContent}
+use Rattle.dcsctp_core.specs.types.declared.association.Pair.{Pair}
+use Rattle.dcsctp_core.specs.types.declared.word.Word.{Word}
+use Rattle.dcsctp_core.specs.spec.endpoint.CallTurns.{Turned, after_all, words_of, pairs_of}
+use Rattle.dcsctp_core.specs.spec.endpoint.Endpoint.{association_of}
+use Rattle.dcsctp_core.specs.spec.endpoint.Event.{Event, packets_in}
+use Rattle.dcsctp_core.specs.types.Schedule.{CallContent}
+use Rattle.dcsctp_core.specs.spec.endpoint.UserTurns.{UserTurns}
+use Rattle.dcsctp_core.specs.types.queues.Messages.{MessageContent}
 use Rattle.dcsctp_delivery_sockets.specs.UserMessages.{sent_of, read_of}
-use Rattle.dcsctp_api.specs.Calls.{Follows}
+use Rattle.dcsctp_core.specs.api.Calls.{Follows}
 use Rattle.dcsctp_socket.specs.SocketView.{SocketView, user_view_of}
 use Rattle.dcsctp_world.specs.declared.act.Reply.{Reply}
 use Rattle.dcsctp_world.specs.Growth.{AddsFront, Collects, CollectsFront, told, WasCalled, CallMade, Grows, Stops, IsCallReply}

@@ -1,32 +1,33 @@
 -- A socket that is handed over, and restored from its snapshot, has the turns of both.
 use Rattle.std.proofs.Common.{◌≡◌, ◌≢◌, ℕ, zero, suc, Bool, true, false, Result, Ok, Err, List, [], ◌∷◌, ◌++◌, map, refl, sym, ap, subst, ◌∙◌, append_assoc}
 use Rattle.std.proofs.lemmas.List.{map-append}
-use Rattle.dcsctp_machine.specs.declared.association.Pair.{Pair}
-use Rattle.dcsctp_machine.specs.declared.word.Word.{Word}
-use Rattle.dcsctp_machine.specs.declared.options.Options.{Options}
-use Rattle.dcsctp_machine.specs.Endpoint.{Endpoint, Core, closed, cookie_wait, cookie_echoed, open_in, established, shutdown_pending, shutdown_sent, shutdown_received, shutdown_ack_sent}
-use Rattle.dcsctp_machine.specs.Event.{Event}
-use Rattle.dcsctp_machine.specs.Packet.{Emission}
-use Rattle.dcsctp_machine.specs.Handover.{readiness_of, readiness_in}
-use Rattle.dcsctp_machine.specs.Outcome.{Outcome}
-use Rattle.dcsctp_machine.specs.Settings.{ports_of}
-use Rattle.dcsctp_machine.specs.Snapshot.{Snapshot, is_valid_snapshot}
-use Rattle.dcsctp_machine.specs.SocketSnapshot.{snapshot_of}
-use Rattle.dcsctp_machine.specs.Turn.{act_input}
-use Rattle.dcsctp_machine.specs.control.Acts.{hands_over}
-use Rattle.dcsctp_machine.specs.control.Effect.{drawn_in}
-use Rattle.dcsctp_machine.specs.CallTurns.{Turned, IsTurn, Turns, after_all, words_of, effects_of, pairs_of, events_of}
-use Rattle.dcsctp_machine.specs.Sockets.{inputs_of_handover, inputs_of_restore, inputs_where_valid, inputs_of_both}
-use Rattle.dcsctp_machine.specs.turns.HandoverOutcomes.{hand_over_outcome}
-use Rattle.dcsctp_machine.proofs.TurnLemmas.{drawn_in-append, events_of-append}
-use Rattle.dcsctp_api.specs.declared.errors.SocketFault.{SocketFault}
-use Rattle.dcsctp_api.specs.declared.errors.SocketFault.TheVariants.{OutOfMemory, Failed}
-use Rattle.dcsctp_api.specs.Calls.{UserView, Follows, user_event}
-use Rattle.dcsctp_api.specs.declared.errors.HandoverError.{HandoverError}
-use Rattle.dcsctp_api.specs.declared.errors.HandoverError.TheVariants.{NotReady}
-use Rattle.dcsctp_api.specs.declared.errors.RestoreError.TheVariants.{SocketNotClosed}
-use Rattle.dcsctp_api.specs.declared.errors.RestoreError.{RestoreError}
-use Rattle.dcsctp_api.specs.Handover.{IsHandoverAnswer, Restores}
+use Rattle.dcsctp_core.specs.types.declared.association.Pair.{Pair}
+use Rattle.dcsctp_core.specs.types.declared.word.Word.{Word}
+use Rattle.dcsctp_core.specs.types.declared.options.Options.{Options}
+use Rattle.dcsctp_core.specs.spec.endpoint.Endpoint.{Endpoint, Core, closed, cookie_wait, cookie_echoed, open_in, established, shutdown_pending, shutdown_sent, shutdown_received, shutdown_ack_sent}
+use Rattle.dcsctp_core.specs.spec.endpoint.Event.{Event}
+use Rattle.dcsctp_core.specs.spec.Packet.{Emission}
+use Rattle.dcsctp_core.specs.spec.Handover.{readiness_of, readiness_in}
+use Rattle.dcsctp_core.specs.spec.endpoint.Outcome.{Outcome}
+use Rattle.dcsctp_core.specs.types.Settings.{ports_of}
+use Rattle.dcsctp_core.specs.types.Snapshot.{Snapshot, is_valid_snapshot}
+use Rattle.dcsctp_core.specs.spec.SocketSnapshot.{snapshot_of}
+use Rattle.dcsctp_core.specs.spec.endpoint.Turn.{act_input}
+use Rattle.dcsctp_core.specs.spec.association.Acts.{hands_over}
+use Rattle.dcsctp_core.specs.spec.association.Effect.{drawn_in}
+use Rattle.dcsctp_core.specs.spec.endpoint.CallTurns.{Turned, IsTurn, Turns, after_all, words_of, effects_of, pairs_of, events_of}
+use Rattle.dcsctp_core.specs.spec.HandoverInputs.{inputs_of_handover, inputs_of_restore}
+use Rattle.dcsctp_spec_runs.specs.Sockets.{inputs_where_valid, inputs_of_both}
+use Rattle.dcsctp_core.specs.spec.endpoint.HandoverOutcomes.{hand_over_outcome}
+use Rattle.dcsctp_core.proofs.spec_lemmas.TurnLists.{drawn_in-append, events_of-append}
+use Rattle.dcsctp_core.specs.api.declared.errors.SocketFault.{SocketFault}
+use Rattle.dcsctp_core.specs.api.declared.errors.SocketFault.TheVariants.{OutOfMemory, Failed}
+use Rattle.dcsctp_core.specs.api.Calls.{UserView, Follows, user_event}
+use Rattle.dcsctp_core.specs.api.declared.errors.HandoverError.{HandoverError}
+use Rattle.dcsctp_core.specs.api.declared.errors.HandoverError.TheVariants.{NotReady}
+use Rattle.dcsctp_core.specs.api.declared.errors.RestoreError.TheVariants.{SocketNotClosed}
+use Rattle.dcsctp_core.specs.api.declared.errors.RestoreError.{RestoreError}
+use Rattle.dcsctp_core.specs.api.Handover.{IsHandoverAnswer, Restores}
 use Rattle.dcsctp_world.specs.declared.act.Reply.{Reply}
 use Rattle.dcsctp_world.specs.declared.act.Reply.TheVariants.{NoCall, Done, Sent, SentMany, Reset, Taken, HandedOver, Restored}
 use Rattle.dcsctp_world.specs.Growth.{Called, Works, IsHandedOn, IsRestored}

@@ -1,8 +1,8 @@
 -- Which lists of acts are honest.
 use Rattle.std.proofs.Common.{ℕ, zero, suc, ◌<◌, get_or, length, List, [], ◌∷◌, ◌++◌, ◌≡◌, map, reverse, sym, subst, arith}
 use Rattle.std.proofs.lemmas.List.{reverse-append, reverse-reverse}
-use Rattle.dcsctp_machine.specs.declared.schedule.Act.{Act}
-use Rattle.dcsctp_machine.specs.Schedule.{ActContent, act_content, IsHonestAct, AreHonest}
+use Rattle.dcsctp_core.specs.types.declared.schedule.Act.{Act}
+use Rattle.dcsctp_core.specs.types.Schedule.{ActContent, act_content, IsHonestAct, AreHonest}
 
 abbrev Honest : List Act → Type 0
 Honest acts = AreHonest (map act_content acts)

@@ -6,13 +6,13 @@ use Rattle.std.proofs.lemmas.Option.{slice_get-map, slice_get_read}
 use Rattle.std.specs.List.{slice_get}
 use Rattle.std.specs.Option.{option_map}
 use Rattle.std.specs.declared.alloc.Global.{Global}
-use Rattle.dcsctp_machine.specs.Event.{Event, packets_in}
-use Rattle.dcsctp_machine.specs.Sockets.{numbered}
-use Rattle.dcsctp_api.specs.declared.events.SocketEvent.{SocketEvent}
-use Rattle.dcsctp_api.specs.declared.events.SocketEvent.TheVariants.{SendPacket}
-use Rattle.dcsctp_api.specs.Events.{event_content}
-use Rattle.dcsctp_api.specs.Calls.{UserView, PollsEvent}
-use Rattle.dcsctp_machine_refinement.proofs.Bursts.{packets_in-append}
+use Rattle.dcsctp_core.specs.spec.endpoint.Event.{Event, packets_in}
+use Rattle.dcsctp_spec_runs.specs.Sockets.{numbered}
+use Rattle.dcsctp_core.specs.api.declared.events.SocketEvent.{SocketEvent}
+use Rattle.dcsctp_core.specs.api.declared.events.SocketEvent.TheVariants.{SendPacket}
+use Rattle.dcsctp_core.specs.api.Events.{event_content}
+use Rattle.dcsctp_core.specs.api.Calls.{UserView, PollsEvent}
+use Rattle.dcsctp_theorem_sockets.proofs.Bursts.{packets_in-append}
 use Rattle.dcsctp_world.specs.Growth.{Extends, AddsFront, Kept, with_events, KeptFront}
 use Rattle.dcsctp_world.specs.Parts.{packet_bytes, kept}
 

@@ -2,23 +2,24 @@
 use Rattle.std.proofs.Common.{◌≡◌, ℕ, zero, suc, Bool, true, false, List, [], ◌∷◌, ◌++◌, refl, sym, ap, subst, ◌∙◌}
 use Rattle.std.specs.Prelude.{nat_le, if◌then◌else◌}
 use Rattle.std.specs.List.{AllByRecursion}
-use Rattle.dcsctp_machine.specs.declared.ends.AbortReason.TheVariants.{TooManyErrors}
-use Rattle.dcsctp_machine.specs.declared.snapshot.HandoverSocketState.{HandoverSocketState}
-use Rattle.dcsctp_machine.specs.declared.snapshot.HandoverSocketState.TheVariants as states
-use Rattle.dcsctp_machine.specs.Admission.{Admission, all_chunks, shutdown_acks_alone, refused, admits, shutdown_acks_in}
-use Rattle.dcsctp_machine.specs.CallTurns.{Turned, IsTurn, Turns, AfterChunk, ChunkTurns, WholeTurns, AdmittedTurns, HandleInput, unreadable, readable}
-use Rattle.dcsctp_machine.specs.Endpoint.{Endpoint, Core, closed, cookie_wait, cookie_echoed, open_in}
-use Rattle.dcsctp_machine.specs.Following.{Following, next_chunk, packet_end, dropped_rest}
-use Rattle.dcsctp_machine.specs.Packet.{Content, Packet, packet_in}
-use Rattle.dcsctp_machine.specs.Handover.{readiness_of}
-use Rattle.dcsctp_machine.specs.Snapshot.{Snapshot, is_valid_snapshot}
-use Rattle.dcsctp_machine.specs.SocketSnapshot.{snapshot_of}
-use Rattle.dcsctp_machine.specs.Sockets.{inputs_of_handover, inputs_of_snapshot, inputs_of_restore, inputs_where_valid, inputs_of_both}
-use Rattle.dcsctp_machine.specs.TimeTurns.{Timer, t1_timer, own_timer, t2_timer, timers_in, deadline, has_come, has_restart, t2_input, expiry_input, inputs_behind, after_expiries, ExpiryThen, ExpiryTurns, MomentTurns, TimeTurns, AdvanceTurns}
-use Rattle.dcsctp_machine.specs.Turn.{Input, arrival, refusal, packet_begins, chunk_input, packet_ends, act_input, user_sets, user_sends, user_resets, user_takes, timer_expires, time_passes, restores, unreadable_text}
-use Rattle.dcsctp_machine.specs.control.Acts.{abort_with, flushes}
-use Rattle.dcsctp_machine.specs.transfer.Messages.{MessageContent}
-use Rattle.dcsctp_machine.specs.turns.HeartbeatOutcomes.{is_exhausted}
+use Rattle.dcsctp_core.specs.types.declared.ends.AbortReason.TheVariants.{TooManyErrors}
+use Rattle.dcsctp_core.specs.types.declared.snapshot.HandoverSocketState.{HandoverSocketState}
+use Rattle.dcsctp_core.specs.types.declared.snapshot.HandoverSocketState.TheVariants as states
+use Rattle.dcsctp_core.specs.spec.Admission.{Admission, all_chunks, shutdown_acks_alone, refused, admits, shutdown_acks_in}
+use Rattle.dcsctp_core.specs.spec.endpoint.CallTurns.{Turned, IsTurn, Turns, AfterChunk, ChunkTurns, WholeTurns, AdmittedTurns, HandleInput, unreadable, readable}
+use Rattle.dcsctp_core.specs.spec.endpoint.Endpoint.{Endpoint, Core, closed, cookie_wait, cookie_echoed, open_in}
+use Rattle.dcsctp_core.specs.spec.endpoint.Following.{Following, next_chunk, packet_end, dropped_rest}
+use Rattle.dcsctp_core.specs.spec.Packet.{Content, Packet, packet_in}
+use Rattle.dcsctp_core.specs.spec.Handover.{readiness_of}
+use Rattle.dcsctp_core.specs.types.Snapshot.{Snapshot, is_valid_snapshot}
+use Rattle.dcsctp_core.specs.spec.SocketSnapshot.{snapshot_of}
+use Rattle.dcsctp_core.specs.spec.HandoverInputs.{inputs_of_handover, inputs_of_snapshot, inputs_of_restore}
+use Rattle.dcsctp_spec_runs.specs.Sockets.{inputs_where_valid, inputs_of_both}
+use Rattle.dcsctp_core.specs.spec.endpoint.TimeTurns.{Timer, t1_timer, own_timer, t2_timer, timers_in, deadline, has_come, has_restart, t2_input, expiry_input, inputs_behind, after_expiries, ExpiryThen, ExpiryTurns, MomentTurns, TimeTurns, AdvanceTurns}
+use Rattle.dcsctp_core.specs.spec.endpoint.Turn.{Input, arrival, refusal, packet_begins, chunk_input, packet_ends, act_input, user_sets, user_sends, user_resets, user_takes, timer_expires, time_passes, restores, unreadable_text}
+use Rattle.dcsctp_core.specs.spec.association.Acts.{abort_with, flushes}
+use Rattle.dcsctp_core.specs.types.queues.Messages.{MessageContent}
+use Rattle.dcsctp_core.specs.spec.endpoint.HeartbeatOutcomes.{is_exhausted}
 use Rattle.dcsctp_delivery_sockets.specs.UserMessages.{sent_in, sent_of, read_in, read_of}
 
 -- no message was sent, and none was read

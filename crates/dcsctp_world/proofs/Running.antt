@@ -2,35 +2,35 @@
 use Rattle.std.proofs.Common.{◌≡◌, ℕ, false, Option, List, [], ◌∷◌, ◌++◌, map, reverse, refl, sym, ap, subst, ◌∙◌, append_assoc}
 use Rattle.std.proofs.lemmas.List.{map-append}
 use Rattle.std.proofs.lemmas.Grind.{reverse_onto}
-use Rattle.dcsctp_machine.specs.declared.association.Pair.{Pair}
-use Rattle.dcsctp_machine.specs.declared.word.Word.{Word}
-use Rattle.dcsctp_machine.specs.declared.association.Association.{Association}
-use Rattle.dcsctp_machine.specs.declared.options.Options.{Options}
-use Rattle.dcsctp_machine.specs.declared.schedule.Side.{Side}
-use Rattle.dcsctp_machine.specs.declared.schedule.Side.TheVariants as sides
-use Rattle.dcsctp_machine.specs.Event.{Event, event_map, packets_in}
-use Rattle.dcsctp_machine.specs.Packet.{Emission, emission_bytes}
-use Rattle.dcsctp_machine.specs.Settings.{Ports, SameOptions, ports_of}
-use Rattle.dcsctp_machine.specs.Endpoint.{Endpoint, association_of, fresh_endpoint}
-use Rattle.dcsctp_machine.specs.CallTurns.{Turned, after_all, events_of, words_of, pairs_of}
-use Rattle.dcsctp_machine.specs.Sockets.{Both, of_side, of_other, side_of_act, TurnsOfAct, NextTurns, Worked, turns_after, with_turns, endpoint_after, events_shown, packets_shown, acts_of, associations_of}
-use Rattle.dcsctp_machine.proofs.TurnLemmas.{after_all-append, words_of-append, pairs_of-append, events_of-append}
-use Rattle.dcsctp_machine.proofs.SocketLemmas.{sockets_keep_options}
-use Rattle.dcsctp_machine.specs.transfer.Messages.{MessageContent}
+use Rattle.dcsctp_core.specs.types.declared.association.Pair.{Pair}
+use Rattle.dcsctp_core.specs.types.declared.word.Word.{Word}
+use Rattle.dcsctp_core.specs.types.declared.association.Association.{Association}
+use Rattle.dcsctp_core.specs.types.declared.options.Options.{Options}
+use Rattle.dcsctp_core.specs.types.declared.schedule.Side.{Side}
+use Rattle.dcsctp_core.specs.types.declared.schedule.Side.TheVariants as sides
+use Rattle.dcsctp_core.specs.spec.endpoint.Event.{Event, event_map, packets_in}
+use Rattle.dcsctp_core.specs.spec.Packet.{Emission, emission_bytes}
+use Rattle.dcsctp_core.specs.types.Settings.{Ports, SameOptions, ports_of}
+use Rattle.dcsctp_core.specs.spec.endpoint.Endpoint.{Endpoint, association_of, fresh_endpoint}
+use Rattle.dcsctp_core.specs.spec.endpoint.CallTurns.{Turned, after_all, events_of, words_of, pairs_of}
+use Rattle.dcsctp_spec_runs.specs.Sockets.{Both, of_side, of_other, side_of_act, TurnsOfAct, NextTurns, Worked, turns_after, with_turns, endpoint_after, events_shown, packets_shown, acts_of, associations_of}
+use Rattle.dcsctp_core.proofs.spec_lemmas.TurnLists.{after_all-append, words_of-append, pairs_of-append, events_of-append}
+use Rattle.dcsctp_spec_runs.proofs.SocketLemmas.{sockets_keep_options}
+use Rattle.dcsctp_core.specs.types.queues.Messages.{MessageContent}
 use Rattle.dcsctp_delivery_sockets.specs.Delivery.{FitsAct}
 use Rattle.dcsctp_delivery_sockets.specs.UserMessages.{sent_in, sent_of, read_in, read_of}
-use Rattle.dcsctp_api.specs.Calls.{user_event}
-use Rattle.dcsctp_machine.specs.declared.schedule.Act.{Act}
-use Rattle.dcsctp_machine.specs.Schedule.{ActContent, act_content}
+use Rattle.dcsctp_core.specs.api.Calls.{user_event}
+use Rattle.dcsctp_core.specs.types.declared.schedule.Act.{Act}
+use Rattle.dcsctp_core.specs.types.Schedule.{ActContent, act_content}
 use Rattle.dcsctp_world.specs.declared.act.Reply.{Reply}
 use Rattle.dcsctp_world.specs.declared.watched_socket.WatchedSocket.{WatchedSocket}
 use Rattle.dcsctp_world.specs.Shown.{SideShown, WorldView, fresh_side, fresh_world, options_of}
 use Rattle.dcsctp_world.specs.Growth.{Grows}
-use Rattle.dcsctp_machine_refinement.specs.Agreement.{IsUsable}
+use Rattle.dcsctp_theorem_sockets.specs.Agreement.{IsUsable}
 use Rattle.dcsctp_world.specs.Run.{SideRuns, IsRun}
 use Rattle.dcsctp_world.specs.Acts.{with_associations, Applied}
 use Rattle.dcsctp_world.specs.Parts.{shown, world_of}
-use Rattle.dcsctp_machine_refinement.proofs.Bursts.{packets_in-append}
+use Rattle.dcsctp_theorem_sockets.proofs.Bursts.{packets_in-append}
 
 -- what holds of each side
 pub by_side : (P : Side → Type 0) → P sides.A → P sides.B → (side : Side) → P side

@@ -3,21 +3,22 @@ use Rattle.std.proofs.Common.{◌≡◌, ◌==◌, ℕ, ◌+◌, ◌<◌, Bool, 
 use Rattle.std.specs.Prelude.{if◌then◌else◌}
 use Rattle.std.proofs.lemmas.Bool.Decides.{nat_tests}
 use Rattle.std.proofs.lemmas.List.{append-nil}
-use Rattle.dcsctp_machine.specs.declared.ends.AbortReason.TheVariants.{CloseCalled}
-use Rattle.dcsctp_machine.specs.declared.message.Message.{Message}
-use Rattle.dcsctp_machine.specs.declared.message.SendOptions.{SendOptions}
-use Rattle.dcsctp_machine.specs.CallTurns.{Turned, Turns}
-use Rattle.dcsctp_machine.specs.Endpoint.{Endpoint}
-use Rattle.dcsctp_machine.specs.Handover.{readiness_of}
-use Rattle.dcsctp_machine.specs.Schedule.{CallContent, connect_call, close_call, shutdown_call, advance_call, set_call, send_call, send_many_call, reset_call, take_call, hand_over_call}
-use Rattle.dcsctp_machine.specs.Sockets.{inputs_of_handover, UserTurns}
-use Rattle.dcsctp_machine.specs.Turn.{Input, act_input, user_sets, user_sends, user_resets, user_takes}
-use Rattle.dcsctp_machine.specs.control.Acts.{connect, shut_down, abort_with}
-use Rattle.dcsctp_machine.specs.transfer.Messages.{MessageContent}
-use Rattle.dcsctp_machine.specs.transfer.Transfer.{Transfer}
-use Rattle.dcsctp_machine.specs.turns.MessageOutcomes.{MessageRefusal, Sending, sending_of, sending_refusal, queue_one, RefusedMessage, refused_where, refused_from, message_refusal}
-use Rattle.dcsctp_api.specs.declared.errors.BatchSendError.{BatchSendError}
-use Rattle.dcsctp_api.specs.Messages.{IsBatchAnswer, ready_below, ready_messages, IsFirst}
+use Rattle.dcsctp_core.specs.types.declared.ends.AbortReason.TheVariants.{CloseCalled}
+use Rattle.dcsctp_core.specs.types.declared.message.Message.{Message}
+use Rattle.dcsctp_core.specs.types.declared.message.SendOptions.{SendOptions}
+use Rattle.dcsctp_core.specs.spec.endpoint.CallTurns.{Turned, Turns}
+use Rattle.dcsctp_core.specs.spec.endpoint.Endpoint.{Endpoint}
+use Rattle.dcsctp_core.specs.spec.Handover.{readiness_of}
+use Rattle.dcsctp_core.specs.types.Schedule.{CallContent, connect_call, close_call, shutdown_call, advance_call, set_call, send_call, send_many_call, reset_call, take_call, hand_over_call}
+use Rattle.dcsctp_core.specs.spec.HandoverInputs.{inputs_of_handover}
+use Rattle.dcsctp_core.specs.spec.endpoint.UserTurns.{UserTurns}
+use Rattle.dcsctp_core.specs.spec.endpoint.Turn.{Input, act_input, user_sets, user_sends, user_resets, user_takes}
+use Rattle.dcsctp_core.specs.spec.association.Acts.{connect, shut_down, abort_with}
+use Rattle.dcsctp_core.specs.types.queues.Messages.{MessageContent}
+use Rattle.dcsctp_core.specs.spec.queues.Transfer.{Transfer}
+use Rattle.dcsctp_core.specs.spec.endpoint.MessageOutcomes.{MessageRefusal, Sending, sending_of, sending_refusal, queue_one, RefusedMessage, refused_where, refused_from, message_refusal}
+use Rattle.dcsctp_core.specs.api.declared.errors.BatchSendError.{BatchSendError}
+use Rattle.dcsctp_core.specs.api.Messages.{IsBatchAnswer, ready_below, ready_messages, IsFirst}
 use Rattle.dcsctp_delivery_sockets.specs.UserMessages.{accepted_where, accepted, sent_in, sent_of, first_of, ready_in, read_in, read_of}
 use Rattle.dcsctp_world.specs.declared.act.Reply.{Reply}
 use Rattle.dcsctp_world.specs.declared.act.Reply.TheVariants.{NoCall, Done, Sent, SentMany, Reset, Taken, HandedOver, Restored}

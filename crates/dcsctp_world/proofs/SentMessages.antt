@@ -1,9 +1,9 @@
 -- The messages that a call's answer doesn't refuse are those that its turns send.
 use Rattle.std.proofs.Common.{◌≡◌, ℕ, zero, suc, ◌+◌, ◌<◌, List, [], ◌∷◌, ◌++◌, length, map, take, drop, get_or, sym, ap, subst, ◌∙◌, append_assoc, arith}
 use Rattle.std.proofs.lemmas.List.{append-nil}
-use Rattle.dcsctp_machine.specs.declared.message.Message.{Message}
-use Rattle.dcsctp_machine.specs.transfer.Messages.{MessageContent, message_content}
-use Rattle.dcsctp_machine.specs.turns.MessageOutcomes.{RefusedMessage}
+use Rattle.dcsctp_core.specs.types.declared.message.Message.{Message}
+use Rattle.dcsctp_core.specs.types.queues.Messages.{MessageContent, message_content}
+use Rattle.dcsctp_core.specs.spec.endpoint.MessageOutcomes.{RefusedMessage}
 use Rattle.dcsctp_world.specs.Growth.{AddsFront}
 use Rattle.dcsctp_world.specs.Messages.{other_at, others_from}
 use Rattle.dcsctp_world.proofs.Keeping.{front_behind}

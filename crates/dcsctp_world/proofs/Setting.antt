@@ -1,12 +1,13 @@
 -- A call that sets something is a turn.
 use Rattle.std.proofs.Common.{◌≡◌, false, Ok, [], ◌∷◌, refl, sym, subst}
 use Rattle.std.proofs.lemmas.List.{append-nil}
-use Rattle.dcsctp_machine.specs.Schedule.{set_call}
-use Rattle.dcsctp_machine.specs.Sockets.{UserTurns}
-use Rattle.dcsctp_machine.specs.Turn.{user_sets}
-use Rattle.dcsctp_machine.specs.CallTurns.{turned}
-use Rattle.dcsctp_machine.specs.turns.SettingOutcomes.{Setting, setting_outcome}
-use Rattle.dcsctp_api.specs.Calls.{UserView, with_setting}
+use Rattle.dcsctp_core.specs.types.Schedule.{set_call}
+use Rattle.dcsctp_core.specs.spec.endpoint.UserTurns.{UserTurns}
+use Rattle.dcsctp_core.specs.spec.endpoint.Turn.{user_sets}
+use Rattle.dcsctp_core.specs.spec.endpoint.CallTurns.{turned}
+use Rattle.dcsctp_core.specs.types.Setting.{Setting}
+use Rattle.dcsctp_core.specs.spec.endpoint.SettingOutcomes.{setting_outcome}
+use Rattle.dcsctp_core.specs.api.Calls.{UserView, with_setting}
 use Rattle.dcsctp_world.specs.declared.act.Reply.TheVariants.{Done}
 use Rattle.dcsctp_world.specs.Growth.{Called, IsCallReply}
 

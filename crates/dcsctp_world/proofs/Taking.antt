@@ -1,18 +1,18 @@
 -- A call that takes a message is a turn.
 use Rattle.std.proofs.Common.{◌≡◌, false, Ok, Option, None, Some, List, [], ◌∷◌, refl, sym, ap, subst, ◌∙◌}
 use Rattle.std.proofs.lemmas.List.{append-nil}
-use Rattle.dcsctp_machine.specs.declared.message.Message.{Message}
-use Rattle.dcsctp_machine.specs.Schedule.{take_call}
-use Rattle.dcsctp_machine.specs.Sockets.{UserTurns}
-use Rattle.dcsctp_machine.specs.transfer.Messages.{MessageContent}
-use Rattle.dcsctp_machine.specs.transfer.Transfer.{Transfer}
-use Rattle.dcsctp_machine.specs.Endpoint.{Endpoint}
-use Rattle.dcsctp_machine.specs.Outcome.{Outcome, still}
-use Rattle.dcsctp_machine.specs.Turn.{user_takes}
-use Rattle.dcsctp_machine.specs.turns.DataOutcomes.{TakeWhere, TakeTurn}
-use Rattle.dcsctp_machine.specs.CallTurns.{turned}
-use Rattle.dcsctp_api.specs.Calls.{UserView, Follows}
-use Rattle.dcsctp_api.specs.Messages.{TakesNext}
+use Rattle.dcsctp_core.specs.types.declared.message.Message.{Message}
+use Rattle.dcsctp_core.specs.types.Schedule.{take_call}
+use Rattle.dcsctp_core.specs.spec.endpoint.UserTurns.{UserTurns}
+use Rattle.dcsctp_core.specs.types.queues.Messages.{MessageContent}
+use Rattle.dcsctp_core.specs.spec.queues.Transfer.{Transfer}
+use Rattle.dcsctp_core.specs.spec.endpoint.Endpoint.{Endpoint}
+use Rattle.dcsctp_core.specs.spec.endpoint.Outcome.{Outcome, still}
+use Rattle.dcsctp_core.specs.spec.endpoint.Turn.{user_takes}
+use Rattle.dcsctp_core.specs.spec.endpoint.DataOutcomes.{TakeWhere, TakeTurn}
+use Rattle.dcsctp_core.specs.spec.endpoint.CallTurns.{turned}
+use Rattle.dcsctp_core.specs.api.Calls.{UserView, Follows}
+use Rattle.dcsctp_core.specs.api.Messages.{TakesNext}
 use Rattle.dcsctp_world.specs.declared.act.Reply.TheVariants.{Taken}
 use Rattle.dcsctp_world.specs.Growth.{Called, IsCallReply}
 

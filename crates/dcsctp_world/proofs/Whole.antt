@@ -1,8 +1,8 @@
 -- What both generators have kept.
 use Rattle.std.proofs.Common.{◌≡◌, ◌↔◌, Bool, true, false, IsTrue, refl, sym, subst, ◌∙◌}
-use Rattle.dcsctp_machine.specs.declared.options.Options.{Options}
-use Rattle.dcsctp_machine.specs.declared.schedule.Side.TheVariants as sides
-use Rattle.dcsctp_machine.specs.Sockets.{Both}
+use Rattle.dcsctp_core.specs.types.declared.options.Options.{Options}
+use Rattle.dcsctp_core.specs.types.declared.schedule.Side.TheVariants as sides
+use Rattle.dcsctp_spec_runs.specs.Sockets.{Both}
 use Rattle.dcsctp_world.specs.Acts.{with_associations}
 use Rattle.dcsctp_world.specs.Drawing.{AreWhole}
 use Rattle.dcsctp_world.specs.Recording.{Recording, fresh_recording}

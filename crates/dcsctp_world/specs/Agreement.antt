@@ -1,23 +1,23 @@
 -- What the two sockets of a world agree on, along the run that it shows.
 use Rattle.std.specs.Prelude.{◌≡◌}
 use Rattle.std.specs.List.{AllByRecursion}
-use Rattle.dcsctp_machine.specs.declared.association.Pair.{Pair}
-use Rattle.dcsctp_machine.specs.declared.options.Options.{Options}
-use Rattle.dcsctp_machine.specs.declared.schedule.Side.{Side}
-use Rattle.dcsctp_machine.specs.Schedule.{AreHonest}
-use Rattle.dcsctp_machine.specs.Endpoint.{open_in, established, fresh_endpoint}
-use Rattle.dcsctp_machine.specs.Offer.{offer_of, negotiated}
-use Rattle.dcsctp_machine.specs.control.HandshakeChanges.{new_held}
-use Rattle.dcsctp_machine.specs.CallTurns.{AlongTurns}
-use Rattle.dcsctp_machine.specs.Past.{Each, InPlace}
-use Rattle.dcsctp_machine.specs.Sockets.{Both, of_side, turns_after, acts_of}
-use Rattle.dcsctp_machine_refinement.specs.Agreement.{AgreeThroughout, noted_past}
-use Rattle.dcsctp_machine_refinement.specs.Deadlines.{RunsT1}
-use Rattle.dcsctp_machine_refinement.specs.Handshake.{handshake_acts, AreFitting, ConnectThroughout, connections}
-use Rattle.dcsctp_machine_refinement.specs.OneSocket.{EndsByAnswer, TellsEnd, IsWithinLimit, TurnKeepsBurst, TimeIsQuiet}
-use Rattle.dcsctp_machine_refinement.specs.Telling.{TellsNoted, HoldsNoted, AreAnew}
-use Rattle.dcsctp_machine_cookies.specs.Ages.{AgeThroughout}
-use Rattle.dcsctp_machine_cookies.specs.Cookies.{GivenThroughout}
+use Rattle.dcsctp_core.specs.types.declared.association.Pair.{Pair}
+use Rattle.dcsctp_core.specs.types.declared.options.Options.{Options}
+use Rattle.dcsctp_core.specs.types.declared.schedule.Side.{Side}
+use Rattle.dcsctp_core.specs.types.Schedule.{AreHonest}
+use Rattle.dcsctp_core.specs.spec.endpoint.Endpoint.{open_in, established, fresh_endpoint}
+use Rattle.dcsctp_core.specs.types.Offer.{offer_of, negotiated}
+use Rattle.dcsctp_core.specs.spec.association.HandshakeChanges.{new_held}
+use Rattle.dcsctp_core.specs.spec.endpoint.CallTurns.{AlongTurns}
+use Rattle.dcsctp_spec_runs.specs.Past.{Each, InPlace}
+use Rattle.dcsctp_spec_runs.specs.Sockets.{Both, of_side, turns_after, acts_of}
+use Rattle.dcsctp_theorem_sockets.specs.Agreement.{AgreeThroughout, noted_past}
+use Rattle.dcsctp_theorem_sockets.specs.Deadlines.{RunsT1}
+use Rattle.dcsctp_theorem_sockets.specs.Handshake.{handshake_acts, AreFitting, ConnectThroughout, connections}
+use Rattle.dcsctp_theorem_sockets.specs.OneSocket.{EndsByAnswer, TellsEnd, IsWithinLimit, TurnKeepsBurst, TimeIsQuiet}
+use Rattle.dcsctp_theorem_sockets.specs.Telling.{TellsNoted, HoldsNoted, AreAnew}
+use Rattle.dcsctp_theorem_cookies.specs.Ages.{AgeThroughout}
+use Rattle.dcsctp_theorem_cookies.specs.Cookies.{GivenThroughout}
 use Rattle.dcsctp_delivery_shown.specs.Delivery.{DeliverThroughout}
 use Rattle.dcsctp_world.specs.Shown.{SideShown, WorldView}
 use Rattle.dcsctp_world.specs.Run.{IsRun}

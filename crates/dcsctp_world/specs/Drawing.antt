@@ -1,9 +1,9 @@
 -- Where the words of a world come from.
 use Rattle.std.specs.Prelude.{◌≡◌, true, List, ◌++◌}
 use Rattle.rand_core.specs.Stream.{Stream}
-use Rattle.dcsctp_machine.specs.declared.word.Word.{Word}
-use Rattle.dcsctp_machine.specs.declared.schedule.Side.{Side}
-use Rattle.dcsctp_machine.specs.Sockets.{Both, of_side}
+use Rattle.dcsctp_core.specs.types.declared.word.Word.{Word}
+use Rattle.dcsctp_core.specs.types.declared.schedule.Side.{Side}
+use Rattle.dcsctp_spec_runs.specs.Sockets.{Both, of_side}
 use Rattle.dcsctp_core.specs.View.{Drawn}
 use Rattle.dcsctp_socket.specs.SocketView.{SocketView}
 use Rattle.dcsctp_world.specs.Recording.{Recording}

@@ -1,22 +1,22 @@
 -- How one side grows in an act.
 use Rattle.std.specs.Prelude.{◌≡◌, ℕ, zero, suc, Bool, true, false, Option, None, Some, Result, Ok, Err, List, [], ◌∷◌, ◌++◌, ◌⊎◌, map, length}
-use Rattle.dcsctp_machine.specs.Schedule.{CallContent, connect_call, close_call, shutdown_call, ActContent, call_step, delivery_step, step_act, advance_call, set_call, send_call, send_many_call, reset_call, take_call, hand_over_call, OutsideContent, input_outside, handover_outside, restore_outside, outside_act}
-use Rattle.dcsctp_machine.specs.Event.{Event, packets_in}
-use Rattle.dcsctp_machine.specs.Endpoint.{Endpoint, Core, association_of}
-use Rattle.dcsctp_machine.specs.Handover.{readiness_of}
-use Rattle.dcsctp_machine.specs.Snapshot.{is_valid_snapshot}
-use Rattle.dcsctp_machine.specs.Settings.{ports_of}
-use Rattle.dcsctp_machine.specs.CallTurns.{Turned, after_all, words_of, events_of, pairs_of}
-use Rattle.dcsctp_machine.specs.Sockets.{numbered}
-use Rattle.dcsctp_api.specs.declared.errors.SocketFault.{SocketFault}
-use Rattle.dcsctp_api.specs.declared.errors.SocketFault.TheVariants.{OutOfMemory, Failed}
-use Rattle.dcsctp_api.specs.Calls.{UserView, user_event, Follows}
-use Rattle.dcsctp_api.specs.Handover.{IsHandoverAnswer, IsRestoreAnswer}
-use Rattle.dcsctp_api.specs.Messages.{refusal_in, IsBatchAnswer, ready_messages, IsFirst}
-use Rattle.dcsctp_api.specs.Resets.{reset_refusal_in}
-use Rattle.dcsctp_machine.specs.transfer.Messages.{MessageContent}
-use Rattle.dcsctp_machine.specs.turns.MessageOutcomes.{MessageRefusal, message_refusal, sending_of, RefusedMessage, refused_from}
-use Rattle.dcsctp_machine.specs.turns.PreparedResets.{ResetRefusal, reset_refusal}
+use Rattle.dcsctp_core.specs.types.Schedule.{CallContent, connect_call, close_call, shutdown_call, ActContent, call_step, delivery_step, step_act, advance_call, set_call, send_call, send_many_call, reset_call, take_call, hand_over_call, OutsideContent, input_outside, handover_outside, restore_outside, outside_act}
+use Rattle.dcsctp_core.specs.spec.endpoint.Event.{Event, packets_in}
+use Rattle.dcsctp_core.specs.spec.endpoint.Endpoint.{Endpoint, Core, association_of}
+use Rattle.dcsctp_core.specs.spec.Handover.{readiness_of}
+use Rattle.dcsctp_core.specs.types.Snapshot.{is_valid_snapshot}
+use Rattle.dcsctp_core.specs.types.Settings.{ports_of}
+use Rattle.dcsctp_core.specs.spec.endpoint.CallTurns.{Turned, after_all, words_of, events_of, pairs_of}
+use Rattle.dcsctp_spec_runs.specs.Sockets.{numbered}
+use Rattle.dcsctp_core.specs.api.declared.errors.SocketFault.{SocketFault}
+use Rattle.dcsctp_core.specs.api.declared.errors.SocketFault.TheVariants.{OutOfMemory, Failed}
+use Rattle.dcsctp_core.specs.api.Calls.{UserView, user_event, Follows}
+use Rattle.dcsctp_core.specs.api.Handover.{IsHandoverAnswer, IsRestoreAnswer}
+use Rattle.dcsctp_core.specs.api.Messages.{refusal_in, IsBatchAnswer, ready_messages, IsFirst}
+use Rattle.dcsctp_core.specs.api.Resets.{reset_refusal_in}
+use Rattle.dcsctp_core.specs.types.queues.Messages.{MessageContent}
+use Rattle.dcsctp_core.specs.spec.endpoint.MessageOutcomes.{MessageRefusal, message_refusal, sending_of, RefusedMessage, refused_from}
+use Rattle.dcsctp_core.specs.spec.endpoint.PreparedResets.{ResetRefusal, reset_refusal}
 use Rattle.dcsctp_delivery_sockets.specs.UserMessages.{sent_of, read_of}
 use Rattle.dcsctp_world.specs.declared.act.Reply.{Reply}
 use Rattle.dcsctp_world.specs.declared.act.Reply.TheVariants.{NoCall, Done, Sent, SentMany, Reset, Taken, HandedOver, Restored}

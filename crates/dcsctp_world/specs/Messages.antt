@@ -1,11 +1,11 @@
 -- What a call's answer says of the messages that its user sends and reads, and how these are kept.
 use Rattle.std.specs.Prelude.{◌≡◌, ◌==◌, ◌+◌, ℕ, Bool, Some, Result, Ok, Err, List, [], ◌∷◌, ◌++◌, if◌then◌else◌}
 use Rattle.std.specs.List.{list_any}
-use Rattle.dcsctp_machine.specs.Schedule.{CallContent, send_call, send_many_call, take_call}
-use Rattle.dcsctp_machine.specs.transfer.Messages.{MessageContent, message_content}
-use Rattle.dcsctp_machine.specs.turns.MessageOutcomes.{RefusedMessage}
-use Rattle.dcsctp_api.specs.declared.errors.BatchSendError.{BatchSendError}
-use Rattle.dcsctp_api.specs.Messages.{refused_in}
+use Rattle.dcsctp_core.specs.types.Schedule.{CallContent, send_call, send_many_call, take_call}
+use Rattle.dcsctp_core.specs.types.queues.Messages.{MessageContent, message_content}
+use Rattle.dcsctp_core.specs.spec.endpoint.MessageOutcomes.{RefusedMessage}
+use Rattle.dcsctp_core.specs.api.declared.errors.BatchSendError.{BatchSendError}
+use Rattle.dcsctp_core.specs.api.Messages.{refused_in}
 use Rattle.dcsctp_world.specs.declared.act.Reply.{Reply}
 use Rattle.dcsctp_world.specs.declared.act.Reply.TheVariants.{Sent, SentMany, Taken}
 use Rattle.dcsctp_world.specs.Growth.{AddsFront}

@@ -1,11 +1,11 @@
 -- What the acts from outside are to a socket, without their side.
 use Rattle.std.specs.Prelude.{List}
-use Rattle.dcsctp_machine.specs.Endpoint.{Endpoint}
-use Rattle.dcsctp_machine.specs.Handover.{readiness_of}
-use Rattle.dcsctp_machine.specs.Snapshot.{Snapshot, is_valid_snapshot}
-use Rattle.dcsctp_machine.specs.SocketSnapshot.{snapshot_of}
-use Rattle.dcsctp_machine.specs.Sockets.{inputs_of_both, inputs_where_valid}
-use Rattle.dcsctp_machine.specs.CallTurns.{Turned, Turns}
+use Rattle.dcsctp_core.specs.spec.endpoint.Endpoint.{Endpoint}
+use Rattle.dcsctp_core.specs.spec.Handover.{readiness_of}
+use Rattle.dcsctp_core.specs.types.Snapshot.{Snapshot, is_valid_snapshot}
+use Rattle.dcsctp_core.specs.spec.SocketSnapshot.{snapshot_of}
+use Rattle.dcsctp_spec_runs.specs.Sockets.{inputs_of_both, inputs_where_valid}
+use Rattle.dcsctp_core.specs.spec.endpoint.CallTurns.{Turned, Turns}
 use Rattle.dcsctp_world.specs.declared.act.Reply.{Reply}
 use Rattle.dcsctp_world.specs.Growth.{IsHandedOn, IsRestored}
 

@@ -1,12 +1,12 @@
 -- What the parts of a world show.
 use Rattle.std.specs.Prelude.{ℕ, Bool, List, map, Vec}
 use Rattle.std.specs.declared.alloc.Global.{Global}
-use Rattle.dcsctp_machine.specs.Sockets.{Both}
-use Rattle.dcsctp_api.specs.declared.events.SocketEvent.{SocketEvent}
-use Rattle.dcsctp_api.specs.Events.{event_content}
-use Rattle.dcsctp_machine.specs.Schedule.{act_content}
-use Rattle.dcsctp_machine.specs.declared.schedule.Act.{Act}
-use Rattle.dcsctp_machine.specs.transfer.Messages.{message_content}
+use Rattle.dcsctp_spec_runs.specs.Sockets.{Both}
+use Rattle.dcsctp_core.specs.api.declared.events.SocketEvent.{SocketEvent}
+use Rattle.dcsctp_core.specs.api.Events.{event_content}
+use Rattle.dcsctp_core.specs.types.Schedule.{act_content}
+use Rattle.dcsctp_core.specs.types.declared.schedule.Act.{Act}
+use Rattle.dcsctp_core.specs.types.queues.Messages.{message_content}
 use Rattle.dcsctp_world.specs.declared.watched_socket.WatchedSocket.{WatchedSocket}
 use Rattle.dcsctp_world.specs.Growth.{Kept}
 use Rattle.dcsctp_world.specs.Shown.{SideShown, WorldView}

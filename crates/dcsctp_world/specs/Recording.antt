@@ -1,7 +1,7 @@
 -- A generator with the words that it gave.
 use Rattle.std.specs.Prelude.{◌≡◌, Bool, true, false, List, [], ◌∷◌, ◌++◌}
 use Rattle.rand_core.specs.Stream.{Stream}
-use Rattle.dcsctp_machine.specs.declared.word.Word.{Word}
+use Rattle.dcsctp_core.specs.types.declared.word.Word.{Word}
 
 -- the generator, the words that are kept, oldest first, and whether these are all that it gave
 pub record Recording (R : Type 0) : Type 0 where

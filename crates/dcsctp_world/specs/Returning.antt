@@ -1,18 +1,18 @@
 -- What a restore brings back of an association.
 use Rattle.std.specs.Prelude.{◌≡◌, Ok}
-use Rattle.dcsctp_machine.specs.declared.association.Held.{Held}
-use Rattle.dcsctp_machine.specs.declared.association.Pair.{Pair}
-use Rattle.dcsctp_machine.specs.declared.options.Options.{Options}
-use Rattle.dcsctp_machine.specs.declared.snapshot.HandoverSocketState.TheVariants.{Connected}
-use Rattle.dcsctp_machine.specs.Endpoint.{Endpoint, open_in, established}
-use Rattle.dcsctp_machine.specs.Schedule.{OutsideContent, input_outside, handover_outside, restore_outside}
-use Rattle.dcsctp_machine.specs.Snapshot.{Snapshot}
-use Rattle.dcsctp_machine.specs.Sockets.{of_side}
-use Rattle.dcsctp_machine.specs.Soundness.{IsSound}
-use Rattle.dcsctp_machine.specs.declared.schedule.Side.{Side}
+use Rattle.dcsctp_core.specs.types.declared.association.Held.{Held}
+use Rattle.dcsctp_core.specs.types.declared.association.Pair.{Pair}
+use Rattle.dcsctp_core.specs.types.declared.options.Options.{Options}
+use Rattle.dcsctp_core.specs.types.declared.snapshot.HandoverSocketState.TheVariants.{Connected}
+use Rattle.dcsctp_core.specs.spec.endpoint.Endpoint.{Endpoint, open_in, established}
+use Rattle.dcsctp_core.specs.types.Schedule.{OutsideContent, input_outside, handover_outside, restore_outside}
+use Rattle.dcsctp_core.specs.types.Snapshot.{Snapshot}
+use Rattle.dcsctp_spec_runs.specs.Sockets.{of_side}
+use Rattle.dcsctp_core.specs.spec.Soundness.{IsSound}
+use Rattle.dcsctp_core.specs.types.declared.schedule.Side.{Side}
 use Rattle.dcsctp_world.specs.Shown.{WorldView}
-use Rattle.dcsctp_machine.specs.control.ResumeChanges.{resumed_held}
-use Rattle.dcsctp_machine.specs.turns.RestoreOutcomes.{own_pair, held_restored}
+use Rattle.dcsctp_core.specs.spec.association.ResumeChanges.{resumed_held}
+use Rattle.dcsctp_core.specs.spec.endpoint.RestoreOutcomes.{own_pair, held_restored}
 use Rattle.dcsctp_world.specs.declared.act.Reply.{Reply}
 use Rattle.dcsctp_world.specs.declared.act.Reply.TheVariants.{Restored}
 

@@ -1,11 +1,11 @@
 -- What a world shows is what a run of two sockets shows.
 use Rattle.std.specs.Prelude.{◌≡◌, false, List, [], reverse}
-use Rattle.dcsctp_machine.specs.declared.options.Options.{Options}
-use Rattle.dcsctp_machine.specs.declared.schedule.Side.{Side}
-use Rattle.dcsctp_machine.specs.CallTurns.{Turned, words_of, pairs_of}
-use Rattle.dcsctp_machine.specs.Endpoint.{fresh_endpoint}
-use Rattle.dcsctp_machine.specs.Sockets.{Both, of_side, Worked, SocketRun, turns_after, endpoint_after, events_shown, packets_shown, acts_of, associations_of}
-use Rattle.dcsctp_machine_refinement.specs.Agreement.{AreUsable}
+use Rattle.dcsctp_core.specs.types.declared.options.Options.{Options}
+use Rattle.dcsctp_core.specs.types.declared.schedule.Side.{Side}
+use Rattle.dcsctp_core.specs.spec.endpoint.CallTurns.{Turned, words_of, pairs_of}
+use Rattle.dcsctp_core.specs.spec.endpoint.Endpoint.{fresh_endpoint}
+use Rattle.dcsctp_spec_runs.specs.Sockets.{Both, of_side, Worked, SocketRun, turns_after, endpoint_after, events_shown, packets_shown, acts_of, associations_of}
+use Rattle.dcsctp_theorem_sockets.specs.Agreement.{AreUsable}
 use Rattle.dcsctp_delivery_sockets.specs.Delivery.{AreInMemory}
 use Rattle.dcsctp_delivery_sockets.specs.UserMessages.{sent_of, read_of}
 use Rattle.dcsctp_world.specs.Shown.{SideShown, WorldView, options_of}

@@ -1,14 +1,14 @@
 -- What a world shows of its two sockets.
 use Rattle.std.specs.Prelude.{ℕ, Bool, false, Option, None, List, [], ◌∷◌}
-use Rattle.dcsctp_machine.specs.declared.association.Pair.{Pair}
-use Rattle.dcsctp_machine.specs.declared.association.Association.{Association}
-use Rattle.dcsctp_machine.specs.declared.options.Options.{Options}
-use Rattle.dcsctp_machine.specs.declared.word.Word.{Word}
-use Rattle.dcsctp_machine.specs.Event.{Event}
-use Rattle.dcsctp_machine.specs.Sockets.{Both}
-use Rattle.dcsctp_machine.specs.transfer.Messages.{MessageContent}
+use Rattle.dcsctp_core.specs.types.declared.association.Pair.{Pair}
+use Rattle.dcsctp_core.specs.types.declared.association.Association.{Association}
+use Rattle.dcsctp_core.specs.types.declared.options.Options.{Options}
+use Rattle.dcsctp_core.specs.types.declared.word.Word.{Word}
+use Rattle.dcsctp_core.specs.spec.endpoint.Event.{Event}
+use Rattle.dcsctp_spec_runs.specs.Sockets.{Both}
+use Rattle.dcsctp_core.specs.types.queues.Messages.{MessageContent}
 use Rattle.dcsctp_socket.specs.SocketView.{SocketView, fresh_socket}
-use Rattle.dcsctp_machine.specs.Schedule.{ActContent}
+use Rattle.dcsctp_core.specs.types.Schedule.{ActContent}
 
 -- A socket, and all that it ever showed, oldest first: its events, the packets among them, the words that it drew, and the pairs
 -- that it made of them; the messages that its user sent and read. Also its association at the start and after each act of either

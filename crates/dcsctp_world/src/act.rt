@@ -1,14 +1,14 @@
 //! Where an act happens, what its call answered, and which acts are honest.
 
 ghost use Rattle.std.specs.Prelude.{◌≡◌, ◌↔◌, IsTrue, map};
-ghost use Rattle.dcsctp_machine.specs.Schedule.{act_content, AreHonest};
-ghost use Rattle.dcsctp_machine.specs.Sockets.{side_of_act};
+ghost use Rattle.dcsctp_core.specs.types.Schedule.{act_content, AreHonest};
+ghost use Rattle.dcsctp_spec_runs.specs.Sockets.{side_of_act};
 
-use dcsctp_api::handover::SocketHandoverState;
-use dcsctp_api::{
+use dcsctp_core::api::handover::SocketHandoverState;
+use dcsctp_core::api::{
     BatchSendError, HandoverError, Message, ResetStreamsError, RestoreError, SendError,
 };
-use dcsctp_machine::{Act, Outside, Side, Step};
+use dcsctp_core::types::{Act, Outside, Side, Step};
 
 /// What the call of an act answered.
 #[derive(Debug, PartialEq, Eq, Drop)]

@@ -2,11 +2,11 @@
 
 ghost use Rattle.std.specs.Prelude.{◌<◌, ◌^◌, map};
 ghost use Rattle.std.specs.List.{AllByRecursion};
-ghost use Rattle.dcsctp_machine.specs.Schedule.{act_content, call_content};
-ghost use Rattle.dcsctp_machine.specs.transfer.Messages.{message_content};
+ghost use Rattle.dcsctp_core.specs.types.Schedule.{act_content, call_content};
+ghost use Rattle.dcsctp_core.specs.types.queues.Messages.{message_content};
 ghost use Rattle.dcsctp_delivery_sockets.specs.Delivery.{FitsMessage, FitsCall, FitsAct};
 
-use dcsctp_machine::{Act, Call, Step};
+use dcsctp_core::types::{Act, Call, Step};
 use dcsctp_socket::Message;
 
 // Each of these bytes is one: what is read has its type.

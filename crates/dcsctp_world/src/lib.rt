@@ -17,7 +17,7 @@ mod watched_socket;
 mod world;
 
 pub use act::Reply;
-pub use dcsctp_machine::{Act, Call, Outside, Side, Step};
+pub use dcsctp_core::types::{Act, Call, Outside, Side, Step};
 pub use dcsctp_socket as socket;
 pub use recorded::Recorded;
 pub use world::World;

@@ -75,7 +75,7 @@ impl<R> Recorded<R> {
 impl<R: Rng> Rng for Recorded<R> {
     ghost use Rattle.std.specs.Prelude.{◌≡◌, false, length};
     ghost use Rattle.rand_core.specs.Stream.{next_u32, next_u64, fill_bytes};
-    ghost use Rattle.dcsctp_machine.specs.declared.word.Word.TheVariants.{U32, U64};
+    ghost use Rattle.dcsctp_core.specs.types.declared.word.Word.TheVariants.{U32, U64};
     ghost use Rattle.dcsctp_world.specs.Recording.{KeepsWord};
 
     ghost stream = { λ r. R.stream r.inner };

@@ -1,14 +1,14 @@
 //! The messages that a socket's user sent and read, by what its calls answered.
 
 ghost use Rattle.std.specs.Prelude.{◌≡◌, map};
-ghost use Rattle.dcsctp_machine.specs.Schedule.{call_content};
-ghost use Rattle.dcsctp_machine.specs.transfer.Messages.{message_content};
-ghost use Rattle.dcsctp_api.specs.Messages.{refused_in};
+ghost use Rattle.dcsctp_core.specs.types.Schedule.{call_content};
+ghost use Rattle.dcsctp_core.specs.types.queues.Messages.{message_content};
+ghost use Rattle.dcsctp_core.specs.api.Messages.{refused_in};
 ghost use Rattle.dcsctp_world.specs.Messages.{refused_by, is_refused_at, other_at, others_from, sent_if, sent_among, sent_by, taken_by, read_by, Adds};
 
 use crate::act::Reply;
-use dcsctp_api::{BatchSendError, Message, SendError};
-use dcsctp_machine::Call;
+use dcsctp_core::api::{BatchSendError, Message, SendError};
+use dcsctp_core::types::Call;
 use std::alloc::AllocError;
 
 // Keeps a copy of a message that `send` accepted. `Err`: an allocation failed, and nothing was kept.

@@ -2,14 +2,15 @@
 
 ghost use Rattle.std.specs.Prelude.{◌≡◌, true, [], ◌∷◌, map, OnOk, IfOk, IsErrOf, IsOkUnless};
 ghost use Rattle.std.specs.Option.{option_map};
-ghost use Rattle.dcsctp_machine.specs.Settings.{IsValid};
-ghost use Rattle.dcsctp_machine.specs.Schedule.{call_content, act_content, send_call, send_many_call, reset_call, take_call, hand_over_call};
-ghost use Rattle.dcsctp_machine.specs.Ids.{stream_numbers};
-ghost use Rattle.dcsctp_machine.specs.transfer.Messages.{message_content};
-ghost use Rattle.dcsctp_machine.specs.CallTurns.{HandleInput};
-ghost use Rattle.dcsctp_machine.specs.Snapshot.{snapshot, is_valid_snapshot};
-ghost use Rattle.dcsctp_machine.specs.Sockets.{numbered, UserTurns, DeliveryTurns, TurnsOfAct};
-ghost use Rattle.dcsctp_api.specs.Events.{event_content};
+ghost use Rattle.dcsctp_core.specs.types.Settings.{IsValid};
+ghost use Rattle.dcsctp_core.specs.types.Schedule.{call_content, act_content, send_call, send_many_call, reset_call, take_call, hand_over_call};
+ghost use Rattle.dcsctp_core.specs.types.Ids.{stream_numbers};
+ghost use Rattle.dcsctp_core.specs.types.queues.Messages.{message_content};
+ghost use Rattle.dcsctp_core.specs.spec.endpoint.CallTurns.{HandleInput};
+ghost use Rattle.dcsctp_core.specs.types.Snapshot.{snapshot, is_valid_snapshot};
+ghost use Rattle.dcsctp_spec_runs.specs.Sockets.{numbered, DeliveryTurns, TurnsOfAct};
+ghost use Rattle.dcsctp_core.specs.spec.endpoint.UserTurns.{UserTurns};
+ghost use Rattle.dcsctp_core.specs.api.Events.{event_content};
 ghost use Rattle.dcsctp_world.specs.declared.act.Reply.TheVariants.{Done};
 ghost use Rattle.dcsctp_socket.specs.SocketView.{user_view_of};
 ghost use Rattle.dcsctp_world.specs.Drawing.{CallDraws, SideDraws};
@@ -20,8 +21,8 @@ ghost use Rattle.dcsctp_world.specs.Parts.{packet_bytes, kept, shown};
 
 use crate::act::Reply;
 use crate::user_messages::keep_messages;
-use dcsctp_api::handover::SocketHandoverState;
-use dcsctp_machine::{Act, Call, Outside, Step, copied_messages};
+use dcsctp_core::api::handover::SocketHandoverState;
+use dcsctp_core::types::{Act, Call, Outside, Step, copied_messages};
 use dcsctp_socket::{
     Association, DcSctpSocket, Message, Options, Pair, SendOptions, Socket, SocketEvent,
     SocketFault, StreamId, Word,

@@ -4,11 +4,12 @@ use crate::act::{Reply, are_honest, side_of};
 use crate::fits::act_fits;
 use crate::recorded::Recorded;
 use crate::watched_socket::WatchedSocket;
+use dcsctp_core::types::{Act, Outside, Side, Step};
 use dcsctp_delivery_shown::users_read_what_was_sent;
-use dcsctp_machine::{Act, Outside, Side, Step, options_fit, sockets_stay_sound};
-use dcsctp_machine_cookies::cookie_laws;
-use dcsctp_machine_refinement::{restored_sockets_begin_nothing, socket_laws};
 use dcsctp_socket::{Association, Message, Options, Pair, Socket, SocketEvent, SocketFault, Word};
+use dcsctp_spec_runs::{options_fit, sockets_stay_sound};
+use dcsctp_theorem_cookies::cookie_laws;
+use dcsctp_theorem_sockets::{restored_sockets_begin_nothing, socket_laws};
 use rand_core::Rng;
 use std::alloc::Global;
 use std::marker::Model;
@@ -54,11 +55,11 @@ impl<R> Model for World<R> {
 }
 
 ghost use Rattle.std.specs.Prelude.{◌≡◌, ◌↔◌, IsTrue, [], false, map, OnOk, IfOk, IsOkUnless};
-ghost use Rattle.dcsctp_machine.specs.Settings.{IsValid};
-ghost use Rattle.dcsctp_machine.specs.Schedule.{act_content, step_content, step_act, outside_content, outside_act, AreHonest};
-ghost use Rattle.dcsctp_machine.specs.Sockets.{of_side, side_of_outside};
-ghost use Rattle.dcsctp_machine.specs.transfer.Messages.{message_content};
-ghost use Rattle.dcsctp_api.specs.Events.{event_content};
+ghost use Rattle.dcsctp_core.specs.types.Settings.{IsValid};
+ghost use Rattle.dcsctp_core.specs.types.Schedule.{act_content, step_content, step_act, outside_content, outside_act, AreHonest};
+ghost use Rattle.dcsctp_spec_runs.specs.Sockets.{of_side, side_of_outside};
+ghost use Rattle.dcsctp_core.specs.types.queues.Messages.{message_content};
+ghost use Rattle.dcsctp_core.specs.api.Events.{event_content};
 ghost use Rattle.dcsctp_world.specs.Shown.{fresh_world, options_of};
 ghost use Rattle.dcsctp_world.specs.Recording.{fresh_recording, recorded_stream};
 ghost use Rattle.dcsctp_world.specs.Drawing.{DrawOn, AreWhole};
@@ -254,9 +255,9 @@ impl<R: Rng + Drop> World<R> {
     /// peer's tag that are new, and where one side's own tag is the other's peer tag, both pairs are crossed. Fewer
     /// than 2^30 chunks of data and fewer than 2^32 - 1 requests to reset streams go to each tag, each counted as often
     /// as it is sent, and a side sends fewer than 2^64 messages. In an association with interleaving (RFC 8260) no
-    /// such request ends by OnStreamsResetFailed. For one, a COOKIE ECHO that is delivered again once its association
-    /// has ended makes another one under the same tags, for as long as its cookie lives; then a message may be read
-    /// twice, or be made of parts of two.
+    /// such request ends by OnStreamsResetFailed. Where a tag serves a second association, a message may be read twice,
+    /// or be made of parts of two: a COOKIE ECHO that is delivered again once its association has ended makes another
+    /// one under the same tags, for as long as its cookie lives.
     ///
     /// The rest holds whatever comes from outside. In one lifetime an association connects at most once, and
     /// the numbers of requests to reset streams go up by one. Each request that was accepted is performed at

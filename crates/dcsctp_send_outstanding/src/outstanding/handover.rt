@@ -4,7 +4,7 @@ use super::{Outstanding, cursor_after};
 use crate::item::Item;
 use crate::totals::Totals;
 use dcsctp_api::SocketTime;
-use dcsctp_machine::HandoverOutstandingData;
+use dcsctp_api::types::HandoverOutstandingData;
 use std::alloc::AllocError;
 use std::collections::VecDeque;
 
@@ -14,10 +14,10 @@ const MOST_ITEMS: usize = 0x7fff_ffff;
 impl Outstanding {
     ghost use Rattle.std.specs.Prelude.{◌≡◌, ◌+◌, ◌^◌, ◌<◌, true, [], ◌∷◌, ◌++◌, length, map, IfOk, OnOk, OnErr};
     ghost use Rattle.std.specs.List.{list_all};
-    ghost use Rattle.dcsctp_machine.specs.Snapshot.{has_bytes_or_is_abandoned};
-    ghost use Rattle.dcsctp_machine.specs.Soundness.{HasBytes};
-    ghost use Rattle.dcsctp_machine.specs.SnapshotItems.{outstanding_part};
-    ghost use Rattle.dcsctp_machine.specs.transfer.OutstandingParts.{outstanding_given, items_again};
+    ghost use Rattle.dcsctp_api.specs.types.Snapshot.{has_bytes_or_is_abandoned};
+    ghost use Rattle.dcsctp_api.specs.spec.Soundness.{HasBytes};
+    ghost use Rattle.dcsctp_api.specs.types.SnapshotItems.{outstanding_part};
+    ghost use Rattle.dcsctp_api.specs.spec.queues.OutstandingParts.{outstanding_given, items_again};
 
     /// What a snapshot that is made at the moment `now` has of all items. Their payloads are copied. `Err`: an
     /// allocation failed.

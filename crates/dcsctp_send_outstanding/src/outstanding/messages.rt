@@ -1,19 +1,19 @@
 //! Messages among the items: where they lie, and the end of one that is abandoned (RFC 3758, section 3.5).
 
 ghost use Rattle.std.specs.Prelude.{◌≡◌, ◌<◌, ◌+◌, ◌^◌};
-ghost use Rattle.dcsctp_machine.specs.transfer.ItemMessages.{IsEndOf};
+ghost use Rattle.dcsctp_api.specs.spec.queues.ItemMessages.{IsEndOf};
 
 use super::Outstanding;
 use crate::item::Item;
+use dcsctp_api::types::{Change, Progress};
 use dcsctp_api::{Events, SocketTime};
-use dcsctp_machine::{Change, Progress};
 use dcsctp_send_queue::{DataToSend, SendQueue};
 use std::alloc::{AllocError, Global};
 
 impl Outstanding {
     ghost use Rattle.std.specs.Prelude.{◌⊎◌, ◌==◌, OnOk, OnErr, length};
     ghost use Rattle.dcsctp_send_outstanding.specs.Outstanding.{MayAddEnd};
-    ghost use Rattle.dcsctp_machine.specs.transfer.ItemMessages.{AtPlace, StartsMessage, EndsMessage, IsMessage, DropsRest};
+    ghost use Rattle.dcsctp_api.specs.spec.queues.ItemMessages.{AtPlace, StartsMessage, EndsMessage, IsMessage, DropsRest};
     ghost use Rattle.dcsctp_send_streams.specs.Telling.{contents};
     ghost use Rattle.dcsctp_send_queue.specs.Calls.{StopsDiscarding};
 

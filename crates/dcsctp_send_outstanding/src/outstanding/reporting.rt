@@ -4,14 +4,14 @@ ghost use Rattle.std.specs.Prelude.{◌≡◌, ◌<◌, ◌≤◌, ◌+◌, ◌-
 ghost use Rattle.dcsctp_send_outstanding.specs.Outstanding.{later_of};
 
 use super::Outstanding;
-use dcsctp_machine::Change;
-use dcsctp_wire::GapAckBlock;
+use dcsctp_api::types::Change;
+use dcsctp_api::wire::GapAckBlock;
 
 impl Outstanding {
     ghost use Rattle.std.specs.Prelude.{true, length};
-    ghost use Rattle.dcsctp_machine.specs.transfer.Outstanding.{reported};
-    ghost use Rattle.dcsctp_machine.specs.transfer.Progress.{is_unacknowledged};
-    ghost use Rattle.dcsctp_machine.specs.transfer.Reports.{IsWithin, Names, IsNewlyAcknowledged, IsLast};
+    ghost use Rattle.dcsctp_api.specs.spec.queues.Outstanding.{reported};
+    ghost use Rattle.dcsctp_api.specs.types.queues.Progress.{is_unacknowledged};
+    ghost use Rattle.dcsctp_api.specs.spec.queues.Reports.{IsWithin, Names, IsNewlyAcknowledged, IsLast};
     ghost use Rattle.dcsctp_send_outstanding.specs.NamedPlaces.{AreSettledBetween, BlocksAreSettled};
 
     // The place, if its item is neither acknowledged nor abandoned.

@@ -1,12 +1,12 @@
 //! What a snapshot has of what waits.
 
 ghost use Rattle.std.specs.Prelude.{◌≡◌, map};
-ghost use Rattle.dcsctp_machine.specs.SnapshotItems.{queued_part};
-ghost use Rattle.dcsctp_machine.specs.transfer.QueuedParts.{with_progress};
+ghost use Rattle.dcsctp_api.specs.types.SnapshotItems.{queued_part};
+ghost use Rattle.dcsctp_api.specs.spec.queues.QueuedParts.{with_progress};
 
 use super::Backlog;
+use dcsctp_api::types::{HandoverOutgoingStream, HandoverStreamMessage};
 use dcsctp_api::{SocketTime, StreamId};
-use dcsctp_machine::{HandoverOutgoingStream, HandoverStreamMessage};
 use dcsctp_send_streams::UnderWay;
 use std::alloc::AllocError;
 
@@ -34,8 +34,8 @@ fn mark_under_way(
 impl Backlog {
     ghost use Rattle.std.specs.Prelude.{◌≡◌, map, IfOk};
     ghost use Rattle.std.specs.List.{flat_map};
-    ghost use Rattle.dcsctp_machine.specs.SnapshotItems.{queued_part};
-    ghost use Rattle.dcsctp_machine.specs.transfer.QueuedParts.{messages_given, stream_given};
+    ghost use Rattle.dcsctp_api.specs.types.SnapshotItems.{queued_part};
+    ghost use Rattle.dcsctp_api.specs.spec.queues.QueuedParts.{messages_given, stream_given};
 
     /// What a snapshot has of the numbers and the priorities of all streams. `Err`: an allocation failed.
     pub fn handover_streams(&self) -> Result<Vec<HandoverOutgoingStream>, AllocError>

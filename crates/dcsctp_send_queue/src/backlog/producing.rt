@@ -9,13 +9,13 @@ use std::alloc::AllocError;
 
 impl Backlog {
     ghost use Rattle.dcsctp_send_queue.specs.Backlog.{queue_of};
-    ghost use Rattle.dcsctp_machine.specs.transfer.SendQueue.{CanGoOn, IsUnderWay, is_front_unordered, numbered_anew, numbered_for};
+    ghost use Rattle.dcsctp_api.specs.spec.queues.SendQueue.{CanGoOn, IsUnderWay, is_front_unordered, numbered_anew, numbered_for};
     ghost use Rattle.std.specs.Option.{option_map};
     ghost use Rattle.std.specs.Prelude.{◌≡◌, ◌==◌, ◌+◌, ◌-◌, ◌<◌, ◌++◌, ℕ, length, Some, None, Ok, OnOk, OnErr, IfOk, IfSome};
-    ghost use Rattle.dcsctp_machine.specs.transfer.SendStreams.{Waiting, front_of, is_expired, stream_at};
+    ghost use Rattle.dcsctp_api.specs.types.queues.SendStreams.{Waiting, front_of, is_expired, stream_at};
     ghost use Rattle.dcsctp_send_streams.specs.Telling.{contents, TellsFront};
     ghost use Rattle.dcsctp_send_streams.specs.Fragment.{HasSize};
-    ghost use Rattle.dcsctp_machine.specs.transfer.Sending.{fragment, after_part, part_events, after_last, last_events, DropsAll, size_produced, produced, produced_events, begun, TakesNext, DiscardsNamed};
+    ghost use Rattle.dcsctp_api.specs.spec.queues.Sending.{fragment, after_part, part_events, after_last, last_events, DropsAll, size_produced, produced, produced_events, begun, TakesNext, DiscardsNamed};
     ghost use Rattle.dcsctp_send_queue.specs.Leaving.{HasMore, HasRest, DropsSome, NextUnexpired};
     ghost use Rattle.dcsctp_send_queue.specs.Calls.{StopsTaking, StopsDiscarding};
 

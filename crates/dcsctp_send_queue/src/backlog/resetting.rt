@@ -9,16 +9,16 @@ use std::alloc::AllocError;
 
 impl Backlog {
     ghost use Rattle.dcsctp_send_queue.specs.Backlog.{queue_of};
-    ghost use Rattle.dcsctp_machine.specs.transfer.SendQueue.{CanGoOn, changed};
+    ghost use Rattle.dcsctp_api.specs.spec.queues.SendQueue.{CanGoOn, changed};
     ghost use Rattle.std.specs.Prelude.{◌≡◌, ◌==◌, ◌+◌, ◌-◌, ◌<◌, ◌++◌, length, take, Ok, Err, OnOk, OnErr, IfOk, not};
-    ghost use Rattle.dcsctp_machine.specs.transfer.SendStreams.{handed_out, stream_at, IsAscending};
-    ghost use Rattle.dcsctp_machine.specs.Ids.{stream_numbers};
-    ghost use Rattle.dcsctp_machine.specs.transfer.Transfer.{is_none_ready};
+    ghost use Rattle.dcsctp_api.specs.types.queues.SendStreams.{handed_out, stream_at, IsAscending};
+    ghost use Rattle.dcsctp_api.specs.types.Ids.{stream_numbers};
+    ghost use Rattle.dcsctp_api.specs.spec.queues.Transfer.{is_none_ready};
     ghost use Rattle.dcsctp_send_streams.specs.Telling.{contents, TellsFront};
     ghost use Rattle.dcsctp_send_streams.specs.Ranking.{count_pausing};
-    ghost use Rattle.dcsctp_machine.specs.transfer.OwnResets.{count_under_way, ready_streams, is_ready, prepared, prepare_events, handing_out};
+    ghost use Rattle.dcsctp_api.specs.spec.queues.OwnResets.{count_under_way, ready_streams, is_ready, prepared, prepare_events, handing_out};
     ghost use Rattle.dcsctp_send_queue.specs.Leaving.{after_pause, pause_events};
-    ghost use Rattle.dcsctp_machine.specs.transfer.Sending.{begun};
+    ghost use Rattle.dcsctp_api.specs.spec.queues.Sending.{begun};
     ghost use Rattle.dcsctp_send_queue.specs.Resets.{IsUsedAtMost};
 
     /// Drops the messages of the stream that haven't been started, and pauses it.

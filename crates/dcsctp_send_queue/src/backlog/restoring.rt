@@ -1,12 +1,12 @@
 //! What waits again once a snapshot is restored.
 
 ghost use Rattle.std.specs.Prelude.{◌≡◌};
-ghost use Rattle.dcsctp_machine.specs.SnapshotItems.{queued_part};
-ghost use Rattle.dcsctp_machine.specs.transfer.QueuedParts.{progress_again};
+ghost use Rattle.dcsctp_api.specs.types.SnapshotItems.{queued_part};
+ghost use Rattle.dcsctp_api.specs.spec.queues.QueuedParts.{progress_again};
 
 use super::Backlog;
+use dcsctp_api::types::{HandoverOutgoingStream, HandoverStreamMessage};
 use dcsctp_api::{SocketTime, StreamId};
-use dcsctp_machine::{HandoverOutgoingStream, HandoverStreamMessage};
 use dcsctp_send_streams::{QueuedMessage, UnderWay};
 use std::alloc::AllocError;
 
@@ -27,12 +27,12 @@ impl Backlog {
     ghost use Rattle.std.specs.Prelude.{◌≡◌, ◌+◌, ◌-◌, ◌^◌, ◌<◌, true, is_some, [], ◌∷◌, min, map, length, OnOk, OnErr};
     ghost use Rattle.std.specs.List.{list_all};
     ghost use Rattle.dcsctp_send_queue.specs.Backlog.{queue_of};
-    ghost use Rattle.dcsctp_machine.specs.SnapshotItems.{queued_part};
-    ghost use Rattle.dcsctp_machine.specs.Snapshot.{is_valid_queued};
-    ghost use Rattle.dcsctp_machine.specs.transfer.OwnResets.{with_used};
-    ghost use Rattle.dcsctp_machine.specs.transfer.SendQueue.{CanGoOn, changed, stream_of};
-    ghost use Rattle.dcsctp_machine.specs.transfer.SendStreams.{front_of};
-    ghost use Rattle.dcsctp_machine.specs.transfer.QueuedParts.{queue_emptied, streams_restored, goes_on, with_rest, message_restored, messages_restored};
+    ghost use Rattle.dcsctp_api.specs.types.SnapshotItems.{queued_part};
+    ghost use Rattle.dcsctp_api.specs.types.Snapshot.{is_valid_queued};
+    ghost use Rattle.dcsctp_api.specs.spec.queues.OwnResets.{with_used};
+    ghost use Rattle.dcsctp_api.specs.spec.queues.SendQueue.{CanGoOn, changed, stream_of};
+    ghost use Rattle.dcsctp_api.specs.types.queues.SendStreams.{front_of};
+    ghost use Rattle.dcsctp_api.specs.spec.queues.QueuedParts.{queue_emptied, streams_restored, goes_on, with_rest, message_restored, messages_restored};
 
     /// Drops all messages. The streams keep their priorities and their thresholds.
     pub fn empty(&mut self)

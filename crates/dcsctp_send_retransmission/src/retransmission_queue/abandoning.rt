@@ -2,27 +2,27 @@
 
 ghost use Rattle.std.specs.Prelude.{◌≡◌, ◌++◌, true, OnOk, OnErr};
 ghost use Rattle.std.specs.Option.{option_map};
-ghost use Rattle.dcsctp_machine.specs.Ids.{lifecycle_number};
+ghost use Rattle.dcsctp_api.specs.types.Ids.{lifecycle_number};
 ghost use Rattle.dcsctp_send_streams.specs.Telling.{contents, TellsFront};
-ghost use Rattle.dcsctp_machine.specs.transfer.Filling.{maybe_expired};
-ghost use Rattle.dcsctp_machine.specs.transfer.NextItem.{is_used_up, is_over, is_due};
+ghost use Rattle.dcsctp_api.specs.spec.queues.Filling.{maybe_expired};
+ghost use Rattle.dcsctp_api.specs.spec.queues.NextItem.{is_used_up, is_over, is_due};
 
 use super::RetransmissionQueue;
+use dcsctp_api::types::Change;
 use dcsctp_api::{Events, LifecycleId, SocketEvent, SocketTime};
-use dcsctp_machine::Change;
 use dcsctp_send_outstanding::Item;
 use dcsctp_send_queue::SendQueue;
 use std::alloc::AllocError;
 
 impl RetransmissionQueue {
     ghost use Rattle.std.specs.Prelude.{ℕ, List, [], ◌&&◌, ◌+◌, ◌-◌, ◌/◌, ◌<◌, ◌≤◌, IfOk, length};
-    ghost use Rattle.dcsctp_machine.specs.Timers.{expires_at};
-    ghost use Rattle.dcsctp_machine.specs.transfer.Items.{is_first_abandoned};
+    ghost use Rattle.dcsctp_api.specs.spec.endpoint.Timers.{expires_at};
+    ghost use Rattle.dcsctp_api.specs.spec.queues.Items.{is_first_abandoned};
     ghost use Rattle.dcsctp_send_retransmission.specs.Queue.{MayGrow, GivesUp};
-    ghost use Rattle.dcsctp_machine.specs.transfer.ItemMessages.{AtPlace};
-    ghost use Rattle.dcsctp_machine.specs.transfer.Progress.{is_unacknowledged};
+    ghost use Rattle.dcsctp_api.specs.spec.queues.ItemMessages.{AtPlace};
+    ghost use Rattle.dcsctp_api.specs.types.queues.Progress.{is_unacknowledged};
     ghost use Rattle.dcsctp_send_retransmission.specs.States.{RefusesUpAt, RefusesClosing, stage};
-    ghost use Rattle.dcsctp_machine.specs.transfer.Filling.{GivesUpAt, Closes};
+    ghost use Rattle.dcsctp_api.specs.spec.queues.Filling.{GivesUpAt, Closes};
     ghost use Rattle.dcsctp_send_retransmission.specs.GivingUp.{GivesUpDue, GivesUpIf};
 
     // Is the message of the item at the place to be abandoned instead of being sent again?

@@ -1,16 +1,16 @@
 //! Taking SACKs into account (RFC 9260, sections 6.2.1, 6.3 and 7.2).
 
 ghost use Rattle.std.specs.Prelude.{◌≡◌, ◌++◌, Some, true, OnOk, OnErr};
-ghost use Rattle.dcsctp_machine.specs.Ids.{lifecycle_number};
-ghost use Rattle.dcsctp_machine.specs.transfer.Acknowledging.{ends_delivery, told_by, delivered};
+ghost use Rattle.dcsctp_api.specs.types.Ids.{lifecycle_number};
+ghost use Rattle.dcsctp_api.specs.spec.queues.Acknowledging.{ends_delivery, told_by, delivered};
 ghost use Rattle.dcsctp_send_streams.specs.Telling.{contents, TellsFront};
 
 use super::RetransmissionQueue;
 use crate::handle_sack_result::HandleSackResult;
+use dcsctp_api::types::{Acknowledged, Change};
+use dcsctp_api::wire::GapAckBlock;
 use dcsctp_api::{Events, LifecycleId, SocketEvent, SocketTime};
-use dcsctp_machine::{Acknowledged, Change};
 use dcsctp_send_outstanding::Item;
-use dcsctp_wire::GapAckBlock;
 use std::alloc::AllocError;
 use std::time::Duration;
 
@@ -18,11 +18,11 @@ impl RetransmissionQueue {
     ghost use Rattle.std.specs.Prelude.{take, ◌<◌, ◌≤◌, ◌^◌, IfSome, length};
     ghost use Rattle.std.specs.Duration.{as_nanos};
     ghost use Rattle.std.specs.Option.{option_map};
-    ghost use Rattle.dcsctp_machine.specs.transfer.Reports.{MissesUntil, IsNewlyAcknowledged, IsLast};
-    ghost use Rattle.dcsctp_machine.specs.transfer.Outstanding.{tsn_at};
+    ghost use Rattle.dcsctp_api.specs.spec.queues.Reports.{MissesUntil, IsNewlyAcknowledged, IsLast};
+    ghost use Rattle.dcsctp_api.specs.spec.queues.Outstanding.{tsn_at};
     ghost use Rattle.dcsctp_send_retransmission.specs.Queue.{HandlesSack};
-    ghost use Rattle.dcsctp_machine.specs.transfer.Acknowledging.{acknowledged_until, missed_until, settled_at, is_recovering};
-    ghost use Rattle.dcsctp_machine.specs.transfer.RoundTrip.{round_trip_at};
+    ghost use Rattle.dcsctp_api.specs.spec.queues.Acknowledging.{acknowledged_until, missed_until, settled_at, is_recovering};
+    ghost use Rattle.dcsctp_api.specs.spec.queues.RoundTrip.{round_trip_at};
 
     /// Takes a SACK into account, with its blocks in ascending order, apart from each other and from 1 on.
     /// TSNs that were never sent are skipped (RFC 9260, sections 6.2.1, 6.3 and 7.2).

@@ -1,15 +1,15 @@
 //! What the peer is told to wait for no longer (RFC 3758, section 3.5; RFC 8260, section 2.3.1).
 
 ghost use Rattle.std.specs.Prelude.{◌≡◌, ◌<◌, ◌||◌, not, [], IfOk, length, map, slice_get, Some, take};
-ghost use Rattle.dcsctp_machine.specs.transfer.Items.{Item};
+ghost use Rattle.dcsctp_api.specs.spec.queues.Items.{Item};
 ghost use Rattle.dcsctp_send_retransmission.specs.Forwarding.{stream_entry, messages_entry};
-ghost use Rattle.dcsctp_machine.specs.transfer.Skipping.{NoneTwice};
+ghost use Rattle.dcsctp_api.specs.spec.queues.Skipping.{NoneTwice};
 ghost use Rattle.dcsctp_send_retransmission.specs.Skipping.{ssn_entry, mid_entry};
 
 use super::RetransmissionQueue;
 use crate::forward_tsn::{ForwardTsn, Skipped};
+use dcsctp_api::wire::{SkippedMessages, SkippedStream};
 use dcsctp_send_queue::DataToSend;
-use dcsctp_wire::{SkippedMessages, SkippedStream};
 use std::alloc::{AllocError, Global};
 use std::collections::BTreeMap;
 
@@ -22,7 +22,7 @@ pub(super) struct LastNumbers {
 
 impl RetransmissionQueue {
     ghost use Rattle.dcsctp_send_retransmission.specs.Forwarding.{Says};
-    ghost use Rattle.dcsctp_machine.specs.transfer.Skipping.{goes_on, entry_limit};
+    ghost use Rattle.dcsctp_api.specs.spec.queues.Skipping.{goes_on, entry_limit};
     ghost use Rattle.dcsctp_send_retransmission.specs.Skipping.{Collects, Skips, TakesIn};
 
     /// What a FORWARD-TSN says, or with interleaving an I-FORWARD-TSN (RFC 3758, section 3.5; RFC 8260,

@@ -1,11 +1,11 @@
 //! What a snapshot has of what is in flight, with the windows, and what is in flight again once it is restored.
 
 ghost use Rattle.std.specs.Prelude.{◌≡◌};
-ghost use Rattle.dcsctp_machine.specs.transfer.OutstandingParts.{in_32_bits};
+ghost use Rattle.dcsctp_api.specs.spec.queues.OutstandingParts.{in_32_bits};
 
 use super::RetransmissionQueue;
 use dcsctp_api::SocketTime;
-use dcsctp_machine::HandoverTransmission;
+use dcsctp_api::types::HandoverTransmission;
 use std::alloc::AllocError;
 
 // No more than the greatest number of 32 bits.
@@ -18,8 +18,8 @@ fn in_32_bits(size: usize) -> u32
 impl RetransmissionQueue {
     ghost use Rattle.std.specs.Prelude.{true, OnOk, OnErr};
     ghost use Rattle.std.specs.List.{list_all};
-    ghost use Rattle.dcsctp_machine.specs.Snapshot.{send_part, has_bytes_or_is_abandoned};
-    ghost use Rattle.dcsctp_machine.specs.transfer.OutstandingParts.{with_retransmission, retransmission_restored};
+    ghost use Rattle.dcsctp_api.specs.types.Snapshot.{send_part, has_bytes_or_is_abandoned};
+    ghost use Rattle.dcsctp_api.specs.spec.queues.OutstandingParts.{with_retransmission, retransmission_restored};
 
     /// Adds what a snapshot that is made at the moment `now` has of it: the next TSN, the last one that was
     /// acknowledged cumulatively, and the windows in bytes, which stop at the greatest `u32`. With

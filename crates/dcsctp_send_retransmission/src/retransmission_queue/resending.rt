@@ -8,16 +8,16 @@ use std::alloc::AllocError;
 
 impl RetransmissionQueue {
     ghost use Rattle.std.specs.Prelude.{◌≡◌, ℕ, List, true, false, if◌then◌else◌, IfNone, ◌+◌, ◌<◌, ◌≤◌, OnOk, OnErr, IfOk, IfSome, length};
-    ghost use Rattle.dcsctp_machine.specs.transfer.SendQueue.{SendQueueState};
+    ghost use Rattle.dcsctp_api.specs.spec.queues.SendQueue.{SendQueueState};
     ghost use Rattle.dcsctp_api.specs.declared.events.SocketEvent.{SocketEvent};
-    ghost use Rattle.dcsctp_machine.specs.transfer.Items.{marked_items};
-    ghost use Rattle.dcsctp_machine.specs.transfer.Retransmission.{has_fast_retransmit, timer_with};
-    ghost use Rattle.dcsctp_machine.specs.transfer.NextItem.{IsNextMarked, IsMarkedAt, HaltsAgain, is_due};
+    ghost use Rattle.dcsctp_api.specs.spec.queues.Items.{marked_items};
+    ghost use Rattle.dcsctp_api.specs.spec.queues.Retransmission.{has_fast_retransmit, timer_with};
+    ghost use Rattle.dcsctp_api.specs.spec.queues.NextItem.{IsNextMarked, IsMarkedAt, HaltsAgain, is_due};
     ghost use Rattle.dcsctp_send_retransmission.specs.Halting.{SendsAgain, GoesAgain};
     ghost use Rattle.dcsctp_send_retransmission.specs.States.{TriesAtOnce, stage, Goes, SendsAt};
-    ghost use Rattle.dcsctp_machine.specs.transfer.Filling.{SendsMarked, StepAgain};
-    ghost use Rattle.dcsctp_machine.specs.transfer.AtOnce.{HaltsAtOnce, SendsFirst, restarted};
-    ghost use Rattle.dcsctp_machine.specs.transfer.ItemMessages.{AtPlace};
+    ghost use Rattle.dcsctp_api.specs.spec.queues.Filling.{SendsMarked, StepAgain};
+    ghost use Rattle.dcsctp_api.specs.spec.queues.AtOnce.{HaltsAtOnce, SendsFirst, restarted};
+    ghost use Rattle.dcsctp_api.specs.spec.queues.ItemMessages.{AtPlace};
     ghost use Rattle.dcsctp_send_retransmission.specs.Sending.{Keeps, Fills, HandsOut};
 
     // Puts marked chunks into the packet, the first ones first, while they fit and the windows allow.

@@ -11,14 +11,14 @@ const CHUNK_LIMIT: usize = 65532;
 
 impl RetransmissionQueue {
     ghost use Rattle.std.specs.Prelude.{◌≡◌, [], true, false, ◌+◌, ◌-◌, ◌*◌, ◌/◌, min, ◌^◌, ◌<◌, IsTrue, OnOk, IfOk, length};
-    ghost use Rattle.dcsctp_machine.specs.transfer.Items.{marked_items};
-    ghost use Rattle.dcsctp_machine.specs.transfer.Outstanding.{header};
-    ghost use Rattle.dcsctp_machine.specs.transfer.Retransmission.{can_send};
+    ghost use Rattle.dcsctp_api.specs.spec.queues.Items.{marked_items};
+    ghost use Rattle.dcsctp_api.specs.spec.queues.Outstanding.{header};
+    ghost use Rattle.dcsctp_api.specs.spec.queues.Retransmission.{can_send};
     ghost use Rattle.dcsctp_send_outstanding.specs.Fresh.{SendsFresh, EndsFresh};
-    ghost use Rattle.dcsctp_machine.specs.transfer.NextItem.{HasNone, HaltsNew, Halts};
+    ghost use Rattle.dcsctp_api.specs.spec.queues.NextItem.{HasNone, HaltsNew, Halts};
     ghost use Rattle.dcsctp_send_retransmission.specs.Halting.{FillsUp};
     ghost use Rattle.dcsctp_send_retransmission.specs.States.{stage, Goes, GoesFilling, TriesPacket, SendsPacket};
-    ghost use Rattle.dcsctp_machine.specs.transfer.Filling.{StepNew};
+    ghost use Rattle.dcsctp_api.specs.spec.queues.Filling.{StepNew};
     ghost use Rattle.dcsctp_send_retransmission.specs.Sending.{Keeps, Fills, Sends};
 
     /// The TSNs of the chunks that go into a packet with that many bytes of room. First come those that are

@@ -1,9 +1,11 @@
 //! Snapshots: what one has of the queue, and the queue that goes on from it.
 
 use super::{Line, at};
-use dcsctp_api::SocketTime;
-use dcsctp_machine::{HandoverOutstandingData, HandoverSocketState, Options, SocketHandoverState};
 use dcsctp_send_retransmission::RetransmissionQueue;
+use dcsctp_send_retransmission::api::SocketTime;
+use dcsctp_send_retransmission::types::{
+    HandoverOutstandingData, HandoverSocketState, Options, SocketHandoverState,
+};
 use dcsctp_testing::Row;
 use std::alloc::Global;
 

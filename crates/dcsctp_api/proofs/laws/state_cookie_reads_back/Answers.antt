@@ -1,6 +1,7 @@
 use Rattle.std.proofs.Common.{◌≡◌, ap, sym, ◌∙◌, ℕ, List, Result, Ok}
-use Rattle.dcsctp_machine.specs.Cookie.{Cookie}
-use Rattle.dcsctp_machine.specs.Offer.{capabilities_offered}
+use Rattle.dcsctp_spec.specs.Cookie.{Cookie}
+use Rattle.dcsctp_spec.specs.types.Offer.{capabilities_offered}
+use Rattle.dcsctp_spec_lemmas.proofs.CookieLemmas.{cookie_reads_back}
 use Rattle.dcsctp_api.specs.declared.state_cookie.StateCookie.{StateCookie}
 use Rattle.dcsctp_api.specs.Cookie.{cookie_of}
 use Rattle.dcsctp_api.proofs.laws.state_cookie_reads_back.Goals as goal
@@ -31,7 +32,7 @@ ok_is a b same = cc
 
 pub returns : goal.returns
 returns c written fits =
-    let is_read = c.cookie_reads_back.ensures (cookie_of written) fits in
+    let is_read = cookie_reads_back (cookie_of written) fits in
     record {
       is_read = is_read;
       same = λ read found. same_cookie read written (ok_is (cookie_of read) (cookie_of written) (sym found ∙ is_read));

@@ -2,8 +2,8 @@ use Rattle.std.proofs.Common.{ℕ, ◌<◌, ◌^◌, List, ap, subst, ◌∙◌,
 use Rattle.std.specs.List.{flat_map, AllByRecursion}
 use Rattle.std.specs.Int.{w16, to_be_bytes}
 use Rattle.std.proofs.lemmas.List.{take_all}
-use Rattle.dcsctp_machine.specs.declared.ids.StreamId.{StreamId}
-use Rattle.dcsctp_machine.specs.Ids.{stream_numbers}
+use Rattle.dcsctp_transfer.specs.types.declared.ids.StreamId.{StreamId}
+use Rattle.dcsctp_transfer.specs.types.Ids.{stream_numbers}
 use Rattle.dcsctp_core.specs.Resetting.{IsStream}
 use Rattle.dcsctp_core.proofs.ResetLemmas.{pushed, one_fits}
 use Rattle.dcsctp_core.proofs.resetting.stream_bytes.Goals as goal

@@ -1,7 +1,7 @@
 use Rattle.std.proofs.Common.{◌≡◌, take}
 use Rattle.std.specs.List.{flat_map, AllByRecursion}
 use Rattle.std.specs.Int.{w16, to_be_bytes}
-use Rattle.dcsctp_machine.specs.Ids.{stream_numbers}
+use Rattle.dcsctp_transfer.specs.types.Ids.{stream_numbers}
 use Rattle.dcsctp_core.specs.Resetting.{IsStream}
 use Rattle.dcsctp_core.proofs.resetting.stream_bytes.Given as goal
 

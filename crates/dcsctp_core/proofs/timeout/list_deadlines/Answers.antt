@@ -1,5 +1,5 @@
 use Rattle.std.proofs.Common.{ap, ap₂, subst, sym, ◌∙◌}
-use Rattle.dcsctp_machine.specs.Endpoint.{closed, cookie_wait, cookie_echoed, open_in}
+use Rattle.dcsctp_transfer.specs.spec.endpoint.Endpoint.{closed, cookie_wait, cookie_echoed, open_in}
 use Rattle.dcsctp_core.specs.declared.deadlines.DeadlineKind.TheVariants.{T1}
 use Rattle.dcsctp_core.specs.Listing.{with_entry}
 use Rattle.dcsctp_core.specs.Timeout.{IsTold}

@@ -1,6 +1,6 @@
 use Rattle.std.proofs.Common.{◌∙◌, OnOk, sym, refl, subst}
-use Rattle.dcsctp_machine.specs.transfer.IncomingStreams.{ChunkModel}
-use Rattle.dcsctp_machine.specs.turns.TransferMoves.{ReceivesData}
+use Rattle.dcsctp_core.specs.spec.queues.IncomingStreams.{ChunkModel}
+use Rattle.dcsctp_core.specs.spec.endpoint.TransferMoves.{ReceivesData}
 use Rattle.std.proofs.lemmas.Result.{err_from_is_err_and}
 use Rattle.dcsctp_core.specs.View.{view_of}
 use Rattle.dcsctp_core_data.specs.Data.{part_arrival}

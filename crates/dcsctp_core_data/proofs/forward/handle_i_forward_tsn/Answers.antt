@@ -1,6 +1,6 @@
 use Rattle.std.proofs.Common.{refl}
 use Rattle.std.proofs.lemmas.Result.{err_from_is_err_and}
-use Rattle.dcsctp_machine.specs.transfer.Arrivals.{messages_skipped_in}
+use Rattle.dcsctp_core.specs.spec.queues.Arrivals.{messages_skipped_in}
 use Rattle.dcsctp_core.specs.View.{view_of}
 use Rattle.dcsctp_core_data.proofs.ArrivalLemmas.{forward_cut, forward_unasked, forward_worked}
 use Rattle.dcsctp_core_data.proofs.forward.handle_i_forward_tsn.Goals as goal

@@ -1,5 +1,5 @@
 use Rattle.std.proofs.Common.{◌≡◌, ◌≤◌, ◌/◌, length}
-use Rattle.dcsctp_machine.specs.transfer.Arrivals.{first_messages_skipped}
+use Rattle.dcsctp_core.specs.spec.queues.Arrivals.{first_messages_skipped}
 use Rattle.dcsctp_core_data.proofs.forward.skipped_messages_in.Given as goal
 
 abbrev pub invariant-loop-index : goal.invariant-loop-index

@@ -1,5 +1,5 @@
 use Rattle.std.proofs.Common.{ℕ, List, subst}
-use Rattle.dcsctp_machine.specs.declared.kinds.ErrorKind.TheVariants.{ProtocolViolation}
+use Rattle.dcsctp_core.specs.types.declared.kinds.ErrorKind.TheVariants.{ProtocolViolation}
 use Rattle.dcsctp_core.specs.View.{Moves, view_of}
 use Rattle.dcsctp_core.specs.Handling.{report_turn}
 use Rattle.dcsctp_core_data.proofs.refusal.report_no_user_data.Goals as goal

@@ -1,7 +1,7 @@
 use Rattle.std.proofs.Common.{ap}
 use Rattle.std.specs.Prelude.{is_some}
 use Rattle.std.proofs.lemmas.Result.{err_from_is_err_and}
-use Rattle.dcsctp_wire.specs.Content.{sack_content}
+use Rattle.dcsctp_core.specs.wire.Content.{sack_content}
 use Rattle.dcsctp_core.proofs.BelowLemmas.{sacks_lent}
 use Rattle.dcsctp_core.proofs.LendingLemmas.{found, left_with}
 use Rattle.dcsctp_core_data.proofs.SackLemmas.{taken, still_held, sack_done, sack_cut, sack_ignored, sack_unasked, sack_refused}

@@ -1,5 +1,5 @@
 use Rattle.std.proofs.Common.{ℕ, List, subst}
-use Rattle.dcsctp_machine.specs.declared.kinds.ErrorKind.TheVariants.{NotConnected}
+use Rattle.dcsctp_core.specs.types.declared.kinds.ErrorKind.TheVariants.{NotConnected}
 use Rattle.dcsctp_core.specs.View.{Moves, view_of}
 use Rattle.dcsctp_core.specs.Handling.{report_turn}
 use Rattle.dcsctp_core_data.proofs.sack.report_no_tcb.Goals as goal

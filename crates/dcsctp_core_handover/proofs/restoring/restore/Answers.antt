@@ -1,9 +1,9 @@
 use Rattle.std.proofs.Common.{ap, map, [], ◌∷◌, ◌∙◌}
 use Rattle.std.proofs.lemmas.List.{map-append}
-use Rattle.dcsctp_machine.specs.Snapshot.{snapshot}
-use Rattle.dcsctp_machine.specs.transfer.QueuedParts.{queue_restored}
-use Rattle.dcsctp_machine.specs.transfer.SendQueue.{SendQueueState}
-use Rattle.dcsctp_api.specs.Events.{event_content}
+use Rattle.dcsctp_core.specs.types.Snapshot.{snapshot}
+use Rattle.dcsctp_core.specs.spec.queues.QueuedParts.{queue_restored}
+use Rattle.dcsctp_core.specs.spec.queues.SendQueue.{SendQueueState}
+use Rattle.dcsctp_core.specs.api.Events.{event_content}
 use Rattle.dcsctp_core_handover.proofs.RestoreSteps.{restores}
 use Rattle.dcsctp_core_handover.proofs.restoring.restore.Goals as goal
 

@@ -1,11 +1,11 @@
 use Rattle.std.proofs.lemmas.Result.{err_from_is_err_and}
 use Rattle.std.proofs.Common.{refl, ap, rules}
-use Rattle.dcsctp_wire.specs.Content.{init_content}
-use Rattle.dcsctp_machine.specs.Packet.{introduction_in}
+use Rattle.dcsctp_core.specs.wire.Content.{init_content}
+use Rattle.dcsctp_core.specs.spec.Packet.{introduction_in}
 use Rattle.dcsctp_core.specs.declared.context.Context.{Context}
 use Rattle.dcsctp_core.specs.View.{view_of}
 use Rattle.dcsctp_core.specs.Drawing.{long_word}
-use Rattle.dcsctp_machine.proofs.SendQueueLemmas.{anew_either}
+use Rattle.dcsctp_core.proofs.spec_lemmas.SendQueueLemmas.{anew_either}
 use Rattle.dcsctp_core_handshake.proofs.InitAckSteps.{accepts, accepts_cut, acceptance_unmade}
 use Rattle.dcsctp_core_handshake.proofs.connect.echo_cookie.Goals as goal
 

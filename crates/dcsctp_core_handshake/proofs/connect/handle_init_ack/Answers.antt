@@ -1,7 +1,7 @@
 use Rattle.std.proofs.lemmas.Result.{err_from_is_err_and}
 use Rattle.std.proofs.Common.{List, map, ap, sym, ◌∙◌}
-use Rattle.dcsctp_wire.specs.Content.{init_content, parameter_content}
-use Rattle.dcsctp_machine.specs.Packet.{introduction_in, cookie_in}
+use Rattle.dcsctp_core.specs.wire.Content.{init_content, parameter_content}
+use Rattle.dcsctp_core.specs.spec.Packet.{introduction_in, cookie_in}
 use Rattle.dcsctp_core.specs.View.{core_of, view_of}
 use Rattle.dcsctp_core_handshake.proofs.InitAckSteps.{works_elsewhere, works_accepted, works_accepted_cut}
 use Rattle.dcsctp_core_handshake.proofs.connect.handle_init_ack.Goals as goal

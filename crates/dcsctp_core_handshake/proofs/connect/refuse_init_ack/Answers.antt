@@ -1,12 +1,12 @@
 use Rattle.std.proofs.lemmas.Result.{err_from_is_err_and}
 use Rattle.std.proofs.Common.{◌≡◌, Bool, true, false, cond, [], ◌∷◌, refl, ap, sym, ◌∙◌}
-use Rattle.dcsctp_machine.specs.Event.{aborted}
-use Rattle.dcsctp_machine.specs.declared.kinds.ErrorKind.TheVariants.{ProtocolViolation}
-use Rattle.dcsctp_machine.specs.Packet.{Emission}
-use Rattle.dcsctp_machine.specs.Endpoint.{Endpoint}
-use Rattle.dcsctp_machine.specs.Outcome.{quiet, sends, emits, fits}
-use Rattle.dcsctp_api.specs.Calls.{is_closed}
-use Rattle.dcsctp_machine.specs.turns.HandshakeOutcomes.{abort_emission, no_cookie_text}
+use Rattle.dcsctp_core.specs.spec.endpoint.Event.{aborted}
+use Rattle.dcsctp_core.specs.types.declared.kinds.ErrorKind.TheVariants.{ProtocolViolation}
+use Rattle.dcsctp_core.specs.spec.Packet.{Emission}
+use Rattle.dcsctp_core.specs.spec.endpoint.Endpoint.{Endpoint}
+use Rattle.dcsctp_core.specs.spec.endpoint.Outcome.{quiet, sends, emits, fits}
+use Rattle.dcsctp_core.specs.api.Calls.{is_closed}
+use Rattle.dcsctp_core.specs.spec.endpoint.HandshakeOutcomes.{abort_emission, no_cookie_text}
 use Rattle.dcsctp_core.specs.View.{View, view_of, endpoint_of}
 use Rattle.dcsctp_core.proofs.Composing.{cut_after}
 use Rattle.dcsctp_core.proofs.EndLemmas.{ends_after_packet}

@@ -1,11 +1,11 @@
 use Rattle.std.proofs.Common.{◌≡◌, ◌≤◌, ◌<◌, ◌+◌, length, ℕ, true, List, ◌++◌, refl, sym, ap, subst, ◌∙◌, arith}
 use Rattle.std.proofs.lemmas.Result.{err_from_is_err_and}
 use Rattle.std.proofs.lemmas.List.{append-nil}
-use Rattle.dcsctp_wire_build.specs.Building.{Building}
-use Rattle.dcsctp_wire.specs.Content.{cookie_echo_chunk}
-use Rattle.dcsctp_wire.specs.Spelling.{chunk_bytes}
-use Rattle.dcsctp_machine.specs.Settings.{packet_size_limit}
-use Rattle.dcsctp_machine.specs.turns.HandshakeOutcomes.{echo_emission}
+use Rattle.dcsctp_core.specs.wire_build.Building.{Building}
+use Rattle.dcsctp_core.specs.wire.Content.{cookie_echo_chunk}
+use Rattle.dcsctp_core.specs.wire.Spelling.{chunk_bytes}
+use Rattle.dcsctp_core.specs.types.Settings.{packet_size_limit}
+use Rattle.dcsctp_core.specs.spec.endpoint.HandshakeOutcomes.{echo_emission}
 use Rattle.dcsctp_core.specs.declared.context.Context.{Context}
 use Rattle.dcsctp_core.specs.Handling.{TakesIn}
 use Rattle.dcsctp_core.specs.View.{core_of, held_of, endpoint_of, view_of}

@@ -1,7 +1,7 @@
 use Rattle.std.proofs.lemmas.Result.{err_from_is_err_and}
 use Rattle.std.proofs.Common.{ap, map, ◌∙◌}
-use Rattle.dcsctp_api.specs.Cookie.{cookie_of}
-use Rattle.dcsctp_api.specs.Events.{event_content}
+use Rattle.dcsctp_core.specs.api.Cookie.{cookie_of}
+use Rattle.dcsctp_core.specs.api.Events.{event_content}
 use Rattle.dcsctp_core.specs.declared.context.Context.{Context}
 use Rattle.dcsctp_core.specs.View.{view_of}
 use Rattle.dcsctp_core_handshake.proofs.AssociationSteps.{establish_unmade, establishes, establishes_cut}

@@ -1,7 +1,7 @@
 use Rattle.std.proofs.lemmas.Result.{err_from_is_err_and}
 use Rattle.std.proofs.Common.{ap}
-use Rattle.dcsctp_api.specs.Cookie.{cookie_of}
-use Rattle.dcsctp_machine.specs.turns.CookieEchoOutcomes.{invalid_tag_text, stale_text}
+use Rattle.dcsctp_core.specs.api.Cookie.{cookie_of}
+use Rattle.dcsctp_core.specs.spec.endpoint.CookieEchoOutcomes.{invalid_tag_text, stale_text}
 use Rattle.dcsctp_core.specs.View.{View, view_of}
 use Rattle.dcsctp_core_handshake.proofs.EchoSteps.{works_new, works_new_cut, works_replacing, works_replacing_cut, works_restart, works_maintain, works_maintain_cut, works_discard, refused_cut, unread_turn, untagged_turn, stale_turn}
 use Rattle.dcsctp_core_handshake.proofs.cookie_echo.handle_cookie_echo.Goals as goal

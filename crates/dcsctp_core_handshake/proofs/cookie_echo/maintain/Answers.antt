@@ -1,7 +1,7 @@
 use Rattle.std.proofs.lemmas.Result.{err_from_is_err_and}
 use Rattle.std.proofs.Common.{ap, map, refl}
-use Rattle.dcsctp_api.specs.Events.{event_content}
-use Rattle.dcsctp_machine.specs.Endpoint.{closed, cookie_wait}
+use Rattle.dcsctp_core.specs.api.Events.{event_content}
+use Rattle.dcsctp_core.specs.spec.endpoint.Endpoint.{closed, cookie_wait}
 use Rattle.dcsctp_core.specs.View.{core_of, view_of, held_of, phase_in}
 use Rattle.dcsctp_core_handshake.proofs.MaintainSteps.{connected_view, maintains, maintains_cut, maintain_unmade, maintains_open, maintains_open_cut, maintains_none}
 use Rattle.dcsctp_core_handshake.proofs.cookie_echo.maintain.Goals as goal

@@ -1,7 +1,7 @@
 use Rattle.std.proofs.lemmas.Result.{err_from_is_err_and}
 use Rattle.std.proofs.Common.{ap}
-use Rattle.dcsctp_machine.specs.transfer.SendQueue.{SendQueueState}
-use Rattle.dcsctp_api.specs.Cookie.{cookie_of}
+use Rattle.dcsctp_core.specs.spec.queues.SendQueue.{SendQueueState}
+use Rattle.dcsctp_core.specs.api.Cookie.{cookie_of}
 use Rattle.dcsctp_core.specs.View.{view_of}
 use Rattle.dcsctp_core_handshake.proofs.AssociationSteps.{replaces, replaces_cut}
 use Rattle.dcsctp_core_handshake.proofs.cookie_echo.replace.Goals as goal

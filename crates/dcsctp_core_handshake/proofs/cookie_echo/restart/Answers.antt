@@ -1,9 +1,9 @@
 use Rattle.std.proofs.lemmas.Result.{err_from_is_err_and}
 use Rattle.std.proofs.Common.{List, ℕ, ap, map}
-use Rattle.dcsctp_machine.specs.Event.{Event}
-use Rattle.dcsctp_api.specs.Cookie.{cookie_of}
-use Rattle.dcsctp_api.specs.Events.{event_content}
-use Rattle.dcsctp_api.specs.declared.events.SocketEvent.TheVariants.{OnConnectionRestarted}
+use Rattle.dcsctp_core.specs.spec.endpoint.Event.{Event}
+use Rattle.dcsctp_core.specs.api.Cookie.{cookie_of}
+use Rattle.dcsctp_core.specs.api.Events.{event_content}
+use Rattle.dcsctp_core.specs.api.declared.events.SocketEvent.TheVariants.{OnConnectionRestarted}
 use Rattle.dcsctp_core.specs.View.{view_of}
 use Rattle.dcsctp_core.proofs.Composing.{added_one}
 use Rattle.dcsctp_core_handshake.proofs.AssociationSteps.{restarts, restarts_cut, restart_unmade}

@@ -1,5 +1,5 @@
 use Rattle.std.proofs.Common.{sym, ◌∙◌}
-use Rattle.dcsctp_api.specs.Cookie.{cookie_of}
+use Rattle.dcsctp_core.specs.api.Cookie.{cookie_of}
 use Rattle.dcsctp_core.specs.View.{view_of}
 use Rattle.dcsctp_core_handshake.proofs.RestartSteps.{restarts_anew}
 use Rattle.dcsctp_core_handshake.proofs.cookie_echo.restart_where_open.Goals as goal

@@ -1,7 +1,7 @@
 use Rattle.std.proofs.Common.{◌∙◌, ap}
-use Rattle.dcsctp_wire.specs.Content.{init_content}
-use Rattle.dcsctp_machine.specs.Packet.{introduction_in}
-use Rattle.dcsctp_machine.specs.Endpoint.{open_in}
+use Rattle.dcsctp_core.specs.wire.Content.{init_content}
+use Rattle.dcsctp_core.specs.spec.Packet.{introduction_in}
+use Rattle.dcsctp_core.specs.spec.endpoint.Endpoint.{open_in}
 use Rattle.dcsctp_core.specs.declared.state.OpenPhase.{OpenPhase}
 use Rattle.dcsctp_core.specs.View.{core_of, view_of, held_of, phase_in}
 use Rattle.dcsctp_core_handshake.proofs.InitSteps.{repeats_ack}

@@ -1,6 +1,6 @@
 use Rattle.std.proofs.Common.{◌≡◌, map, drop}
-use Rattle.dcsctp_wire.specs.Content.{parameter_content}
-use Rattle.dcsctp_machine.specs.Packet.{cookie_in}
+use Rattle.dcsctp_core.specs.wire.Content.{parameter_content}
+use Rattle.dcsctp_core.specs.spec.Packet.{cookie_in}
 use Rattle.dcsctp_core_handshake.proofs.parameters.state_cookie.Given as goal
 
 -- what is left says what all say

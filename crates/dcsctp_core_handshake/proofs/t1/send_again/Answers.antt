@@ -1,6 +1,6 @@
 use Rattle.std.proofs.lemmas.Result.{err_from_is_err_and}
 use Rattle.std.proofs.Common.{ap, refl}
-use Rattle.dcsctp_machine.specs.Endpoint.{closed, open_in}
+use Rattle.dcsctp_core.specs.spec.endpoint.Endpoint.{closed, open_in}
 use Rattle.dcsctp_core.specs.View.{core_of, view_of, held_of, phase_in}
 use Rattle.dcsctp_core_handshake.proofs.T1Steps.{again_nothing, again_init, again_init_cut, again_echo, again_echo_cut}
 use Rattle.dcsctp_core_handshake.proofs.t1.send_again.Goals as goal

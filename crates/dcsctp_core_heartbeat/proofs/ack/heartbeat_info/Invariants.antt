@@ -1,6 +1,6 @@
 use Rattle.std.proofs.Common.{◌≡◌, map, drop}
-use Rattle.dcsctp_wire.specs.Content.{parameter_content}
-use Rattle.dcsctp_machine.specs.turns.HeartbeatOutcomes.{info_in}
+use Rattle.dcsctp_core.specs.wire.Content.{parameter_content}
+use Rattle.dcsctp_core.specs.spec.endpoint.HeartbeatOutcomes.{info_in}
 use Rattle.dcsctp_core_heartbeat.proofs.ack.heartbeat_info.Given as goal
 
 -- what is left says what all say

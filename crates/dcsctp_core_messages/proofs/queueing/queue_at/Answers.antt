@@ -1,6 +1,6 @@
 use Rattle.std.proofs.lemmas.Result.{err_from_is_err_and}
-use Rattle.dcsctp_machine.specs.transfer.Messages.{message_content}
-use Rattle.dcsctp_machine.specs.turns.MessageOutcomes.{sending_of}
+use Rattle.dcsctp_core.specs.types.queues.Messages.{message_content}
+use Rattle.dcsctp_core.specs.spec.endpoint.MessageOutcomes.{sending_of}
 use Rattle.dcsctp_core.specs.View.{view_of}
 use Rattle.dcsctp_core_messages.proofs.QueueingLemmas.{one_stopped}
 use Rattle.dcsctp_core_messages.proofs.queueing.queue_at.Goals as goal

@@ -1,7 +1,7 @@
 use Rattle.std.proofs.Common.{◌≡◌, ◌+◌, map, length, vec_len}
 use Rattle.std.specs.Vec.Iter.{into_iter_items, into_iter_len}
-use Rattle.dcsctp_machine.specs.transfer.Messages.{message_content}
-use Rattle.dcsctp_machine.specs.turns.MessageOutcomes.{sending_of}
+use Rattle.dcsctp_core.specs.types.queues.Messages.{message_content}
+use Rattle.dcsctp_core.specs.spec.endpoint.MessageOutcomes.{sending_of}
 use Rattle.dcsctp_core.specs.View.{view_of}
 use Rattle.dcsctp_core_messages.proofs.QueueingLemmas.{GoesOn}
 use Rattle.dcsctp_core_messages.proofs.queueing.queue_messages.Given as goal

@@ -1,5 +1,5 @@
 use Rattle.std.proofs.lemmas.Result.{err_from_is_err_and}
-use Rattle.dcsctp_api.specs.Messages.{refusal_of}
+use Rattle.dcsctp_core.specs.api.Messages.{refusal_of}
 use Rattle.dcsctp_core.specs.View.{view_of}
 use Rattle.dcsctp_core_messages.proofs.RefusalLemmas.{told_in_part}
 use Rattle.dcsctp_core_messages.proofs.refusal.tell_refusal.Goals as goal

@@ -1,6 +1,6 @@
 use Rattle.std.proofs.lemmas.Result.{err_from_is_err_and}
-use Rattle.dcsctp_machine.specs.Ids.{stream_numbers}
-use Rattle.dcsctp_api.specs.Resets.{reset_refusal_of}
+use Rattle.dcsctp_core.specs.types.Ids.{stream_numbers}
+use Rattle.dcsctp_core.specs.api.Resets.{reset_refusal_of}
 use Rattle.dcsctp_core.specs.View.{view_of}
 use Rattle.dcsctp_core_messages.proofs.ResettingLemmas.{resets_refused, resets_done, resets_cut, resets_cut_later}
 use Rattle.dcsctp_core_messages.proofs.resetting.do_reset_streams.Goals as goal

@@ -1,5 +1,5 @@
 use Rattle.std.proofs.Common.{drop}
-use Rattle.dcsctp_machine.specs.Ids.{stream_numbers}
+use Rattle.dcsctp_core.specs.types.Ids.{stream_numbers}
 use Rattle.dcsctp_core.specs.View.{view_of}
 use Rattle.dcsctp_core_messages.proofs.ResettingLemmas.{GoesOn}
 use Rattle.dcsctp_core_messages.proofs.resetting.prepare_streams.Given as goal

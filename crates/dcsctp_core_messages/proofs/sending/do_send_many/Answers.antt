@@ -1,7 +1,7 @@
 use Rattle.std.proofs.Common.{List, map}
 use Rattle.std.proofs.lemmas.Result.{err_from_is_err_and}
-use Rattle.dcsctp_machine.specs.transfer.Messages.{message_content}
-use Rattle.dcsctp_machine.specs.turns.MessageOutcomes.{Sending, sending_of}
+use Rattle.dcsctp_core.specs.types.queues.Messages.{message_content}
+use Rattle.dcsctp_core.specs.spec.endpoint.MessageOutcomes.{Sending, sending_of}
 use Rattle.dcsctp_core.specs.View.{view_of}
 use Rattle.dcsctp_core_messages.proofs.SendingLemmas.{send_cut, all_sent, all_cut, batch_is}
 use Rattle.dcsctp_core_messages.proofs.sending.do_send_many.Goals as goal

@@ -1,5 +1,5 @@
 use Rattle.std.proofs.Common.{refl, ap, ◌∙◌}
-use Rattle.dcsctp_machine.specs.Ids.{stream_numbers}
+use Rattle.dcsctp_core.specs.types.Ids.{stream_numbers}
 use Rattle.dcsctp_core_resets.specs.Resets.{wanted_by}
 use Rattle.dcsctp_core_resets.proofs.HandlingLemmas.{deferred}
 use Rattle.dcsctp_core_resets.proofs.handling.defer.Goals as goal

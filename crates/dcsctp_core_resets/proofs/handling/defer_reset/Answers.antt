@@ -1,7 +1,7 @@
 use Rattle.std.proofs.Common.{ap, ◌∙◌}
 use Rattle.std.proofs.lemmas.Result.{on_ok_weaker, on_err_weaker}
-use Rattle.dcsctp_machine.specs.Ids.{stream_numbers}
-use Rattle.dcsctp_machine.specs.Reconfiguration.{RequestedReset}
+use Rattle.dcsctp_core.specs.types.Ids.{stream_numbers}
+use Rattle.dcsctp_core.specs.spec.Reconfiguration.{RequestedReset}
 use Rattle.dcsctp_core.proofs.LendingLemmas.{changes_lent, changes_nobody, kept, left_with}
 use Rattle.dcsctp_core_resets.specs.Resets.{DefersTo}
 use Rattle.dcsctp_core_resets.proofs.handling.defer_reset.Goals as goal

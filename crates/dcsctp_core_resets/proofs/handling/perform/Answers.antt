@@ -1,7 +1,7 @@
 use Rattle.std.proofs.Common.{List, ℕ, map, ◌++◌, ◌∷◌, [], ap, ◌∙◌}
-use Rattle.dcsctp_machine.specs.Event.{incoming_stream_reset}
-use Rattle.dcsctp_machine.specs.Ids.{stream_numbers}
-use Rattle.dcsctp_api.specs.Events.{event_content}
+use Rattle.dcsctp_core.specs.spec.endpoint.Event.{incoming_stream_reset}
+use Rattle.dcsctp_core.specs.types.Ids.{stream_numbers}
+use Rattle.dcsctp_core.specs.api.Events.{event_content}
 use Rattle.dcsctp_core.specs.View.{view_of}
 use Rattle.dcsctp_core.proofs.Composing.{added_one}
 use Rattle.dcsctp_core_resets.specs.Resets.{wanted_by}

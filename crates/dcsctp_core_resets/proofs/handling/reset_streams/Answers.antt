@@ -1,6 +1,6 @@
 use Rattle.std.proofs.lemmas.Result.{on_ok_weaker}
-use Rattle.dcsctp_machine.specs.Ids.{stream_numbers}
-use Rattle.dcsctp_machine.specs.turns.ResetOutcomes.{ResetsStreams}
+use Rattle.dcsctp_core.specs.types.Ids.{stream_numbers}
+use Rattle.dcsctp_core.specs.spec.endpoint.ResetOutcomes.{ResetsStreams}
 use Rattle.dcsctp_core.proofs.LendingLemmas.{changes_lent, changes_nobody}
 use Rattle.dcsctp_core_resets.proofs.handling.reset_streams.Goals as goal
 

@@ -1,5 +1,5 @@
 use Rattle.std.proofs.Common.{◌==◌, List, length, sym, ap, ◌∙◌}
-use Rattle.dcsctp_wire.specs.declared.parameter.Parameter.{Parameter}
+use Rattle.dcsctp_core.specs.wire.declared.parameter.Parameter.{Parameter}
 use Rattle.dcsctp_core_resets.specs.Requests.{reset_parameters}
 use Rattle.dcsctp_core_resets.proofs.HandlingLemmas.{some_said, flag_is, responses_sent}
 use Rattle.dcsctp_core_resets.proofs.handling.respond.Goals as goal

@@ -1,5 +1,5 @@
 use Rattle.std.proofs.Common.{◌≡◌, drop}
-use Rattle.dcsctp_machine.specs.turns.ResetOutcomes.{requested_in}
+use Rattle.dcsctp_core.specs.spec.endpoint.ResetOutcomes.{requested_in}
 use Rattle.dcsctp_core_resets.specs.Requests.{reset_parameters}
 use Rattle.dcsctp_core_resets.proofs.reading.requested.Given as goal
 

@@ -1,5 +1,5 @@
 use Rattle.std.proofs.Common.{ap, ◌∙◌, arith}
-use Rattle.dcsctp_machine.specs.Ids.{stream_numbers}
+use Rattle.dcsctp_core.specs.types.Ids.{stream_numbers}
 use Rattle.dcsctp_core_resets.proofs.StreamLemmas.{one_more, all_streams}
 use Rattle.dcsctp_core_resets.proofs.reading.streams_of.Goals as goal
 

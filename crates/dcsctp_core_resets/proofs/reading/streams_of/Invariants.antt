@@ -1,6 +1,6 @@
 use Rattle.std.proofs.Common.{◌≡◌, take}
-use Rattle.dcsctp_machine.specs.Ids.{stream_numbers}
-use Rattle.dcsctp_machine.specs.Reconfiguration.{streams_in}
+use Rattle.dcsctp_core.specs.types.Ids.{stream_numbers}
+use Rattle.dcsctp_core.specs.spec.Reconfiguration.{streams_in}
 use Rattle.dcsctp_core_resets.proofs.reading.streams_of.Given as goal
 
 -- the streams so far

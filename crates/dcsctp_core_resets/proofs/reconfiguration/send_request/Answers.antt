@@ -1,8 +1,8 @@
 use Rattle.std.proofs.Common.{List, ap, sym, subst, ◌∙◌}
 use Rattle.std.specs.List.{AllByRecursion, flat_map}
 use Rattle.std.specs.Int.{w16, to_be_bytes}
-use Rattle.dcsctp_machine.specs.declared.ids.StreamId.{StreamId}
-use Rattle.dcsctp_machine.specs.Ids.{stream_numbers}
+use Rattle.dcsctp_core.specs.types.declared.ids.StreamId.{StreamId}
+use Rattle.dcsctp_core.specs.types.Ids.{stream_numbers}
 use Rattle.dcsctp_core.specs.Resetting.{IsStream}
 use Rattle.dcsctp_core_resets.proofs.HandlingLemmas.{flag_is}
 use Rattle.dcsctp_core_resets.proofs.RepeatingLemmas.{again_sent}

@@ -1,5 +1,5 @@
 use Rattle.std.proofs.Common.{subst}
-use Rattle.dcsctp_machine.specs.control.ResetChanges.{Place, outgoing_by}
+use Rattle.dcsctp_core.specs.spec.association.ResetChanges.{Place, outgoing_by}
 use Rattle.dcsctp_core_resets.specs.Requests.{AnswersAs, held_with}
 use Rattle.dcsctp_core_resets.proofs.RequestLemmas.{accepted_as}
 use Rattle.dcsctp_core_resets.proofs.requests.answer_outgoing.Goals as goal

@@ -1,7 +1,7 @@
 use Rattle.std.proofs.Common.{◌+◌, true, List, take, drop, refl, sym, subst, ◌∙◌, arith}
 use Rattle.std.proofs.lemmas.List.{take_all}
-use Rattle.dcsctp_machine.specs.Reconfiguration.{ResetParameter}
-use Rattle.dcsctp_wire.specs.declared.parameter.Parameter.{Parameter}
+use Rattle.dcsctp_core.specs.spec.Reconfiguration.{ResetParameter}
+use Rattle.dcsctp_core.specs.wire.declared.parameter.Parameter.{Parameter}
 use Rattle.dcsctp_core_resets.specs.declared.requests.HandledRequests.{HandledRequests}
 use Rattle.dcsctp_core_resets.specs.Requests.{WorksChunk, reset_parameters}
 use Rattle.dcsctp_core_resets.proofs.RequestLemmas.{Progress, none_so_far, one_more, none_if, none_yet, parameters_more, parameters_split, second_worked, ends_worked}

@@ -1,4 +1,4 @@
-use Rattle.dcsctp_machine_refinement.proofs.Moves.{Below}
+use Rattle.dcsctp_theorem_sockets.proofs.Moves.{Below}
 use Rattle.dcsctp_delivery_shown.proofs.Runs.{shown_tags_suffice}
 use Rattle.dcsctp_delivery_shown.proofs.laws.shown_tags_suffice.Goals as goal
 

@@ -1,4 +1,4 @@
-use Rattle.dcsctp_machine_refinement.proofs.Moves.{Below}
+use Rattle.dcsctp_theorem_sockets.proofs.Moves.{Below}
 use Rattle.dcsctp_delivery_sockets.proofs.Echoes.{echoes_go_to_makers}
 use Rattle.dcsctp_delivery_sockets.proofs.laws.echoes_go_to_makers.Goals as goal
 

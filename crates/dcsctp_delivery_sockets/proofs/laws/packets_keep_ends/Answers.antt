@@ -1,5 +1,5 @@
 use Rattle.std.proofs.Common.{refl}
-use Rattle.dcsctp_machine.specs.Admission.{admits}
+use Rattle.dcsctp_spec_lemmas.specs.spec.Admission.{admits}
 use Rattle.dcsctp_delivery_sockets.proofs.PacketTurns.{packet_goes}
 use Rattle.dcsctp_delivery_sockets.proofs.laws.packets_keep_ends.Goals as goal
 

@@ -1,4 +1,4 @@
-use Rattle.dcsctp_machine_refinement.proofs.Moves.{Below}
+use Rattle.dcsctp_theorem_sockets.proofs.Moves.{Below}
 use Rattle.dcsctp_delivery_sockets.proofs.Delivery.{sockets_deliver}
 use Rattle.dcsctp_delivery_sockets.proofs.laws.sockets_deliver.Goals as goal
 

@@ -1,5 +1,5 @@
 use Rattle.std.proofs.Common.{◌≡◌, ◌++◌, map}
-use Rattle.dcsctp_machine.specs.transfer.ReceivedParts.{ordered_stream}
+use Rattle.dcsctp_api.specs.spec.queues.ReceivedParts.{ordered_stream}
 use Rattle.dcsctp_receive_reassembly.specs.Reassembly.{entry_of}
 use Rattle.dcsctp_receive_reassembly.proofs.handover.ordered_streams.Given as goal
 

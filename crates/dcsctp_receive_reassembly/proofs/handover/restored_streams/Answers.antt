@@ -1,8 +1,8 @@
 -- The last stream that is left is put before those that follow it.
 use Rattle.std.proofs.Common.{◌≡◌, ℕ, List, map, arith, ap, sym, ◌∙◌}
-use Rattle.dcsctp_machine.specs.declared.snapshot.HandoverOrderedStream.{HandoverOrderedStream}
-use Rattle.dcsctp_machine.specs.transfer.Incoming.{stream_on}
-use Rattle.dcsctp_machine.specs.transfer.IncomingStreams.{StreamModel, streams_bytes}
+use Rattle.dcsctp_api.specs.types.declared.snapshot.HandoverOrderedStream.{HandoverOrderedStream}
+use Rattle.dcsctp_api.specs.spec.queues.Incoming.{stream_on}
+use Rattle.dcsctp_api.specs.spec.queues.IncomingStreams.{StreamModel, streams_bytes}
 use Rattle.dcsctp_receive_reassembly.specs.Handover.{restored_over}
 use Rattle.dcsctp_receive_reassembly.specs.Reassembly.{entry_of}
 use Rattle.dcsctp_receive_reassembly.proofs.HandoverLemmas.{restored_last, restored_all}

@@ -1,7 +1,7 @@
 use Rattle.std.proofs.Common.{◌≡◌, ℕ, map}
-use Rattle.dcsctp_machine.specs.transfer.Incoming.{stream_on}
-use Rattle.dcsctp_machine.specs.transfer.IncomingStreams.{streams_bytes}
-use Rattle.dcsctp_machine.specs.transfer.ReceivedParts.{restored_stream}
+use Rattle.dcsctp_api.specs.spec.queues.Incoming.{stream_on}
+use Rattle.dcsctp_api.specs.spec.queues.IncomingStreams.{streams_bytes}
+use Rattle.dcsctp_api.specs.spec.queues.ReceivedParts.{restored_stream}
 use Rattle.dcsctp_receive_reassembly.specs.Handover.{restored_over}
 use Rattle.dcsctp_receive_reassembly.specs.Reassembly.{entry_of}
 use Rattle.dcsctp_receive_reassembly.proofs.handover.restored_streams.Given as goal

@@ -1,6 +1,6 @@
 use Rattle.std.proofs.Common.{◌≡◌, map}
 use Rattle.std.specs.List.{list_any}
-use Rattle.dcsctp_machine.specs.transfer.Readiness.{holds_parts}
+use Rattle.dcsctp_api.specs.spec.queues.Readiness.{holds_parts}
 use Rattle.dcsctp_receive_reassembly.specs.Reassembly.{entry_of}
 use Rattle.dcsctp_receive_reassembly.proofs.incoming.any_holds_parts.Given as goal
 

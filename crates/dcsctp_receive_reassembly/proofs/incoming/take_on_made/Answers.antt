@@ -1,14 +1,14 @@
 -- The stream that the map lends is the one at the identifier, before and after; the others stay.
-use Rattle.dcsctp_machine.specs.transfer.Messages.{message_content}
+use Rattle.dcsctp_api.specs.types.queues.Messages.{message_content}
 use Rattle.std.proofs.Common.{◌≡◌, Some, map, arith, ap, subst, sym, ◌∙◌}
 use Rattle.std.specs.Option.{option_copied_mut}
 use Rattle.std.specs.BTreeMap.{get}
 use Rattle.std.specs.Ordering.{nat_cmp}
-use Rattle.dcsctp_machine.specs.transfer.IncomingStreams.{stream_bytes}
-use Rattle.dcsctp_machine.specs.transfer.IncomingStreams.{StreamModel, TakesOnStream}
+use Rattle.dcsctp_api.specs.spec.queues.IncomingStreams.{stream_bytes}
+use Rattle.dcsctp_api.specs.spec.queues.IncomingStreams.{StreamModel, TakesOnStream}
 use Rattle.dcsctp_receive_reassembly.specs.Streams.{stream_of, chunk_of}
 use Rattle.dcsctp_receive_reassembly.specs.Reassembly.{entry_of}
-use Rattle.dcsctp_machine.specs.transfer.Incoming.{stream_on}
+use Rattle.dcsctp_api.specs.spec.queues.Incoming.{stream_on}
 use Rattle.dcsctp_receive_reassembly.proofs.ResultFacts.{on_err}
 use Rattle.dcsctp_receive_reassembly.proofs.StreamBytes.{chunk_counted}
 use Rattle.dcsctp_receive_reassembly.proofs.StreamSums.{Written, stream_written}

@@ -1,8 +1,8 @@
 -- A part that is held is dropped; another joins the runs on both sides, and a message that is whole takes them out.
 use Rattle.std.proofs.Common.{◌∙◌, map, sym, ap}
 use Rattle.std.specs.Prelude.{slice_get, is_some}
-use Rattle.dcsctp_receive_entries.specs.Entries.{count_up_to}
-use Rattle.dcsctp_machine.specs.transfer.Runs.{entry_before, holds_some, following}
+use Rattle.dcsctp_receive_ordered_map.specs.Entries.{count_up_to}
+use Rattle.dcsctp_api.specs.spec.queues.Runs.{entry_before, holds_some, following}
 use Rattle.dcsctp_receive_reassembly.specs.Runs.{run_of, part_of, lent_run}
 use Rattle.dcsctp_receive_reassembly.proofs.RunsLemmas.{AddsPart-dropped, AddsPart-kept, AddsPart-whole, IsOfMessage-whole, begins_before, begins_behind, joins_where}
 use Rattle.dcsctp_receive_reassembly.proofs.RunMapLemmas.{placed}

@@ -1,5 +1,5 @@
 use Rattle.std.proofs.Common.{◌≡◌, ◌++◌, map, take}
-use Rattle.dcsctp_machine.specs.transfer.Runs.{joined_bytes}
+use Rattle.dcsctp_api.specs.spec.queues.Runs.{joined_bytes}
 use Rattle.dcsctp_receive_reassembly.proofs.joining.copy_payloads.Given as goal
 
 abbrev pub invariant-loop-index : goal.invariant-loop-index

@@ -1,7 +1,7 @@
 -- No run begins at the place, and the run of the part alone stands there then.
 use Rattle.std.proofs.Common.{◌++◌, ◌∷◌, map, take, drop, ap, ◌∙◌}
-use Rattle.dcsctp_receive_entries.specs.Entries.{count_up_to}
-use Rattle.dcsctp_machine.specs.transfer.Runs.{RunModel}
+use Rattle.dcsctp_receive_ordered_map.specs.Entries.{count_up_to}
+use Rattle.dcsctp_api.specs.spec.queues.Runs.{RunModel}
 use Rattle.dcsctp_receive_reassembly.specs.Runs.{run_of}
 use Rattle.dcsctp_receive_reassembly.proofs.ResultFacts.{ok_then}
 use Rattle.dcsctp_receive_reassembly.proofs.RunMapLemmas.{absent, put_run}

@@ -1,7 +1,7 @@
 -- The run before the part has it, and the others stay.
 use Rattle.std.proofs.Common.{ap, sym, ◌∙◌}
 use Rattle.std.specs.Option.{option_copied_mut}
-use Rattle.dcsctp_receive_entries.specs.Entries.{count_up_to}
+use Rattle.dcsctp_receive_ordered_map.specs.Entries.{count_up_to}
 use Rattle.dcsctp_receive_reassembly.specs.Runs.{part_of}
 use Rattle.dcsctp_receive_reassembly.proofs.ResultFacts.{ok_then, err_then}
 use Rattle.dcsctp_receive_reassembly.proofs.RunMapLemmas.{before_some, written_before, written_same}

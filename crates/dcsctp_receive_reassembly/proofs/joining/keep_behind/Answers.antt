@@ -2,9 +2,9 @@
 use Rattle.std.proofs.Common.{suc, ◌∙◌, map, arith, ap, subst, sym}
 use Rattle.std.specs.Prelude.{IsSome}
 use Rattle.std.specs.Option.{option_copied_mut}
-use Rattle.dcsctp_receive_entries.specs.Entries.{count_up_to}
+use Rattle.dcsctp_receive_ordered_map.specs.Entries.{count_up_to}
 use Rattle.dcsctp_receive_reassembly.specs.Runs.{run_of, part_of}
-use Rattle.dcsctp_machine.specs.transfer.Runs.{is_held_before}
+use Rattle.dcsctp_api.specs.spec.queues.Runs.{is_held_before}
 use Rattle.dcsctp_receive_reassembly.proofs.RunMapLemmas.{front_of, looked_up, lent_some, count_same, next_behind, next_begins, part_begins, part_shown, kept_behind, room_left}
 use Rattle.dcsctp_receive_reassembly.proofs.joining.keep_behind.Goals as goal
 

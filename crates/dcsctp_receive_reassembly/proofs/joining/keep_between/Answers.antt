@@ -2,7 +2,7 @@
 use Rattle.std.proofs.Common.{◌+◌, ◌∙◌, map, arith, refl, ap, subst, sym}
 use Rattle.std.specs.Prelude.{slice_get, IsSome}
 use Rattle.std.specs.Option.{option_copied, option_copied_mut}
-use Rattle.dcsctp_receive_entries.specs.Entries.{count_up_to}
+use Rattle.dcsctp_receive_ordered_map.specs.Entries.{count_up_to}
 use Rattle.dcsctp_receive_reassembly.specs.Runs.{run_of, part_of, BeginsAt}
 use Rattle.dcsctp_receive_reassembly.proofs.RunMapLemmas.{NextTaken, looked_up, before_looked_up, lent_some, first_looked_up, as_long, kept_between, room_after, shared_some, sides_apart}
 use Rattle.dcsctp_receive_reassembly.proofs.joining.keep_between.Goals as goal

@@ -2,8 +2,8 @@ use Rattle.std.proofs.Common.{◌≡◌, ◌+◌, ◌++◌, List, map}
 use Rattle.std.specs.List.{sum_by}
 use Rattle.std.specs.VecDeque.{deque_len}
 use Rattle.dcsctp_receive_reassembly.specs.Reassembly.{incoming_of}
-use Rattle.dcsctp_machine.specs.transfer.Incoming.{held_bytes}
-use Rattle.dcsctp_machine.specs.transfer.Reassembly.{WaitingModel, waiting_bytes, HandlesAll}
+use Rattle.dcsctp_api.specs.spec.queues.Incoming.{held_bytes}
+use Rattle.dcsctp_api.specs.spec.queues.Reassembly.{WaitingModel, waiting_bytes, HandlesAll}
 use Rattle.dcsctp_receive_reassembly.specs.Queue.{waiting_of}
 use Rattle.dcsctp_receive_reassembly.proofs.reassembly_queue.handle_all_deferred.Given as goal
 

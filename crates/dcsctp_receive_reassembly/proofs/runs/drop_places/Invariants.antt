@@ -1,9 +1,9 @@
 use Rattle.std.proofs.Common.{◌≡◌, ◌+◌, map}
 use Rattle.std.specs.BTreeMap.{btree_map_len}
 use Rattle.dcsctp_receive_reassembly.specs.Runs.{run_of, up_to_place}
-use Rattle.dcsctp_machine.specs.transfer.Runs.{behind_place}
+use Rattle.dcsctp_api.specs.spec.queues.Runs.{behind_place}
 use Rattle.dcsctp_receive_reassembly.specs.Held.{capped}
-use Rattle.dcsctp_machine.specs.transfer.Runs.{runs_bytes}
+use Rattle.dcsctp_api.specs.spec.queues.Runs.{runs_bytes}
 use Rattle.dcsctp_receive_reassembly.proofs.runs.drop_places.Given as goal
 
 -- What is dropped from here on, with what was, is what is dropped from the beginning.

@@ -1,6 +1,6 @@
 use Rattle.std.proofs.Common.{◌≡◌, map, take}
 use Rattle.dcsctp_receive_reassembly.specs.Held.{capped}
-use Rattle.dcsctp_machine.specs.transfer.Runs.{payloads_bytes}
+use Rattle.dcsctp_api.specs.spec.queues.Runs.{payloads_bytes}
 use Rattle.dcsctp_receive_reassembly.proofs.runs.size_of.Given as goal
 
 abbrev pub invariant-loop-index : goal.invariant-loop-index

@@ -1,7 +1,7 @@
 use Rattle.std.proofs.Common.{◌≡◌, ◌+◌, map}
 use Rattle.dcsctp_receive_reassembly.specs.Runs.{run_of}
 use Rattle.dcsctp_receive_reassembly.specs.Held.{capped}
-use Rattle.dcsctp_machine.specs.transfer.Runs.{runs_bytes}
+use Rattle.dcsctp_api.specs.spec.queues.Runs.{runs_bytes}
 use Rattle.dcsctp_receive_reassembly.proofs.runs.size_of_runs.Given as goal
 
 -- What is counted, with what is left to count, is all.

@@ -1,11 +1,11 @@
 -- The stream is forgotten, and then the others.
 use Rattle.std.proofs.Common.{◌≡◌, ◌+◌, ◌∷◌, List, map, drop, get_or, if◌then◌else◌, arith, sym, ap, ◌∙◌}
 use Rattle.std.proofs.lemmas.List.{drop_more}
-use Rattle.dcsctp_machine.specs.declared.ids.StreamId.{StreamId}
-use Rattle.dcsctp_machine.specs.Ids.{stream_numbers}
-use Rattle.dcsctp_machine.specs.transfer.Incoming.{is_named, stream_on}
+use Rattle.dcsctp_api.specs.types.declared.ids.StreamId.{StreamId}
+use Rattle.dcsctp_api.specs.types.Ids.{stream_numbers}
+use Rattle.dcsctp_api.specs.spec.queues.Incoming.{is_named, stream_on}
 use Rattle.dcsctp_receive_reassembly.specs.Reassembly.{entry_of}
-use Rattle.dcsctp_machine.specs.transfer.IncomingStreams.{new_stream}
+use Rattle.dcsctp_api.specs.spec.queues.IncomingStreams.{new_stream}
 use Rattle.dcsctp_receive_reassembly.proofs.SkippingLemmas.{forgotten_step}
 use Rattle.dcsctp_receive_reassembly.proofs.skipping.forget_each_stream.Goals as goal
 

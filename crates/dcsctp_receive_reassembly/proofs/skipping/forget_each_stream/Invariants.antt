@@ -1,10 +1,10 @@
 use Rattle.std.proofs.Common.{◌≡◌, ◌-◌, ◌≤◌, ℕ, map, drop, if◌then◌else◌}
-use Rattle.dcsctp_machine.specs.Ids.{stream_numbers}
+use Rattle.dcsctp_api.specs.types.Ids.{stream_numbers}
 use Rattle.dcsctp_receive_reassembly.specs.Held.{capped}
-use Rattle.dcsctp_machine.specs.transfer.Incoming.{is_named, stream_on}
-use Rattle.dcsctp_machine.specs.transfer.IncomingStreams.{streams_bytes}
+use Rattle.dcsctp_api.specs.spec.queues.Incoming.{is_named, stream_on}
+use Rattle.dcsctp_api.specs.spec.queues.IncomingStreams.{streams_bytes}
 use Rattle.dcsctp_receive_reassembly.specs.Reassembly.{entry_of}
-use Rattle.dcsctp_machine.specs.transfer.IncomingStreams.{new_stream}
+use Rattle.dcsctp_api.specs.spec.queues.IncomingStreams.{new_stream}
 use Rattle.dcsctp_receive_reassembly.proofs.skipping.forget_each_stream.Given as goal
 
 -- What the other streams lead to from here, all lead to from the beginning.

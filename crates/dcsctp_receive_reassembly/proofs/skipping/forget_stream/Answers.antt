@@ -1,8 +1,8 @@
 -- The stream that is removed is the one at the identifier.
 use Rattle.std.proofs.Common.{Some, None, ap, sym, ◌∙◌}
 use Rattle.dcsctp_receive_reassembly.specs.Held.{capped}
-use Rattle.dcsctp_machine.specs.transfer.IncomingStreams.{stream_bytes}
-use Rattle.dcsctp_machine.specs.transfer.IncomingStreams.{StreamModel}
+use Rattle.dcsctp_api.specs.spec.queues.IncomingStreams.{stream_bytes}
+use Rattle.dcsctp_api.specs.spec.queues.IncomingStreams.{StreamModel}
 use Rattle.dcsctp_receive_reassembly.proofs.ReassemblyLemmas.{stream_on-get}
 use Rattle.dcsctp_receive_reassembly.proofs.StreamSums.{streams_bytes-removed}
 use Rattle.dcsctp_receive_reassembly.proofs.WrittenLemmas.{removed_stream}

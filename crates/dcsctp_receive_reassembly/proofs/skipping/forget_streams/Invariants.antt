@@ -1,7 +1,7 @@
 use Rattle.std.proofs.Common.{◌≡◌, ◌+◌, map}
 use Rattle.std.specs.BTreeMap.{btree_map_len}
 use Rattle.dcsctp_receive_reassembly.specs.Held.{capped}
-use Rattle.dcsctp_machine.specs.transfer.IncomingStreams.{streams_bytes}
+use Rattle.dcsctp_api.specs.spec.queues.IncomingStreams.{streams_bytes}
 use Rattle.dcsctp_receive_reassembly.specs.Reassembly.{entry_of}
 use Rattle.dcsctp_receive_reassembly.proofs.skipping.forget_streams.Given as goal
 

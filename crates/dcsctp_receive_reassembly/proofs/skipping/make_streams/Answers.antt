@@ -4,8 +4,8 @@ use Rattle.std.specs.Prelude.{IsSome}
 use Rattle.std.specs.BTreeMap.{get}
 use Rattle.std.specs.Ordering.{nat_cmp}
 use Rattle.std.proofs.lemmas.List.{take_more}
-use Rattle.dcsctp_machine.specs.declared.arrivals.SkippedTo.{SkippedTo}
-use Rattle.dcsctp_machine.specs.declared.arrivals.SkippedTo.TheVariants.{Ssn}
+use Rattle.dcsctp_api.specs.types.declared.arrivals.SkippedTo.{SkippedTo}
+use Rattle.dcsctp_api.specs.types.declared.arrivals.SkippedTo.TheVariants.{Ssn}
 use Rattle.dcsctp_receive_reassembly.specs.Skipping.{AllMade}
 use Rattle.dcsctp_receive_reassembly.proofs.SkippingLemmas.{AllMade-kept, AllMade-more}
 use Rattle.dcsctp_receive_reassembly.proofs.skipping.make_streams.Goals as goal

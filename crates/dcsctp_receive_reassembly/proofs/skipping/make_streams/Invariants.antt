@@ -1,7 +1,7 @@
 use Rattle.std.proofs.Common.{◌≡◌, map, take}
-use Rattle.dcsctp_machine.specs.transfer.IncomingStreams.{streams_bytes}
+use Rattle.dcsctp_api.specs.spec.queues.IncomingStreams.{streams_bytes}
 use Rattle.dcsctp_receive_reassembly.specs.Reassembly.{entry_of}
-use Rattle.dcsctp_machine.specs.transfer.Incoming.{KeepsStreams}
+use Rattle.dcsctp_api.specs.spec.queues.Incoming.{KeepsStreams}
 use Rattle.dcsctp_receive_reassembly.specs.Skipping.{AllMade}
 use Rattle.dcsctp_receive_reassembly.proofs.skipping.make_streams.Given as goal
 

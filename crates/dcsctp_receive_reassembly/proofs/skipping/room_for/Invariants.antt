@@ -1,7 +1,7 @@
 use Rattle.std.proofs.Common.{◌≡◌, ◌+◌, map, drop}
 use Rattle.dcsctp_receive_reassembly.specs.Held.{capped}
 use Rattle.dcsctp_receive_reassembly.specs.Reassembly.{entry_of}
-use Rattle.dcsctp_machine.specs.transfer.Incoming.{stream_on}
+use Rattle.dcsctp_api.specs.spec.queues.Incoming.{stream_on}
 use Rattle.dcsctp_receive_reassembly.specs.Skipping.{room_for}
 use Rattle.dcsctp_receive_reassembly.proofs.skipping.room_for.Given as goal
 

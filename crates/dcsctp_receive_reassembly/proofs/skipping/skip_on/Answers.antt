@@ -5,10 +5,10 @@ use Rattle.std.specs.BTreeMap.{get}
 use Rattle.std.specs.Ordering.{nat_cmp}
 use Rattle.std.proofs.lemmas.List.{length-map}
 use Rattle.std.proofs.lemmas.List.Sums.{sum_by-append}
-use Rattle.dcsctp_machine.specs.transfer.Messages.{MessageContent, message_content}
+use Rattle.dcsctp_api.specs.types.queues.Messages.{MessageContent, message_content}
 use Rattle.dcsctp_receive_reassembly.specs.Held.{capped}
-use Rattle.dcsctp_machine.specs.transfer.IncomingStreams.{stream_bytes, ready_bytes}
-use Rattle.dcsctp_machine.specs.transfer.IncomingStreams.{StreamModel, skipped_stream, skip_deliveries, skip_bytes}
+use Rattle.dcsctp_api.specs.spec.queues.IncomingStreams.{stream_bytes, ready_bytes}
+use Rattle.dcsctp_api.specs.spec.queues.IncomingStreams.{StreamModel, skipped_stream, skip_deliveries, skip_bytes}
 use Rattle.dcsctp_receive_reassembly.specs.Streams.{waits_as, stream_of}
 use Rattle.dcsctp_receive_reassembly.proofs.ReassemblyLemmas.{stream_on-get}
 use Rattle.dcsctp_receive_reassembly.proofs.StreamBytes.{skipped_bytes}

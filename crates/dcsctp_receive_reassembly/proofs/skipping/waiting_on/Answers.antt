@@ -1,7 +1,7 @@
 -- The stream that the map has is the one at the identifier.
 use Rattle.std.proofs.Common.{Some, None, length, arith, ap, sym}
 use Rattle.std.proofs.lemmas.List.{length-map}
-use Rattle.dcsctp_machine.specs.transfer.IncomingStreams.{StreamModel}
+use Rattle.dcsctp_api.specs.spec.queues.IncomingStreams.{StreamModel}
 use Rattle.dcsctp_receive_reassembly.specs.Streams.{waits_as}
 use Rattle.dcsctp_receive_reassembly.proofs.ReassemblyLemmas.{stream_on-get}
 use Rattle.dcsctp_receive_reassembly.proofs.skipping.waiting_on.Goals as goal

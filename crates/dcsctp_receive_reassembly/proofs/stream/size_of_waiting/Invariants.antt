@@ -1,7 +1,7 @@
 use Rattle.std.proofs.Common.{◌≡◌, ◌+◌, map}
 use Rattle.dcsctp_receive_reassembly.specs.Streams.{waits_as}
 use Rattle.dcsctp_receive_reassembly.specs.Held.{capped}
-use Rattle.dcsctp_machine.specs.transfer.Runs.{wholes_bytes}
+use Rattle.dcsctp_api.specs.spec.queues.Runs.{wholes_bytes}
 use Rattle.dcsctp_receive_reassembly.proofs.stream.size_of_waiting.Given as goal
 
 -- What is counted, with what is left to count, is all.

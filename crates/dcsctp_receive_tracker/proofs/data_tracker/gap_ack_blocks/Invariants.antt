@@ -2,7 +2,7 @@ use Rattle.std.proofs.Common.{◌≡◌, ◌++◌, take, map}
 use Rattle.std.specs.List.{flat_map}
 use Rattle.std.specs.Iterator.Adapters.{take_source, take_count}
 use Rattle.dcsctp_receive_tracker.specs.Received.{range_of, ranges_of}
-use Rattle.dcsctp_machine.specs.transfer.Tracker.{block_bytes}
+use Rattle.dcsctp_spec_lemmas.specs.spec.queues.Tracker.{block_bytes}
 use Rattle.dcsctp_receive_tracker.proofs.BlockLemmas.{AreNear}
 use Rattle.dcsctp_receive_tracker.proofs.data_tracker.gap_ack_blocks.Given as goal
 

@@ -2,7 +2,7 @@
 use Rattle.std.proofs.Common.{◌≡◌, Option, Some, ◌∙◌, ap, arith}
 use Rattle.std.specs.Prelude.{slice_get}
 use Rattle.std.specs.Option.{option_map}
-use Rattle.dcsctp_receive_entries.proofs.EntryLemmas.{get-map}
+use Rattle.dcsctp_receive_ordered_map.proofs.EntryLemmas.{get-map}
 use Rattle.dcsctp_receive_tracker.specs.Received.{range_of, ranges_of}
 use Rattle.dcsctp_receive_tracker.proofs.ReceivedLemmas.{beyond_first}
 use Rattle.dcsctp_receive_tracker.proofs.received.advance.Goals as goal

@@ -1,6 +1,6 @@
 use Rattle.std.proofs.Common.{◌≡◌, ◌≤◌, ℕ, length}
 use Rattle.dcsctp_receive_tracker.specs.Received.{IsSpaced, ranges_of}
-use Rattle.dcsctp_machine.specs.transfer.Ranges.{is_received}
+use Rattle.dcsctp_spec_lemmas.specs.spec.queues.Ranges.{is_received}
 use Rattle.dcsctp_receive_tracker.proofs.received.advance.Given as goal
 
 abbrev pub invariant-loop-first : goal.invariant-loop-first

@@ -1,6 +1,6 @@
 -- The last of the ranges that begin up to the next number says which two are the neighbors.
 use Rattle.std.proofs.Common.{◌+◌, ◌∙◌}
-use Rattle.dcsctp_receive_entries.proofs.EntryLemmas.{range_up_to}
+use Rattle.dcsctp_receive_ordered_map.proofs.EntryLemmas.{range_up_to}
 use Rattle.dcsctp_receive_tracker.proofs.NeighborLemmas.{nearest_before, nothing_behind, second_before}
 use Rattle.dcsctp_receive_tracker.proofs.received.search_neighbors.Goals as goal
 

@@ -1,5 +1,5 @@
 use Rattle.std.proofs.Common.{◌-◌, ◌≡◌, ℕ, ◌<◌, ◌≤◌, true, false, length, get_or}
-use Rattle.dcsctp_machine.specs.transfer.SendStreams.{comes_after}
+use Rattle.dcsctp_api.specs.types.queues.SendStreams.{comes_after}
 use Rattle.dcsctp_send_streams.proofs.turns.place_of.Given as goal
 
 abbrev pub invariant-halving : goal.invariant-halving

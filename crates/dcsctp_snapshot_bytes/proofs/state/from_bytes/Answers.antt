@@ -1,5 +1,5 @@
 use Rattle.std.proofs.Common.{arith}
-use Rattle.dcsctp_machine.specs.Snapshot.{snapshot}
+use Rattle.dcsctp_types.specs.Snapshot.{snapshot}
 use Rattle.dcsctp_snapshot_bytes.proofs.SnapshotLaws.{has_one_spelling}
 use Rattle.dcsctp_snapshot_bytes.proofs.state.from_bytes.Goals as goal
 

@@ -1,4 +1,4 @@
-use Rattle.dcsctp_machine.specs.Snapshot.{snapshot}
+use Rattle.dcsctp_types.specs.Snapshot.{snapshot}
 use Rattle.dcsctp_snapshot_bytes.proofs.SnapshotLaws.{is_read_back}
 use Rattle.dcsctp_snapshot_bytes.proofs.state.to_bytes.Goals as goal
 

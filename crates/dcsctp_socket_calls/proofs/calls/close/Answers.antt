@@ -1,7 +1,7 @@
 use Rattle.std.proofs.Common.{refl}
 use Rattle.std.proofs.lemmas.Result.{err_from_is_err_and}
-use Rattle.dcsctp_machine.specs.declared.ends.AbortReason.TheVariants.{CloseCalled}
-use Rattle.dcsctp_machine.specs.control.Acts.{abort_with}
+use Rattle.dcsctp_core.specs.types.declared.ends.AbortReason.TheVariants.{CloseCalled}
+use Rattle.dcsctp_core.specs.spec.association.Acts.{abort_with}
 use Rattle.dcsctp_core.specs.View.{view_of}
 use Rattle.dcsctp_core_ends.specs.Ends.{aborting_turn}
 use Rattle.dcsctp_socket_calls.proofs.ActLemmas.{act_done, act_cut}

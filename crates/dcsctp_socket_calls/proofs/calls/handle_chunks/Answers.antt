@@ -1,6 +1,6 @@
 use Rattle.std.proofs.Common.{Bool, subst}
 use Rattle.std.proofs.lemmas.Result.{err_from_is_err_and}
-use Rattle.dcsctp_wire.specs.Content.{packet_content}
+use Rattle.dcsctp_core.specs.wire.Content.{packet_content}
 use Rattle.dcsctp_core.specs.View.{view_of}
 use Rattle.dcsctp_socket_calls.specs.Parts.{MoveToEnd}
 use Rattle.dcsctp_socket_calls.proofs.CallLemmas.{ended, ended_cut}

@@ -1,18 +1,18 @@
 use Rattle.std.proofs.lemmas.Result.{err_from_is_err_and}
 use Rattle.std.proofs.lemmas.List.{take_all}
 use Rattle.std.proofs.Common.{◌≡◌, ◌++◌, ◌+◌, ◌∷◌, [], List, take, ap, subst, ◌∙◌, arith, inl}
-use Rattle.dcsctp_machine.proofs.TurnLemmas.{GoOn-push, chunk_turns_keep_ports}
-use Rattle.dcsctp_machine.specs.Settings.{ports_of}
-use Rattle.dcsctp_machine.specs.Endpoint.{Endpoint}
-use Rattle.dcsctp_machine.specs.Packet.{Content, content_in}
-use Rattle.dcsctp_machine.specs.Turn.{packet_ends}
-use Rattle.dcsctp_machine.specs.CallTurns.{Turned, ChunkTurns, FirstTurns}
+use Rattle.dcsctp_spec_laws.proofs.TurnLemmas.{GoOn-push, chunk_turns_keep_ports}
+use Rattle.dcsctp_core.specs.types.Settings.{ports_of}
+use Rattle.dcsctp_core.specs.spec.endpoint.Endpoint.{Endpoint}
+use Rattle.dcsctp_core.specs.spec.Packet.{Content, content_in}
+use Rattle.dcsctp_core.specs.spec.endpoint.Turn.{packet_ends}
+use Rattle.dcsctp_core.specs.spec.endpoint.CallTurns.{Turned, ChunkTurns, FirstTurns}
 use Rattle.dcsctp_core.specs.declared.following.Following.{Following}
 use Rattle.dcsctp_core.specs.View.{view_of}
 use Rattle.dcsctp_core.specs.Handling.{following_of}
 use Rattle.dcsctp_core.proofs.Moving.{moves_one, moves_then}
-use Rattle.dcsctp_wire.specs.declared.chunk.Chunk.{Chunk}
-use Rattle.dcsctp_wire.specs.Content.{chunk_content, packet_content}
+use Rattle.dcsctp_core.specs.wire.declared.chunk.Chunk.{Chunk}
+use Rattle.dcsctp_core.specs.wire.Content.{chunk_content, packet_content}
 use Rattle.dcsctp_socket_calls.specs.Parts.{ChunksCut}
 use Rattle.dcsctp_socket_calls.proofs.CallLemmas.{adds_cut}
 use Rattle.dcsctp_socket_calls.proofs.ChunkLoop.{contents_of, worked_as, turns_more, turns_end, turns_cut, turns_whole, ports_more, first_turns}

@@ -1,6 +1,6 @@
 use Rattle.std.proofs.Common.{List, [], take}
-use Rattle.dcsctp_machine.specs.CallTurns.{Turned, ChunkTurns}
-use Rattle.dcsctp_machine.proofs.TurnLemmas.{GoOn}
+use Rattle.dcsctp_core.specs.spec.endpoint.CallTurns.{Turned, ChunkTurns}
+use Rattle.dcsctp_spec_laws.proofs.TurnLemmas.{GoOn}
 use Rattle.dcsctp_core.specs.View.{endpoint_of, view_of, MovesAll}
 use Rattle.dcsctp_socket_calls.proofs.ChunkLoop.{contents_of}
 use Rattle.dcsctp_socket_calls.proofs.calls.handle_each_chunk.Given as goal

@@ -1,8 +1,8 @@
 use Rattle.std.proofs.lemmas.Result.{err_from_is_err_and}
 use Rattle.std.proofs.Common.{ap, ◌∙◌, Err, string_bytes}
-use Rattle.dcsctp_wire.specs.declared.packet.PacketError.{PacketError}
-use Rattle.dcsctp_wire.specs.Content.{packet_content}
-use Rattle.dcsctp_machine.specs.Endpoint.{Endpoint}
+use Rattle.dcsctp_core.specs.wire.declared.packet.PacketError.{PacketError}
+use Rattle.dcsctp_core.specs.wire.Content.{packet_content}
+use Rattle.dcsctp_core.specs.spec.endpoint.Endpoint.{Endpoint}
 use Rattle.dcsctp_core.specs.View.{View, view_of}
 use Rattle.dcsctp_socket_calls.proofs.CallLemmas.{readable_input, unreadable_input, packet_cut, unread_cut, counted_events}
 use Rattle.dcsctp_socket_calls.proofs.calls.handle_input.Goals as goal

@@ -1,9 +1,9 @@
 use Rattle.std.proofs.Common.{string_bytes, sym, ap, ◌∙◌}
 use Rattle.std.proofs.lemmas.Result.{err_from_is_err_and}
-use Rattle.dcsctp_wire.specs.Content.{packet_content}
-use Rattle.dcsctp_machine.specs.Packet.{packet_in}
+use Rattle.dcsctp_core.specs.wire.Content.{packet_content}
+use Rattle.dcsctp_core.specs.spec.Packet.{packet_in}
 use Rattle.dcsctp_core.specs.View.{core_of, view_of}
-use Rattle.dcsctp_core_decisions.specs.Decisions.{admission_of}
+use Rattle.dcsctp_socket_calls.specs.Admission.{admission_of}
 use Rattle.dcsctp_socket_calls.proofs.CallLemmas.{refused_packet, acks_worked, acks_cut}
 use Rattle.dcsctp_socket_calls.proofs.AckLoop.{alone_is_shut}
 use Rattle.dcsctp_socket_calls.proofs.calls.handle_packet.Goals as goal

@@ -1,14 +1,14 @@
 use Rattle.std.proofs.lemmas.Result.{err_from_is_err_and}
 use Rattle.std.proofs.lemmas.List.{take_all}
 use Rattle.std.proofs.Common.{◌++◌, [], List, length, take, ap, subst, ◌∙◌, arith}
-use Rattle.dcsctp_machine.proofs.TurnLemmas.{chunk_turns_keep_ports}
-use Rattle.dcsctp_machine.specs.Packet.{Content}
-use Rattle.dcsctp_machine.specs.CallTurns.{ChunkTurns, FirstTurns}
+use Rattle.dcsctp_spec_laws.proofs.TurnLemmas.{chunk_turns_keep_ports}
+use Rattle.dcsctp_core.specs.spec.Packet.{Content}
+use Rattle.dcsctp_core.specs.spec.endpoint.CallTurns.{ChunkTurns, FirstTurns}
 use Rattle.dcsctp_core.specs.View.{View, view_of}
 use Rattle.dcsctp_core.proofs.Moving.{moves_then}
-use Rattle.dcsctp_core_shutdown.specs.Shutdown.{is_open}
-use Rattle.dcsctp_wire.specs.declared.chunk.Chunk.{Chunk}
-use Rattle.dcsctp_wire.specs.Content.{packet_content}
+use Rattle.dcsctp_core_ends.specs.Shutdown.{is_open}
+use Rattle.dcsctp_core.specs.wire.declared.chunk.Chunk.{Chunk}
+use Rattle.dcsctp_core.specs.wire.Content.{packet_content}
 use Rattle.dcsctp_socket_calls.specs.Parts.{AcksCut}
 use Rattle.dcsctp_socket_calls.proofs.AckLoop.{acks_of, ack_more, go_on_of, go_on_append, acks_first}
 use Rattle.dcsctp_socket_calls.proofs.CallLemmas.{adds_whole}

@@ -1,8 +1,8 @@
 use Rattle.std.proofs.Common.{◌≡◌, false, List, [], take}
-use Rattle.dcsctp_machine.specs.CallTurns.{Turned, ChunkTurns}
-use Rattle.dcsctp_machine.proofs.TurnLemmas.{GoOn}
+use Rattle.dcsctp_core.specs.spec.endpoint.CallTurns.{Turned, ChunkTurns}
+use Rattle.dcsctp_spec_laws.proofs.TurnLemmas.{GoOn}
 use Rattle.dcsctp_core.specs.View.{core_of, endpoint_of, view_of, MovesAll}
-use Rattle.dcsctp_core_shutdown.specs.Shutdown.{is_open}
+use Rattle.dcsctp_core_ends.specs.Shutdown.{is_open}
 use Rattle.dcsctp_socket_calls.proofs.AckLoop.{acks_of}
 use Rattle.dcsctp_socket_calls.proofs.calls.handle_shutdown_acks.Given as goal
 

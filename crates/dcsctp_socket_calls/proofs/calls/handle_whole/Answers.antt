@@ -1,4 +1,4 @@
-use Rattle.dcsctp_wire.specs.Content.{packet_content}
+use Rattle.dcsctp_core.specs.wire.Content.{packet_content}
 use Rattle.dcsctp_socket_calls.proofs.WholeLemmas.{whole_by}
 use Rattle.dcsctp_socket_calls.proofs.calls.handle_whole.Goals as goal
 

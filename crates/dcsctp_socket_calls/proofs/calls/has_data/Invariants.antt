@@ -1,7 +1,7 @@
 use Rattle.std.proofs.Common.{◌≡◌, map, drop}
-use Rattle.dcsctp_wire.specs.Content.{chunk_content}
-use Rattle.dcsctp_machine.specs.Packet.{content_in}
-use Rattle.dcsctp_machine.specs.Turn.{has_data}
+use Rattle.dcsctp_core.specs.wire.Content.{chunk_content}
+use Rattle.dcsctp_core.specs.spec.Packet.{content_in}
+use Rattle.dcsctp_core.specs.spec.endpoint.Turn.{has_data}
 use Rattle.dcsctp_socket_calls.proofs.calls.has_data.Given as goal
 
 -- a DATA chunk, if there is one, is among the chunks that are left

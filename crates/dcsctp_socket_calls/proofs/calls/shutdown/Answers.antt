@@ -1,8 +1,8 @@
 use Rattle.std.proofs.Common.{refl}
 use Rattle.std.proofs.lemmas.Result.{err_from_is_err_and}
-use Rattle.dcsctp_machine.specs.control.Acts.{shut_down}
+use Rattle.dcsctp_core.specs.spec.association.Acts.{shut_down}
 use Rattle.dcsctp_core.specs.View.{view_of}
-use Rattle.dcsctp_core_shutdown.specs.Shutdown.{shut_down_turn}
+use Rattle.dcsctp_core_ends.specs.Shutdown.{shut_down_turn}
 use Rattle.dcsctp_socket_calls.proofs.ActLemmas.{act_done, act_cut}
 use Rattle.dcsctp_socket_calls.proofs.calls.shutdown.Goals as goal
 

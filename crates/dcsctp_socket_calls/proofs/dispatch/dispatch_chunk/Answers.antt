@@ -1,17 +1,17 @@
 use Rattle.std.proofs.Common.{map, refl, subst}
 use Rattle.std.proofs.lemmas.Result.{err_from_is_err_and}
-use Rattle.dcsctp_wire.specs.Content.{cause_content, parameter_content}
-use Rattle.dcsctp_machine.specs.turns.HeartbeatOutcomes.{counter_of, info_in}
+use Rattle.dcsctp_core.specs.wire.Content.{cause_content, parameter_content}
+use Rattle.dcsctp_core.specs.spec.endpoint.HeartbeatOutcomes.{counter_of, info_in}
 use Rattle.dcsctp_core_heartbeat.specs.Heartbeats.{heartbeat_turn, heartbeat_ack_turn}
-use Rattle.dcsctp_wire.specs.Content.{init_content, data_content, i_data_content, sack_content, data_chunk, i_data_chunk, sack_chunk, forward_tsn_chunk, i_forward_tsn_chunk}
-use Rattle.dcsctp_machine.specs.Packet.{introduction_in, cookie_in, init_ack, cookie_echo, cookie_ack, re_config, shutdown_ack, plain, unworked}
-use Rattle.dcsctp_machine.specs.Packet as machine
-use Rattle.dcsctp_machine.specs.transfer.Arrivals.{Arrival, data_arrival, i_data_arrival, skipped_in, messages_skipped_in}
+use Rattle.dcsctp_core.specs.wire.Content.{init_content, data_content, i_data_content, sack_content, data_chunk, i_data_chunk, sack_chunk, forward_tsn_chunk, i_forward_tsn_chunk}
+use Rattle.dcsctp_core.specs.spec.Packet.{introduction_in, cookie_in, init_ack, cookie_echo, cookie_ack, re_config, shutdown_ack, plain, unworked}
+use Rattle.dcsctp_core.specs.spec.Packet as machine
+use Rattle.dcsctp_core.specs.spec.queues.Arrivals.{Arrival, data_arrival, i_data_arrival, skipped_in, messages_skipped_in}
 use Rattle.dcsctp_core.specs.Handling.{TakesIn, CutIn}
 use Rattle.dcsctp_core.specs.View.{core_of, view_of, endpoint_of}
 use Rattle.dcsctp_core_handshake.specs.Handshake.{InitAckAt, CookieAckAt, CookieEchoAt}
 use Rattle.dcsctp_core_ends.specs.Ends.{abort_turn, error_turn}
-use Rattle.dcsctp_core_shutdown.specs.Shutdown.{ack_turn, complete_turn}
+use Rattle.dcsctp_core_ends.specs.Shutdown.{ack_turn, complete_turn}
 use Rattle.dcsctp_socket_calls.proofs.ChunkLemmas.{init_worked, init_cut, works_chunk, works_one, works_whole}
 use Rattle.dcsctp_socket_calls.specs.Unknown.{unknown_turn}
 use Rattle.dcsctp_core_data.specs.Data.{DataAt, ForwardAt}

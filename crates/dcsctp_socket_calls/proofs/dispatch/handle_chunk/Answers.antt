@@ -1,6 +1,6 @@
 use Rattle.std.proofs.lemmas.Result.{err_from_is_err_and}
-use Rattle.dcsctp_wire.specs.Content.{chunk_content}
-use Rattle.dcsctp_machine.specs.Packet.{content_in}
+use Rattle.dcsctp_core.specs.wire.Content.{chunk_content}
+use Rattle.dcsctp_core.specs.spec.Packet.{content_in}
 use Rattle.dcsctp_core.specs.View.{view_of}
 use Rattle.dcsctp_socket_calls.proofs.DispatchLemmas.{violation_worked, violation_cut}
 use Rattle.dcsctp_socket_calls.proofs.dispatch.handle_chunk.Goals as goal

@@ -1,4 +1,4 @@
-use Rattle.dcsctp_machine.specs.Snapshot.{snapshot}
+use Rattle.dcsctp_core.specs.types.Snapshot.{snapshot}
 use Rattle.dcsctp_core.specs.View.{view_of}
 use Rattle.dcsctp_socket_calls.proofs.HandoverLemmas.{works_refused, works_handed_over}
 use Rattle.dcsctp_socket_calls.proofs.handover.get_handover_state_and_close.Goals as goal

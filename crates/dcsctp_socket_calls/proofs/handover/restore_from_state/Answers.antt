@@ -1,5 +1,5 @@
 use Rattle.std.proofs.lemmas.Result.{err_from_is_err_and}
-use Rattle.dcsctp_machine.specs.Snapshot.{snapshot}
+use Rattle.dcsctp_core.specs.types.Snapshot.{snapshot}
 use Rattle.dcsctp_core.specs.View.{view_of}
 use Rattle.dcsctp_socket_calls.proofs.HandoverLemmas.{works_restored, works_restore_cut}
 use Rattle.dcsctp_socket_calls.proofs.handover.restore_from_state.Goals as goal

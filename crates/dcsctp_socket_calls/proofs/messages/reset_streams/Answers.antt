@@ -1,4 +1,4 @@
-use Rattle.dcsctp_machine.specs.Ids.{stream_numbers}
+use Rattle.dcsctp_core.specs.types.Ids.{stream_numbers}
 use Rattle.dcsctp_socket_calls.proofs.ResettingLemmas.{works_reset}
 use Rattle.dcsctp_socket_calls.proofs.messages.reset_streams.Goals as goal
 

@@ -1,4 +1,4 @@
-use Rattle.dcsctp_machine.specs.transfer.Messages.{message_content}
+use Rattle.dcsctp_core.specs.types.queues.Messages.{message_content}
 use Rattle.dcsctp_socket_calls.proofs.MessageLemmas.{works_send}
 use Rattle.dcsctp_socket_calls.proofs.messages.send.Goals as goal
 

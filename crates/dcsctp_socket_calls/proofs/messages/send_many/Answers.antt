@@ -1,5 +1,5 @@
 use Rattle.std.proofs.Common.{map}
-use Rattle.dcsctp_machine.specs.transfer.Messages.{message_content}
+use Rattle.dcsctp_core.specs.types.queues.Messages.{message_content}
 use Rattle.dcsctp_socket_calls.proofs.MessageLemmas.{works_send_many}
 use Rattle.dcsctp_socket_calls.proofs.messages.send_many.Goals as goal
 

@@ -1,7 +1,7 @@
 use Rattle.std.proofs.Common.{[], ◌∷◌, sym, ◌∙◌}
 use Rattle.std.proofs.lemmas.Result.{err_from_is_err_and}
-use Rattle.dcsctp_machine.specs.Turn.{act_input}
-use Rattle.dcsctp_machine.specs.control.Acts.{flushes}
+use Rattle.dcsctp_core.specs.spec.endpoint.Turn.{act_input}
+use Rattle.dcsctp_core.specs.spec.association.Acts.{flushes}
 use Rattle.dcsctp_core.specs.View.{view_of}
 use Rattle.dcsctp_socket_calls.proofs.ExpiryLemmas.{abort_moves, abort_cut, send_moves, send_cut}
 use Rattle.dcsctp_socket_calls.proofs.timers.end_or_send.Goals as goal

@@ -1,5 +1,5 @@
 use Rattle.std.proofs.Common.{rules, ◌∙◌, arith}
-use Rattle.dcsctp_machine.specs.turns.PlainOutcomes.{unknown_bytes}
+use Rattle.dcsctp_core.specs.spec.endpoint.PlainOutcomes.{unknown_bytes}
 use Rattle.dcsctp_socket_calls.proofs.UnknownLemmas.{report_moves}
 use Rattle.dcsctp_socket_calls.proofs.unknown.report_to_peer.Goals as goal
 

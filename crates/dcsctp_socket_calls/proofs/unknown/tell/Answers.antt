@@ -1,6 +1,6 @@
 use Rattle.std.proofs.Common.{string_bytes}
 use Rattle.std.proofs.lemmas.Result.{err_from_is_err_and}
-use Rattle.dcsctp_machine.specs.turns.PlainOutcomes.{unknown_bytes}
+use Rattle.dcsctp_core.specs.spec.endpoint.PlainOutcomes.{unknown_bytes}
 use Rattle.dcsctp_core.specs.View.{view_of}
 use Rattle.dcsctp_socket_calls.proofs.UnknownLemmas.{told_moves, told_cut}
 use Rattle.dcsctp_socket_calls.proofs.unknown.tell.Goals as goal

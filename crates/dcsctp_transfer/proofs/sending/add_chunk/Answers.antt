@@ -1,4 +1,4 @@
-use Rattle.dcsctp_wire.specs.Content.{chunk_content}
+use Rattle.dcsctp_send_retransmission.specs.wire.Content.{chunk_content}
 use Rattle.dcsctp_transfer.proofs.AddingLemmas.{no_chunk, adds_chunk}
 use Rattle.dcsctp_transfer.proofs.sending.add_chunk.Goals as goal
 

@@ -1,6 +1,6 @@
 use Rattle.std.proofs.Common.{◌∙◌, ap, length, arith}
-use Rattle.dcsctp_wire.specs.Content.{DataContent, data_content}
-use Rattle.dcsctp_machine.specs.transfer.Sending.{Fragment}
+use Rattle.dcsctp_send_retransmission.specs.wire.Content.{DataContent, data_content}
+use Rattle.dcsctp_send_retransmission.specs.spec.queues.Sending.{Fragment}
 use Rattle.dcsctp_transfer.proofs.AddingLemmas.{data_size, data_is}
 use Rattle.dcsctp_transfer.proofs.sending.data_of.Goals as goal
 

@@ -1,6 +1,6 @@
 use Rattle.std.proofs.Common.{◌∙◌, ap, length, arith}
-use Rattle.dcsctp_wire.specs.Content.{IDataContent, i_data_content}
-use Rattle.dcsctp_machine.specs.transfer.Sending.{Fragment}
+use Rattle.dcsctp_send_retransmission.specs.wire.Content.{IDataContent, i_data_content}
+use Rattle.dcsctp_send_retransmission.specs.spec.queues.Sending.{Fragment}
 use Rattle.dcsctp_transfer.proofs.AddingLemmas.{i_data_size, i_data_is}
 use Rattle.dcsctp_transfer.proofs.sending.i_data_of.Goals as goal
 

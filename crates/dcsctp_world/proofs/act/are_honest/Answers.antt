@@ -1,6 +1,6 @@
 use Rattle.std.proofs.Common.{sym, subst, ◌∙◌}
-use Rattle.dcsctp_machine.specs.declared.schedule.Act.{Act}
-use Rattle.dcsctp_machine.specs.Schedule.{act_content, IsHonestAct}
+use Rattle.dcsctp_core.specs.types.declared.schedule.Act.{Act}
+use Rattle.dcsctp_core.specs.types.Schedule.{act_content, IsHonestAct}
 use Rattle.dcsctp_world.proofs.Honest.{honest_at}
 use Rattle.dcsctp_world.proofs.act.are_honest.Goals as goal
 

@@ -1,5 +1,5 @@
 use Rattle.std.proofs.Common.{◌≡◌, drop}
-use Rattle.dcsctp_api.specs.Messages.{refused_in}
+use Rattle.dcsctp_core.specs.api.Messages.{refused_in}
 use Rattle.dcsctp_world.specs.Messages.{is_refused_at}
 use Rattle.dcsctp_world.proofs.user_messages.is_among.Given as goal
 

@@ -1,6 +1,6 @@
 use Rattle.std.proofs.Common.{map}
 use Rattle.std.proofs.lemmas.Result.{err_from_is_err_and}
-use Rattle.dcsctp_machine.specs.transfer.Messages.{message_content}
+use Rattle.dcsctp_core.specs.types.queues.Messages.{message_content}
 use Rattle.dcsctp_world.specs.Messages.{refused_by}
 use Rattle.dcsctp_world.proofs.SentMessages.{kept_more, kept_in_part}
 use Rattle.dcsctp_world.proofs.user_messages.keep_others.Goals as goal

@@ -1,5 +1,5 @@
 use Rattle.std.proofs.Common.{◌≡◌, take, map, ◌++◌}
-use Rattle.dcsctp_machine.specs.transfer.Messages.{message_content}
+use Rattle.dcsctp_core.specs.types.queues.Messages.{message_content}
 use Rattle.dcsctp_world.specs.Messages.{refused_by, others_from}
 use Rattle.dcsctp_world.proofs.user_messages.keep_others.Given as goal
 

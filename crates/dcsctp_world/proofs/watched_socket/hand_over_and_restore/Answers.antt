@@ -1,9 +1,9 @@
 use Rattle.std.proofs.Common.{◌≡◌, true, Result, Ok, subst}
-use Rattle.dcsctp_machine.specs.declared.snapshot.SocketHandoverState.{SocketHandoverState}
-use Rattle.dcsctp_machine.specs.Snapshot.{snapshot, is_valid_snapshot}
-use Rattle.dcsctp_api.specs.declared.errors.HandoverError.{HandoverError}
-use Rattle.dcsctp_api.specs.Calls.{UserView}
-use Rattle.dcsctp_api.specs.Handover.{HandsOver}
+use Rattle.dcsctp_core.specs.types.declared.snapshot.SocketHandoverState.{SocketHandoverState}
+use Rattle.dcsctp_core.specs.types.Snapshot.{snapshot, is_valid_snapshot}
+use Rattle.dcsctp_core.specs.api.declared.errors.HandoverError.{HandoverError}
+use Rattle.dcsctp_core.specs.api.Calls.{UserView}
+use Rattle.dcsctp_core.specs.api.Handover.{HandsOver}
 use Rattle.dcsctp_socket.specs.SocketView.{user_view_of}
 use Rattle.dcsctp_world.proofs.Drawing.{behind_nothing}
 use Rattle.dcsctp_world.proofs.HandingOn.{hands_on, valid_there, hand_over_refused, hand_over_draws_nothing}

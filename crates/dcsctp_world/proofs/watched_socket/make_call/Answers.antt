@@ -1,9 +1,9 @@
 use Rattle.std.proofs.Common.{Ok, sym, ap, subst, ◌∙◌}
-use Rattle.dcsctp_machine.specs.declared.schedule.Call.{Call}
-use Rattle.dcsctp_machine.specs.Schedule.{call_content}
-use Rattle.dcsctp_machine.specs.Sockets.{UserTurns}
-use Rattle.dcsctp_machine.specs.turns.SettingOutcomes.{stream_priority, stream_low_threshold, longest_message}
-use Rattle.dcsctp_api.specs.Calls.{UserView}
+use Rattle.dcsctp_core.specs.types.declared.schedule.Call.{Call}
+use Rattle.dcsctp_core.specs.types.Schedule.{call_content}
+use Rattle.dcsctp_core.specs.spec.endpoint.UserTurns.{UserTurns}
+use Rattle.dcsctp_core.specs.types.Setting.{stream_priority, stream_low_threshold, longest_message}
+use Rattle.dcsctp_core.specs.api.Calls.{UserView}
 use Rattle.dcsctp_socket.specs.SocketView.{user_view_of}
 use Rattle.dcsctp_world.specs.declared.act.Reply.TheVariants.{Done}
 use Rattle.dcsctp_world.specs.Growth.{Called, IsCallReply}

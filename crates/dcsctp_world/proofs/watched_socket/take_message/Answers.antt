@@ -1,5 +1,5 @@
 use Rattle.std.proofs.Common.{sym, ap, ◌∙◌}
-use Rattle.dcsctp_api.specs.Calls.{UserView}
+use Rattle.dcsctp_core.specs.api.Calls.{UserView}
 use Rattle.dcsctp_socket.specs.SocketView.{user_view_of}
 use Rattle.dcsctp_world.proofs.Drawing.{draws_nothing}
 use Rattle.dcsctp_world.proofs.Taking.{take_called}

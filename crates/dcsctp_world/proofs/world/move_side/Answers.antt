@@ -1,9 +1,9 @@
 use Rattle.std.proofs.Common.{ℕ, List, Vec, refl, sym, subst, ◌∙◌}
 use Rattle.std.proofs.lemmas.Result.{err_from_is_err_and}
 use Rattle.std.specs.declared.alloc.Global.{Global}
-use Rattle.dcsctp_machine.specs.declared.schedule.Side.TheVariants as sides
-use Rattle.dcsctp_machine.specs.Schedule.{act_content}
-use Rattle.dcsctp_machine.specs.Sockets.{TurnsOfAct}
+use Rattle.dcsctp_core.specs.types.declared.schedule.Side.TheVariants as sides
+use Rattle.dcsctp_core.specs.types.Schedule.{act_content}
+use Rattle.dcsctp_spec_runs.specs.Sockets.{TurnsOfAct}
 use Rattle.dcsctp_world.specs.Growth.{Fails}
 use Rattle.dcsctp_world.specs.Parts.{packet_bytes, shown, both}
 use Rattle.dcsctp_world.proofs.Drawing.{draw_on_at}

@@ -1,8 +1,8 @@
 use Rattle.std.proofs.Common.{List, [], ◌∷◌, map, refl, ap, inl, inr, ◌∙◌}
 use Rattle.std.proofs.lemmas.List.{map-append}
 use Rattle.std.proofs.lemmas.Result.{err_from_is_err_and}
-use Rattle.dcsctp_machine.specs.declared.schedule.Act.{Act}
-use Rattle.dcsctp_machine.specs.Schedule.{act_content}
+use Rattle.dcsctp_core.specs.types.declared.schedule.Act.{Act}
+use Rattle.dcsctp_core.specs.types.Schedule.{act_content}
 use Rattle.dcsctp_world.specs.Parts.{both}
 use Rattle.dcsctp_world.specs.Recording.{recorded_stream}
 use Rattle.dcsctp_world.proofs.Applying.{both_noted}

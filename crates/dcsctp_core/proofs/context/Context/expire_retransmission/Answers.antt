@@ -1,5 +1,5 @@
 use Rattle.std.proofs.Common.{ap, sym, ◌∙◌, Bool}
-use Rattle.dcsctp_machine.specs.TimeTurns.{has_come, loss_deadline}
+use Rattle.dcsctp_transfer.specs.spec.endpoint.TimeTurns.{has_come, loss_deadline}
 use Rattle.dcsctp_transfer.specs.Sacks.{lost_where}
 use Rattle.dcsctp_core.specs.Below.{LosesAt}
 use Rattle.dcsctp_core.proofs.BelowLemmas.{loss_counted, loss_not_due}

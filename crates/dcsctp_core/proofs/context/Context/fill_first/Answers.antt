@@ -1,6 +1,6 @@
 use Rattle.std.proofs.Common.{refl}
 use Rattle.std.proofs.lemmas.Result.{err_from_is_err_and}
-use Rattle.dcsctp_machine.specs.turns.FlushOutcomes.{first_ask}
+use Rattle.dcsctp_transfer.specs.spec.endpoint.FlushOutcomes.{first_ask}
 use Rattle.dcsctp_core.specs.View.{view_of}
 use Rattle.dcsctp_core.proofs.AskLemmas.{first_returns, forward_refused, reset_refused}
 use Rattle.dcsctp_core.proofs.CutLemmas.{cut_untold}

@@ -1,6 +1,6 @@
 use Rattle.std.proofs.lemmas.Bool.Decides.{nat_tests}
 use Rattle.std.proofs.Common.{Option, arith, sym, subst}
-use Rattle.dcsctp_machine.specs.transfer.Transfer.{Transfer}
+use Rattle.dcsctp_transfer.specs.spec.queues.Transfer.{Transfer}
 use Rattle.dcsctp_core.specs.Flushing.{ForwardsAt}
 use Rattle.dcsctp_core.specs.View.{view_of}
 use Rattle.dcsctp_core.proofs.ForwardLemmas.{forwards_below}

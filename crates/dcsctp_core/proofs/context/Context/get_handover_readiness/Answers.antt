@@ -1,7 +1,7 @@
 use Rattle.std.proofs.Common.{◌≡◌, sym, subst, refl, Some}
-use Rattle.dcsctp_machine.specs.declared.association.Held.{Held}
-use Rattle.dcsctp_machine.specs.Endpoint.{established, held_in}
-use Rattle.dcsctp_machine.specs.Handover.{readiness_in, readiness_open}
+use Rattle.dcsctp_transfer.specs.types.declared.association.Held.{Held}
+use Rattle.dcsctp_transfer.specs.spec.endpoint.Endpoint.{established, held_in}
+use Rattle.dcsctp_transfer.specs.spec.Handover.{readiness_in, readiness_open}
 use Rattle.dcsctp_core.specs.declared.state.OpenPhase.{OpenPhase}
 use Rattle.dcsctp_core.specs.declared.state.State.{State}
 use Rattle.dcsctp_core.specs.View.{core_of, endpoint_of, held_of, phase_in}

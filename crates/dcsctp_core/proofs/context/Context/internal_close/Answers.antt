@@ -1,12 +1,12 @@
 use Rattle.std.proofs.Common.{ℕ, List, [], ◌∷◌, ◌++◌, map, string_bytes, refl, sym, ap, ◌∙◌}
 use Rattle.std.proofs.lemmas.List.{append-nil, map-append}
-use Rattle.dcsctp_machine.specs.Settings.{ports_of}
-use Rattle.dcsctp_machine.specs.Event.{Event}
-use Rattle.dcsctp_machine.specs.Endpoint.{stopped_timers}
-use Rattle.dcsctp_machine.specs.turns.EndOutcomes.{closed_after}
-use Rattle.dcsctp_machine.specs.Timers.{TimerModel}
-use Rattle.dcsctp_api.specs.Events.{event_content}
-use Rattle.dcsctp_api.specs.declared.events.SocketEvent.{SocketEvent}
+use Rattle.dcsctp_transfer.specs.types.Settings.{ports_of}
+use Rattle.dcsctp_transfer.specs.spec.endpoint.Event.{Event}
+use Rattle.dcsctp_transfer.specs.spec.endpoint.Endpoint.{stopped_timers}
+use Rattle.dcsctp_transfer.specs.spec.endpoint.EndOutcomes.{closed_after}
+use Rattle.dcsctp_transfer.specs.spec.endpoint.Timers.{TimerModel}
+use Rattle.dcsctp_transfer.specs.api.Events.{event_content}
+use Rattle.dcsctp_transfer.specs.api.declared.events.SocketEvent.{SocketEvent}
 use Rattle.dcsctp_core.specs.View.{core_of, view_of, endpoint_of}
 use Rattle.dcsctp_core.specs.Handling.{end_event}
 use Rattle.dcsctp_core.proofs.Composing.{moves_as}

@@ -1,7 +1,7 @@
 use Rattle.std.proofs.Common.{subst, Option}
 use Rattle.std.specs.List.Sorted.{IsStrictlySortedBy}
-use Rattle.dcsctp_machine.specs.transfer.Incoming.{AreInOrder}
-use Rattle.dcsctp_api.specs.Messages.{streams_below}
+use Rattle.dcsctp_transfer.specs.spec.queues.Incoming.{AreInOrder}
+use Rattle.dcsctp_transfer.specs.api.Messages.{streams_below}
 use Rattle.dcsctp_core.specs.declared.transmission_control_block.TransmissionControlBlock.{TransmissionControlBlock}
 use Rattle.dcsctp_core.specs.View.{transfer_in}
 use Rattle.dcsctp_core.proofs.context.Context.readiness_of_parts.Goals as goal

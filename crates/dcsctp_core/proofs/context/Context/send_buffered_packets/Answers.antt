@@ -1,7 +1,7 @@
 use Rattle.std.proofs.Common.{Option, ◌∙◌, sym, subst}
 use Rattle.std.proofs.lemmas.Result.{err_from_is_err_and}
-use Rattle.dcsctp_machine.specs.transfer.Transfer.{Transfer}
-use Rattle.dcsctp_machine.specs.turns.FlushOutcomes.{first_ask}
+use Rattle.dcsctp_transfer.specs.spec.queues.Transfer.{Transfer}
+use Rattle.dcsctp_transfer.specs.spec.endpoint.FlushOutcomes.{first_ask}
 use Rattle.dcsctp_core.specs.View.{view_of}
 use Rattle.dcsctp_core.specs.Flushing.{NeedsNone}
 use Rattle.dcsctp_core.proofs.LendingLemmas.{found}

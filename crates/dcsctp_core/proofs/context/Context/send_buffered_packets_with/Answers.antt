@@ -1,6 +1,6 @@
 use Rattle.std.proofs.Common.{sym, ap, ◌∙◌, subst, ◌-◌, ℕ, arith}
 use Rattle.std.proofs.lemmas.Result.{err_from_is_err_and}
-use Rattle.dcsctp_machine.specs.turns.FlushOutcomes.{first_ask, later_ask, draft_to, packets_allowed}
+use Rattle.dcsctp_transfer.specs.spec.endpoint.FlushOutcomes.{first_ask, later_ask, draft_to, packets_allowed}
 use Rattle.dcsctp_core.specs.View.{view_of, core_of}
 use Rattle.dcsctp_core.specs.Flushing.{FlushesBy}
 use Rattle.dcsctp_core.proofs.LoopLemmas.{none_allowed, first_cut, first_last, first_then}

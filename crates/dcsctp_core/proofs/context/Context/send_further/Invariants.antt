@@ -1,6 +1,6 @@
 use Rattle.std.proofs.Common.{◌≡◌, Some}
-use Rattle.dcsctp_machine.specs.declared.association.Held.{Held}
-use Rattle.dcsctp_machine.specs.Endpoint.{held_in}
+use Rattle.dcsctp_transfer.specs.types.declared.association.Held.{Held}
+use Rattle.dcsctp_transfer.specs.spec.endpoint.Endpoint.{held_in}
 use Rattle.dcsctp_core.specs.View.{core_of, view_of}
 use Rattle.dcsctp_core.proofs.LoopLemmas.{Completes}
 use Rattle.dcsctp_core.proofs.context.Context.send_further.Given as goal

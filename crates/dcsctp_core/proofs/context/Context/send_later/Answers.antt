@@ -1,4 +1,4 @@
-use Rattle.dcsctp_machine.specs.turns.FlushOutcomes.{later_ask}
+use Rattle.dcsctp_transfer.specs.spec.endpoint.FlushOutcomes.{later_ask}
 use Rattle.dcsctp_core.proofs.AskLemmas.{asks_returns}
 use Rattle.dcsctp_core.proofs.context.Context.send_later.Goals as goal
 

@@ -1,9 +1,9 @@
 use Rattle.std.proofs.Common.{ℕ, ◌∙◌, ap, sym, ◌==◌}
 use Rattle.std.proofs.lemmas.List.{length-map}
-use Rattle.dcsctp_machine.specs.Ids.{stream_numbers}
+use Rattle.dcsctp_transfer.specs.types.Ids.{stream_numbers}
 use Rattle.dcsctp_core.proofs.ResetLemmas.{begins_by, begins_none, none_outstanding, some_ready}
 use Rattle.dcsctp_core.proofs.transmission_control_block.TransmissionControlBlock.begin_reset.Goals as goal
-use Rattle.dcsctp_machine.specs.turns.BegunResets.{streams_within}
+use Rattle.dcsctp_transfer.specs.spec.endpoint.BegunResets.{streams_within}
 
 pub returns-clause-ok : goal.returns-clause-ok
 returns-clause-ok c =

@@ -1,6 +1,6 @@
 use Rattle.std.proofs.Common.{arith}
 use Rattle.std.proofs.lemmas.List.{length-map}
-use Rattle.dcsctp_machine.specs.Ids.{stream_numbers}
+use Rattle.dcsctp_transfer.specs.types.Ids.{stream_numbers}
 use Rattle.dcsctp_core.proofs.ResetLemmas.{request_room}
 use Rattle.dcsctp_core.proofs.transmission_control_block.TransmissionControlBlock.start_ssn_reset_request.Goals as goal
 

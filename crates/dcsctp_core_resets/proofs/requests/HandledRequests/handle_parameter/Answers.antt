@@ -1,5 +1,5 @@
 use Rattle.std.proofs.Common.{refl}
-use Rattle.dcsctp_machine.specs.Reconfiguration.{streams_in}
+use Rattle.dcsctp_core.specs.spec.Reconfiguration.{streams_in}
 use Rattle.dcsctp_core_resets.proofs.RequestLemmas.{outgoing_one, incoming_one, other_one, response_one, not_second}
 use Rattle.dcsctp_core_resets.proofs.requests.HandledRequests.handle_parameter.Goals as goal
 

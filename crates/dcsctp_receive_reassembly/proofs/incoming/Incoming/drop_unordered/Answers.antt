@@ -1,6 +1,6 @@
 -- The bytes that are dropped are no longer counted.
 use Rattle.std.proofs.Common.{map, arith, ap}
-use Rattle.dcsctp_machine.specs.transfer.Runs.{runs_bytes}
+use Rattle.dcsctp_api.specs.spec.queues.Runs.{runs_bytes}
 use Rattle.dcsctp_receive_reassembly.specs.Runs.{run_of}
 use Rattle.dcsctp_receive_reassembly.proofs.StreamBytes.{placed_bytes}
 use Rattle.dcsctp_receive_reassembly.proofs.incoming.Incoming.drop_unordered.Goals as goal

@@ -2,12 +2,12 @@
 use Rattle.std.proofs.Common.{◌≡◌, ◌+◌, ◌≤◌, ◌∷◌, List, map, length, drop, get_or, arith, ap, subst, sym, length-append}
 use Rattle.std.specs.VecDeque.{deque_len, deque_capacity}
 use Rattle.std.proofs.lemmas.List.{drop_more, drop_all, length-map}
-use Rattle.dcsctp_machine.specs.transfer.Messages.{MessageContent, message_content}
-use Rattle.dcsctp_machine.specs.declared.arrivals.SkippedTo.{SkippedTo}
-use Rattle.dcsctp_machine.specs.declared.arrivals.SkippedTo.TheVariants.{Ssn}
-use Rattle.dcsctp_machine.specs.transfer.IncomingStreams.{skipped_stream, skip_deliveries}
+use Rattle.dcsctp_api.specs.types.queues.Messages.{MessageContent, message_content}
+use Rattle.dcsctp_api.specs.types.declared.arrivals.SkippedTo.{SkippedTo}
+use Rattle.dcsctp_api.specs.types.declared.arrivals.SkippedTo.TheVariants.{Ssn}
+use Rattle.dcsctp_api.specs.spec.queues.IncomingStreams.{skipped_stream, skip_deliveries}
 use Rattle.dcsctp_receive_reassembly.specs.Reassembly.{incoming_of, entry_of}
-use Rattle.dcsctp_machine.specs.transfer.Incoming.{stream_on, SkipsAll}
+use Rattle.dcsctp_api.specs.spec.queues.Incoming.{stream_on, SkipsAll}
 use Rattle.dcsctp_receive_reassembly.specs.Skipping.{AllMade, room_for}
 use Rattle.dcsctp_receive_reassembly.proofs.SkippingLemmas.{AllMade-kept, SkipsAll-step, SkipsAll-none, Balances-both, room_left}
 use Rattle.dcsctp_receive_reassembly.proofs.incoming.Incoming.skip_all.Goals as goal

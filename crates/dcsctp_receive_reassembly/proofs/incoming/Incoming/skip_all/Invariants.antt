@@ -1,6 +1,6 @@
 use Rattle.std.proofs.Common.{◌+◌, ◌≤◌, map, drop}
 use Rattle.std.specs.VecDeque.{deque_len, deque_capacity}
-use Rattle.dcsctp_machine.specs.transfer.Incoming.{IncomingModel, stream_on, SkipsAll}
+use Rattle.dcsctp_api.specs.spec.queues.Incoming.{IncomingModel, stream_on, SkipsAll}
 use Rattle.dcsctp_receive_reassembly.specs.Reassembly.{Balances, incoming_of, entry_of}
 use Rattle.dcsctp_receive_reassembly.specs.Skipping.{AllMade, room_for}
 use Rattle.dcsctp_receive_reassembly.proofs.incoming.Incoming.skip_all.Given as goal

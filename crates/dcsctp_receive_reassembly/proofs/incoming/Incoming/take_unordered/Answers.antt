@@ -1,11 +1,11 @@
 -- The bytes that are kept are counted.
-use Rattle.dcsctp_machine.specs.transfer.Messages.{message_content}
+use Rattle.dcsctp_api.specs.types.queues.Messages.{message_content}
 use Rattle.std.proofs.Common.{map, length, arith, ap}
-use Rattle.dcsctp_machine.specs.transfer.Runs.{runs_bytes}
-use Rattle.dcsctp_machine.specs.transfer.IncomingStreams.{ready_bytes, streams_bytes}
-use Rattle.dcsctp_machine.specs.transfer.Runs.{PartModel}
+use Rattle.dcsctp_api.specs.spec.queues.Runs.{runs_bytes}
+use Rattle.dcsctp_api.specs.spec.queues.IncomingStreams.{ready_bytes, streams_bytes}
+use Rattle.dcsctp_api.specs.spec.queues.Runs.{PartModel}
 use Rattle.dcsctp_receive_reassembly.specs.Runs.{run_of, part_of}
-use Rattle.dcsctp_machine.specs.transfer.Incoming.{IncomingModel}
+use Rattle.dcsctp_api.specs.spec.queues.Incoming.{IncomingModel}
 use Rattle.dcsctp_receive_reassembly.proofs.StreamBytes.{unordered_counted}
 use Rattle.dcsctp_receive_reassembly.proofs.incoming.Incoming.take_unordered.Goals as goal
 

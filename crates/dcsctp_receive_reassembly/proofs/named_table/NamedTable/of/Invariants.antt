@@ -1,6 +1,6 @@
 use Rattle.std.proofs.Common.{◌≡◌, ◌||◌, ℕ, drop}
-use Rattle.dcsctp_machine.specs.Ids.{stream_numbers}
-use Rattle.dcsctp_machine.specs.transfer.Incoming.{is_named}
+use Rattle.dcsctp_api.specs.types.Ids.{stream_numbers}
+use Rattle.dcsctp_api.specs.spec.queues.Incoming.{is_named}
 use Rattle.dcsctp_receive_reassembly.specs.NamedStreams.{marks}
 use Rattle.dcsctp_receive_reassembly.proofs.named_table.NamedTable.of.Given as goal
 

@@ -1,11 +1,11 @@
 -- The streams are reset, and what waited is worked.
 use Rattle.std.proofs.Common.{◌≡◌, Option, None, Some, refl, sym, ◌∙◌, ap, subst}
 use Rattle.std.specs.Option.{option_map}
-use Rattle.dcsctp_machine.specs.Ids.{stream_numbers}
+use Rattle.dcsctp_api.specs.types.Ids.{stream_numbers}
 use Rattle.dcsctp_receive_reassembly.specs.declared.reassembly_queue.Deferral.{Deferral}
 use Rattle.dcsctp_receive_reassembly.specs.contracts.reassembly_queue.ReassemblyQueue.{the_view}
 use Rattle.dcsctp_receive_reassembly.specs.Reassembly.{incoming_of}
-use Rattle.dcsctp_machine.specs.transfer.Reassembly.{ReassemblyState, DeferralModel, actions_of, Leaves, HandlesAll}
+use Rattle.dcsctp_api.specs.spec.queues.Reassembly.{ReassemblyState, DeferralModel, actions_of, Leaves, HandlesAll}
 use Rattle.dcsctp_receive_reassembly.specs.Queue.{deferral_of}
 use Rattle.dcsctp_receive_reassembly.proofs.reassembly_queue.ReassemblyQueue.reset_streams_and_leave_deferred_reset.Goals as goal
 

@@ -1,9 +1,9 @@
-use Rattle.dcsctp_machine.specs.transfer.Messages.{message_content}
+use Rattle.dcsctp_api.specs.types.queues.Messages.{message_content}
 use Rattle.std.proofs.Common.{◌≡◌, ◌+◌, ◌≤◌, ◌++◌, map, length}
 use Rattle.std.specs.VecDeque.{deque_len, deque_capacity}
 use Rattle.std.specs.BTreeMap.{btree_map_len}
 use Rattle.dcsctp_receive_reassembly.specs.Streams.{stream_of}
-use Rattle.dcsctp_machine.specs.transfer.IncomingStreams.{delivered_from, deliveries_from}
+use Rattle.dcsctp_api.specs.spec.queues.IncomingStreams.{delivered_from, deliveries_from}
 use Rattle.dcsctp_receive_reassembly.proofs.stream.Stream.deliver.Given as goal
 
 -- What is delivered from here on, with what was, is what is delivered from the beginning.

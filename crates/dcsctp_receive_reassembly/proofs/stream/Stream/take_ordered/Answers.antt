@@ -1,9 +1,9 @@
 -- The message doesn't wait, so the part is taken.
-use Rattle.dcsctp_machine.specs.transfer.Messages.{message_content}
+use Rattle.dcsctp_api.specs.types.queues.Messages.{message_content}
 use Rattle.std.proofs.Common.{map, sym, ◌∙◌}
 use Rattle.dcsctp_receive_reassembly.specs.Runs.{part_of}
 use Rattle.dcsctp_receive_reassembly.specs.Streams.{stream_of}
-use Rattle.dcsctp_machine.specs.transfer.IncomingStreams.{TakesOrdered, TakesAhead}
+use Rattle.dcsctp_api.specs.spec.queues.IncomingStreams.{TakesOrdered, TakesAhead}
 use Rattle.dcsctp_receive_reassembly.proofs.ResultFacts.{if_ok_then}
 use Rattle.dcsctp_receive_reassembly.proofs.WaitingLemmas.{taken_fresh}
 use Rattle.dcsctp_receive_reassembly.proofs.stream.Stream.take_ordered.Goals as goal

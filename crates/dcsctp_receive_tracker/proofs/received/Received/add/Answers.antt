@@ -1,8 +1,8 @@
 -- The number is in the range before it, touches that one, or touches none before it.
 use Rattle.std.proofs.Common.{◌≡◌, ◌+◌, ◌<◌, ℕ, not, Option, None, Some, sym, ◌∙◌, ap, arith}
 use Rattle.std.specs.Option.{option_map}
-use Rattle.dcsctp_receive_entries.specs.Entries.{count_up_to}
-use Rattle.dcsctp_machine.specs.transfer.Runs.{entry_before}
+use Rattle.dcsctp_receive_ordered_map.specs.Entries.{count_up_to}
+use Rattle.dcsctp_spec_lemmas.specs.spec.queues.Runs.{entry_before}
 use Rattle.dcsctp_receive_tracker.specs.Received.{range_of, ranges_of}
 use Rattle.dcsctp_receive_tracker.proofs.ReceivedLemmas.{Adds-none}
 use Rattle.dcsctp_receive_tracker.proofs.NeighborLemmas.{entry_of, last_of}

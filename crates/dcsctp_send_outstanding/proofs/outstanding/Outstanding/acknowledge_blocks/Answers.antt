@@ -1,8 +1,8 @@
 use Rattle.std.proofs.Common.{List, refl, subst, sym, add-one, arith}
 use Rattle.std.proofs.lemmas.List.{take_all}
-use Rattle.dcsctp_wire.specs.declared.chunk.sack.GapAckBlock.{GapAckBlock}
+use Rattle.dcsctp_api.specs.wire.declared.chunk.sack.GapAckBlock.{GapAckBlock}
 use Rattle.dcsctp_send_outstanding.specs.NamedPlaces.{BlocksAreSettled}
-use Rattle.dcsctp_machine.specs.transfer.Outstanding.{OutstandingState, reported}
+use Rattle.dcsctp_api.specs.spec.queues.Outstanding.{OutstandingState, reported}
 use Rattle.dcsctp_send_outstanding.proofs.ItemsLemmas.{reported_further}
 use Rattle.dcsctp_send_outstanding.proofs.SettledLemmas.{reported_is_settled}
 use Rattle.dcsctp_send_outstanding.proofs.outstanding.Outstanding.acknowledge_blocks.Goals as goal

@@ -1,5 +1,5 @@
 use Rattle.std.proofs.Common.{◌≡◌, take}
-use Rattle.dcsctp_machine.specs.transfer.Outstanding.{reported}
+use Rattle.dcsctp_api.specs.spec.queues.Outstanding.{reported}
 use Rattle.dcsctp_send_outstanding.proofs.outstanding.Outstanding.acknowledge_blocks.Given as goal
 
 abbrev pub invariant-loop-block : goal.invariant-loop-block

@@ -1,6 +1,6 @@
 use Rattle.std.proofs.Common.{◌≡◌, length, min, ap, subst, sym, arith}
 use Rattle.dcsctp_send_outstanding.specs.NamedPlaces.{AreSettledBetween}
-use Rattle.dcsctp_machine.specs.transfer.Outstanding.{OutstandingState}
+use Rattle.dcsctp_api.specs.spec.queues.Outstanding.{OutstandingState}
 use Rattle.dcsctp_send_outstanding.proofs.SettledLemmas.{kept_with_named, settled_added}
 use Rattle.dcsctp_send_outstanding.proofs.outstanding.Outstanding.add_named.Goals as goal
 

@@ -1,6 +1,6 @@
 use Rattle.std.proofs.Common.{◌≡◌, ◌<◌, length, get_or, arith, ap, refl, subst, sym}
-use Rattle.dcsctp_machine.specs.transfer.Items.{Item, size_of}
-use Rattle.dcsctp_machine.specs.transfer.Outstanding.{OutstandingState, header_of}
+use Rattle.dcsctp_api.specs.spec.queues.Items.{Item, size_of}
+use Rattle.dcsctp_api.specs.spec.queues.Outstanding.{OutstandingState, header_of}
 use Rattle.dcsctp_send_outstanding.specs.Outstanding.{MayChange}
 use Rattle.dcsctp_send_outstanding.proofs.BytesLemmas.{bytes_changed}
 use Rattle.dcsctp_send_outstanding.proofs.ItemsLemmas.{changed_is, kept_replaced, room_without, sums_leave_room, size_bounded}

@@ -1,5 +1,5 @@
 use Rattle.std.proofs.Common.{◌≡◌, ◌≤◌, max}
-use Rattle.dcsctp_machine.specs.transfer.Items.{changed_between}
+use Rattle.dcsctp_api.specs.spec.queues.Items.{changed_between}
 use Rattle.dcsctp_send_outstanding.proofs.outstanding.Outstanding.change_each.Given as goal
 
 abbrev pub invariant-loop-place : goal.invariant-loop-place

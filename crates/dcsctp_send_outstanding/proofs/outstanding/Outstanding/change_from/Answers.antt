@@ -1,6 +1,6 @@
 use Rattle.std.proofs.Common.{List, length, ap, sym, ◌∙◌, arith, add-one}
-use Rattle.dcsctp_machine.specs.transfer.Items.{Item}
-use Rattle.dcsctp_machine.specs.transfer.Outstanding.{OutstandingState}
+use Rattle.dcsctp_api.specs.spec.queues.Items.{Item}
+use Rattle.dcsctp_api.specs.spec.queues.Outstanding.{OutstandingState}
 use Rattle.dcsctp_send_outstanding.proofs.ItemsLemmas.{none_changed, changed_further, changed_as_far, length-changed_between}
 use Rattle.dcsctp_send_outstanding.proofs.SettledLemmas.{changed_past}
 use Rattle.dcsctp_send_outstanding.proofs.outstanding.Outstanding.change_from.Goals as goal

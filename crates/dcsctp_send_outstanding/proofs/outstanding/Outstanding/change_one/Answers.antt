@@ -1,6 +1,6 @@
 use Rattle.std.proofs.Common.{◌≡◌, ◌∙◌, true, List, ap, subst, sym}
-use Rattle.dcsctp_machine.specs.transfer.Items.{Item}
-use Rattle.dcsctp_machine.specs.transfer.Outstanding.{OutstandingState}
+use Rattle.dcsctp_api.specs.spec.queues.Items.{Item}
+use Rattle.dcsctp_api.specs.spec.queues.Outstanding.{OutstandingState}
 use Rattle.dcsctp_send_outstanding.specs.Settled.{is_left_by}
 use Rattle.dcsctp_send_outstanding.proofs.BytesLemmas.{may_change}
 use Rattle.dcsctp_send_outstanding.proofs.SettledLemmas.{left_is_same, one_left}

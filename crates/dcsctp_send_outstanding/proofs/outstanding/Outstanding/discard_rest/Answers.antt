@@ -1,16 +1,16 @@
 use Rattle.std.proofs.Common.{inl, ◌≡◌, ◌∙◌, List, Some, true, subst, ℕ, ◌<◌, ◌^◌, ◌+◌, length, ap, refl, inr, arith}
-use Rattle.dcsctp_machine.specs.transfer.Progress.{is_marked}
-use Rattle.dcsctp_machine.specs.transfer.Outstanding.{OutstandingState}
+use Rattle.dcsctp_api.specs.types.queues.Progress.{is_marked}
+use Rattle.dcsctp_api.specs.spec.queues.Outstanding.{OutstandingState}
 use Rattle.dcsctp_send_outstanding.proofs.ItemsLemmas.{kept_pushed, sums_leave_room, size_bounded}
 use Rattle.std.proofs.lemmas.Result.{err_from_is_err_and}
 use Rattle.std.specs.List.{slice_get}
-use Rattle.dcsctp_machine.specs.transfer.Sending.{DiscardsNamed}
+use Rattle.dcsctp_api.specs.spec.queues.Sending.{DiscardsNamed}
 use Rattle.dcsctp_send_queue.specs.Calls.{StopsDiscarding}
 use Rattle.dcsctp_send_streams.specs.Telling.{contents}
-use Rattle.dcsctp_machine.specs.declared.progress.Progress.{Progress}
-use Rattle.dcsctp_machine.specs.transfer.Items.{Item}
+use Rattle.dcsctp_api.specs.types.declared.progress.Progress.{Progress}
+use Rattle.dcsctp_api.specs.spec.queues.Items.{Item}
 use Rattle.dcsctp_send_outstanding.specs.declared.item.Item.TheInside.{Inside}
-use Rattle.dcsctp_machine.specs.transfer.ItemMessages.{IsEndOf}
+use Rattle.dcsctp_api.specs.spec.queues.ItemMessages.{IsEndOf}
 use Rattle.dcsctp_send_outstanding.specs.Totals.{total_with}
 use Rattle.dcsctp_send_outstanding.proofs.MessageLemmas.{index_at}
 use Rattle.dcsctp_send_outstanding.proofs.SettledLemmas.{settled_pushed}

@@ -1,6 +1,6 @@
 use Rattle.std.proofs.Common.{◌≡◌, take, map}
-use Rattle.dcsctp_machine.specs.SnapshotItems.{outstanding_part}
-use Rattle.dcsctp_machine.specs.transfer.OutstandingParts.{outstanding_given}
+use Rattle.dcsctp_api.specs.types.SnapshotItems.{outstanding_part}
+use Rattle.dcsctp_api.specs.spec.queues.OutstandingParts.{outstanding_given}
 use Rattle.dcsctp_send_outstanding.proofs.outstanding.Outstanding.handover_data.Given as goal
 
 -- The items so far.

@@ -1,7 +1,7 @@
 use Rattle.std.proofs.Common.{List, subst, refl, add-one, arith}
 use Rattle.std.proofs.lemmas.List.{take_all}
-use Rattle.dcsctp_wire.specs.declared.chunk.sack.GapAckBlock.{GapAckBlock}
-use Rattle.dcsctp_machine.specs.transfer.Reports.{Names, IsLast}
+use Rattle.dcsctp_api.specs.wire.declared.chunk.sack.GapAckBlock.{GapAckBlock}
+use Rattle.dcsctp_api.specs.spec.queues.Reports.{Names, IsLast}
 use Rattle.dcsctp_send_outstanding.proofs.ReportLemmas.{named_more}
 use Rattle.dcsctp_send_outstanding.proofs.outstanding.Outstanding.last_named.Goals as goal
 

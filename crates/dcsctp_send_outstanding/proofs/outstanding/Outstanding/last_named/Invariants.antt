@@ -1,5 +1,5 @@
 use Rattle.std.proofs.Common.{take}
-use Rattle.dcsctp_machine.specs.transfer.Reports.{Names, IsLast}
+use Rattle.dcsctp_api.specs.spec.queues.Reports.{Names, IsLast}
 use Rattle.dcsctp_send_outstanding.proofs.outstanding.Outstanding.last_named.Given as goal
 
 abbrev pub invariant-loop-block : goal.invariant-loop-block

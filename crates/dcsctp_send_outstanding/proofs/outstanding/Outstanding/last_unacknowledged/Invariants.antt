@@ -1,7 +1,7 @@
 use Rattle.std.proofs.Common.{◌≡◌, ℕ, ◌<◌, ◌≤◌, true, Some, length}
 use Rattle.std.specs.List.{slice_get}
-use Rattle.dcsctp_machine.specs.transfer.Items.{Item}
-use Rattle.dcsctp_machine.specs.transfer.Progress.{is_unacknowledged}
+use Rattle.dcsctp_api.specs.spec.queues.Items.{Item}
+use Rattle.dcsctp_api.specs.types.queues.Progress.{is_unacknowledged}
 use Rattle.dcsctp_send_outstanding.proofs.outstanding.Outstanding.last_unacknowledged.Given as goal
 
 abbrev pub invariant-loop-place : goal.invariant-loop-place

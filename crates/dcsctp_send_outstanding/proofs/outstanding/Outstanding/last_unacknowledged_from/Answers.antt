@@ -1,6 +1,6 @@
 use Rattle.std.proofs.Common.{subst, arith}
 use Rattle.dcsctp_send_outstanding.specs.NamedPlaces.{AreSettledBetween}
-use Rattle.dcsctp_machine.specs.transfer.Outstanding.{OutstandingState}
+use Rattle.dcsctp_api.specs.spec.queues.Outstanding.{OutstandingState}
 use Rattle.dcsctp_send_outstanding.proofs.SettledLemmas.{row_is_settled, none_awaited, awaited_past, awaited_further, awaited_as_far}
 use Rattle.dcsctp_send_outstanding.proofs.outstanding.Outstanding.last_unacknowledged_from.Goals as goal
 

@@ -1,5 +1,5 @@
 use Rattle.std.proofs.Common.{◌≤◌, ◌-◌, max}
-use Rattle.dcsctp_machine.specs.transfer.Reports.{IsLast}
+use Rattle.dcsctp_api.specs.spec.queues.Reports.{IsLast}
 use Rattle.dcsctp_send_outstanding.proofs.SettledLemmas.{IsAwaitedWithin}
 use Rattle.dcsctp_send_outstanding.proofs.outstanding.Outstanding.last_unacknowledged_from.Given as goal
 

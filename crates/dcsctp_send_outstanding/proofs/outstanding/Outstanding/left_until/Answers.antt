@@ -1,6 +1,6 @@
 use Rattle.std.proofs.Common.{◌∙◌, subst, sym}
 use Rattle.dcsctp_send_outstanding.specs.NamedPlaces.{AreSettledBetween}
-use Rattle.dcsctp_machine.specs.transfer.Outstanding.{OutstandingState}
+use Rattle.dcsctp_api.specs.spec.queues.Outstanding.{OutstandingState}
 use Rattle.dcsctp_send_outstanding.proofs.SettledLemmas.{row_is_settled, row_is_left}
 use Rattle.dcsctp_send_outstanding.proofs.outstanding.Outstanding.left_until.Goals as goal
 

@@ -1,6 +1,6 @@
 use Rattle.std.proofs.Common.{◌≡◌, ◌∙◌, true, subst, sym, arith}
-use Rattle.dcsctp_machine.specs.transfer.Items.{Item}
-use Rattle.dcsctp_machine.specs.transfer.Progress.{is_marked}
+use Rattle.dcsctp_api.specs.spec.queues.Items.{Item}
+use Rattle.dcsctp_api.specs.types.queues.Progress.{is_marked}
 use Rattle.dcsctp_send_outstanding.proofs.outstanding.Outstanding.marked_from.Goals as goal
 
 pub returns-then-is_marked-clause-some : goal.returns-then-is_marked-clause-some

@@ -1,5 +1,5 @@
 use Rattle.std.proofs.Common.{take}
-use Rattle.dcsctp_machine.specs.transfer.Reports.{IsNewlyAcknowledged, IsLast}
+use Rattle.dcsctp_api.specs.spec.queues.Reports.{IsNewlyAcknowledged, IsLast}
 use Rattle.dcsctp_send_outstanding.proofs.outstanding.Outstanding.newest_reported.Given as goal
 
 abbrev pub invariant-loop-block : goal.invariant-loop-block

@@ -1,6 +1,6 @@
 use Rattle.std.proofs.Common.{subst}
-use Rattle.dcsctp_machine.specs.transfer.NextItem.{NoneMarkedBefore}
-use Rattle.dcsctp_machine.specs.transfer.Outstanding.{OutstandingState}
+use Rattle.dcsctp_api.specs.spec.queues.NextItem.{NoneMarkedBefore}
+use Rattle.dcsctp_api.specs.spec.queues.Outstanding.{OutstandingState}
 use Rattle.dcsctp_send_outstanding.proofs.ItemsLemmas.{none_marked_around}
 use Rattle.dcsctp_send_outstanding.proofs.outstanding.Outstanding.next_marked.Goals as goal
 

@@ -1,8 +1,8 @@
 use Rattle.std.proofs.Common.{◌≡◌, ℕ, ◌<◌, ◌^◌, ◌+◌, List, length, ap, ◌∙◌, arith}
-use Rattle.dcsctp_machine.specs.declared.progress.Progress.{Progress}
-use Rattle.dcsctp_machine.specs.transfer.Items.{Item}
-use Rattle.dcsctp_machine.specs.transfer.Outstanding.{OutstandingState}
-use Rattle.dcsctp_machine.specs.transfer.Progress.{is_marked}
+use Rattle.dcsctp_api.specs.types.declared.progress.Progress.{Progress}
+use Rattle.dcsctp_api.specs.spec.queues.Items.{Item}
+use Rattle.dcsctp_api.specs.spec.queues.Outstanding.{OutstandingState}
+use Rattle.dcsctp_api.specs.types.queues.Progress.{is_marked}
 use Rattle.dcsctp_send_outstanding.specs.Outstanding.{cursor_after}
 use Rattle.dcsctp_send_outstanding.specs.Totals.{total_with}
 use Rattle.dcsctp_send_outstanding.proofs.ItemsLemmas.{kept_added, sums_leave_room, size_bounded}

@@ -1,6 +1,6 @@
 use Rattle.std.proofs.Common.{◌≡◌, ◌<◌, length, ap, refl, ◌∙◌, arith}
 use Rattle.std.proofs.Math.ListN.{length-drop}
-use Rattle.dcsctp_machine.specs.transfer.Outstanding.{OutstandingState}
+use Rattle.dcsctp_api.specs.spec.queues.Outstanding.{OutstandingState}
 use Rattle.dcsctp_send_outstanding.proofs.ItemsLemmas.{same_outstanding, drop_further}
 use Rattle.dcsctp_send_outstanding.proofs.outstanding.Outstanding.remove_first.Goals as goal
 

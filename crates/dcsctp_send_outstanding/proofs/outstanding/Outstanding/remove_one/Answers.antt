@@ -1,6 +1,6 @@
 use Rattle.std.proofs.Common.{◌≡◌, ◌∷◌, List, subst, sym}
-use Rattle.dcsctp_machine.specs.transfer.Items.{Item, size_of}
-use Rattle.dcsctp_machine.specs.transfer.Outstanding.{header_of}
+use Rattle.dcsctp_api.specs.spec.queues.Items.{Item, size_of}
+use Rattle.dcsctp_api.specs.spec.queues.Outstanding.{header_of}
 use Rattle.dcsctp_send_outstanding.specs.Outstanding.{IsKept}
 use Rattle.dcsctp_send_outstanding.specs.NamedPlaces.{AreSettled}
 use Rattle.dcsctp_send_outstanding.proofs.ItemsLemmas.{kept_removed}

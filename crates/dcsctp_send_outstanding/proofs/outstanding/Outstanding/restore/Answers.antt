@@ -1,6 +1,6 @@
 use Rattle.std.proofs.Common.{◌≡◌, ◌<◌, ◌-◌, ◌^◌, min, length, refl, sym, subst, arith}
-use Rattle.dcsctp_machine.specs.Soundness.{HasBytes}
-use Rattle.dcsctp_machine.specs.SnapshotItems.{outstanding_part}
+use Rattle.dcsctp_api.specs.spec.Soundness.{HasBytes}
+use Rattle.dcsctp_api.specs.types.SnapshotItems.{outstanding_part}
 use Rattle.dcsctp_send_outstanding.proofs.BytesLemmas.{holds_at, part_has_bytes}
 use Rattle.dcsctp_send_outstanding.proofs.HandoverLemmas.{all_restored}
 use Rattle.dcsctp_send_outstanding.proofs.outstanding.Outstanding.restore.Goals as goal

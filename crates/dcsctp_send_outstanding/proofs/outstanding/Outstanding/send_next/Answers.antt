@@ -1,7 +1,7 @@
 use Rattle.std.proofs.Common.{inl, ◌<◌, ◌^◌, ◌+◌, length, ap, refl, arith}
-use Rattle.dcsctp_machine.specs.declared.progress.Progress.{Progress}
-use Rattle.dcsctp_machine.specs.transfer.Progress.{is_marked}
-use Rattle.dcsctp_machine.specs.transfer.Outstanding.{OutstandingState}
+use Rattle.dcsctp_api.specs.types.declared.progress.Progress.{Progress}
+use Rattle.dcsctp_api.specs.types.queues.Progress.{is_marked}
+use Rattle.dcsctp_api.specs.spec.queues.Outstanding.{OutstandingState}
 use Rattle.dcsctp_send_outstanding.proofs.ItemsLemmas.{kept_pushed, sums_leave_room, size_bounded}
 use Rattle.std.proofs.lemmas.Result.{err_from_is_err_and}
 use Rattle.dcsctp_send_outstanding.proofs.NextLemmas.{has_none}

@@ -1,6 +1,6 @@
 use Rattle.std.proofs.Common.{◌≡◌, ◌∙◌, true, false, subst, sym}
-use Rattle.dcsctp_machine.specs.transfer.Items.{Item}
-use Rattle.dcsctp_machine.specs.transfer.Progress.{is_unacknowledged}
+use Rattle.dcsctp_api.specs.spec.queues.Items.{Item}
+use Rattle.dcsctp_api.specs.types.queues.Progress.{is_unacknowledged}
 use Rattle.dcsctp_send_outstanding.proofs.SettledLemmas.{awaited_here, none_awaited_here}
 use Rattle.dcsctp_send_outstanding.proofs.outstanding.Outstanding.unacknowledged_at.Goals as goal
 

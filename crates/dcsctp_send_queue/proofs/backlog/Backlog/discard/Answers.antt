@@ -3,7 +3,7 @@ use Rattle.std.proofs.lemmas.Result.{err_from_is_err_and}
 use Rattle.dcsctp_send_queue.proofs.GoingOnLemmas.{not_named}
 use Rattle.dcsctp_send_queue.proofs.ResetLemmas.{apart_by, same_by}
 use Rattle.dcsctp_send_queue.specs.Backlog.{queue_of}
-use Rattle.dcsctp_machine.specs.transfer.SendQueue.{SendQueueState}
+use Rattle.dcsctp_api.specs.spec.queues.SendQueue.{SendQueueState}
 use Rattle.dcsctp_send_queue.proofs.backlog.Backlog.discard.Goals as goal
 
 pub returns-then-not-is_front_named-clause-ok : goal.returns-then-not-is_front_named-clause-ok

@@ -1,9 +1,9 @@
 use Rattle.std.proofs.Common.{◌≡◌, ◌∙◌, ℕ, ◌-◌, Some, length, ap, sym, subst}
 use Rattle.std.proofs.lemmas.Result.{err_from_is_err_and}
-use Rattle.dcsctp_machine.specs.transfer.SendStreams.{Waiting, Stream, front_of}
+use Rattle.dcsctp_api.specs.types.queues.SendStreams.{Waiting, Stream, front_of}
 use Rattle.dcsctp_send_streams.specs.Telling.{contents, TellsFront}
-use Rattle.dcsctp_machine.specs.transfer.SendEvents.{expiry_events}
-use Rattle.dcsctp_machine.specs.transfer.Sending.{part_events}
+use Rattle.dcsctp_api.specs.spec.queues.SendEvents.{expiry_events}
+use Rattle.dcsctp_api.specs.spec.queues.Sending.{part_events}
 use Rattle.dcsctp_send_queue.proofs.FrontLemmas.{front_left, front_right}
 use Rattle.dcsctp_send_queue.specs.Backlog.{queue_of}
 use Rattle.dcsctp_send_queue.proofs.backlog.Backlog.drop_front.Goals as goal

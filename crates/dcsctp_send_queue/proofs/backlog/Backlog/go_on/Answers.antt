@@ -2,10 +2,10 @@ use Rattle.std.proofs.Common.{[], ◌++◌, append-nil, inr, refl, sym, rules, s
 use Rattle.std.proofs.lemmas.Result.{err_from_is_err_and}
 use Rattle.dcsctp_send_queue.proofs.FrontLemmas.{front_from}
 use Rattle.dcsctp_send_streams.specs.Telling.{contents}
-use Rattle.dcsctp_machine.specs.transfer.Sending.{none, produced_events}
+use Rattle.dcsctp_api.specs.spec.queues.Sending.{none, produced_events}
 use Rattle.dcsctp_send_queue.proofs.GoingOnLemmas.{can_go_on-produced, chosen_going}
 use Rattle.dcsctp_send_queue.proofs.FragmentLemmas.{has_size}
-use Rattle.dcsctp_machine.specs.transfer.SendQueue.{SendQueueState, CanGoOn}
+use Rattle.dcsctp_api.specs.spec.queues.SendQueue.{SendQueueState, CanGoOn}
 use Rattle.dcsctp_send_queue.specs.Backlog.{queue_of}
 use Rattle.dcsctp_send_queue.proofs.backlog.Backlog.go_on.Goals as goal
 

@@ -1,8 +1,8 @@
 use Rattle.std.proofs.Common.{◌+◌, ap, sym, subst, refl, ◌∙◌, List, get_or, arith}
-use Rattle.dcsctp_machine.specs.Ids.{stream_numbers}
-use Rattle.dcsctp_machine.specs.declared.ids.StreamId.{StreamId}
-use Rattle.dcsctp_machine.specs.transfer.SendStreams.{Stream, handed_out}
-use Rattle.dcsctp_machine.specs.transfer.SendQueue.{changed, SendQueueState, CanGoOn}
+use Rattle.dcsctp_api.specs.types.Ids.{stream_numbers}
+use Rattle.dcsctp_api.specs.types.declared.ids.StreamId.{StreamId}
+use Rattle.dcsctp_api.specs.types.queues.SendStreams.{Stream, handed_out}
+use Rattle.dcsctp_api.specs.spec.queues.SendQueue.{changed, SendQueueState, CanGoOn}
 use Rattle.dcsctp_send_queue.proofs.ReadyLemmas.{handing_out-step, handing_out-all, can_go_on-handing_out}
 use Rattle.dcsctp_send_queue.specs.Backlog.{queue_of}
 use Rattle.dcsctp_send_queue.proofs.backlog.Backlog.hand_out.Goals as goal

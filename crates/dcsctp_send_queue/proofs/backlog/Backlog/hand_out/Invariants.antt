@@ -1,6 +1,6 @@
 use Rattle.std.proofs.Common.{◌≡◌, take}
-use Rattle.dcsctp_machine.specs.Ids.{stream_numbers}
-use Rattle.dcsctp_machine.specs.transfer.OwnResets.{handing_out}
+use Rattle.dcsctp_api.specs.types.Ids.{stream_numbers}
+use Rattle.dcsctp_api.specs.spec.queues.OwnResets.{handing_out}
 use Rattle.dcsctp_send_queue.specs.Backlog.{queue_of}
 use Rattle.dcsctp_send_queue.proofs.backlog.Backlog.hand_out.Given as goal
 

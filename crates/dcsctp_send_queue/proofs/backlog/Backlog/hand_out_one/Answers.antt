@@ -1,5 +1,5 @@
 use Rattle.std.proofs.Common.{ap, sym, ◌∙◌, List}
-use Rattle.dcsctp_machine.specs.transfer.SendStreams.{Stream, handed_out}
+use Rattle.dcsctp_api.specs.types.queues.SendStreams.{Stream, handed_out}
 use Rattle.dcsctp_send_queue.proofs.QueueLemmas.{changed_at}
 use Rattle.dcsctp_send_queue.proofs.ReadyLemmas.{changed_lost}
 use Rattle.dcsctp_send_queue.specs.Backlog.{queue_of}

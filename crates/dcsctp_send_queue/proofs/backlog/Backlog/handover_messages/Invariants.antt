@@ -1,7 +1,7 @@
 use Rattle.std.proofs.Common.{◌≡◌, take, map}
 use Rattle.std.specs.List.{flat_map}
-use Rattle.dcsctp_machine.specs.SnapshotItems.{queued_part}
-use Rattle.dcsctp_machine.specs.transfer.QueuedParts.{messages_given}
+use Rattle.dcsctp_api.specs.types.SnapshotItems.{queued_part}
+use Rattle.dcsctp_api.specs.spec.queues.QueuedParts.{messages_given}
 use Rattle.dcsctp_send_queue.proofs.backlog.Backlog.handover_messages.Given as goal
 
 -- The messages of the streams so far.

@@ -1,5 +1,5 @@
 use Rattle.std.proofs.Common.{◌≡◌, take, map}
-use Rattle.dcsctp_machine.specs.transfer.QueuedParts.{stream_given}
+use Rattle.dcsctp_api.specs.spec.queues.QueuedParts.{stream_given}
 use Rattle.dcsctp_send_queue.proofs.backlog.Backlog.handover_streams.Given as goal
 
 -- The streams so far.

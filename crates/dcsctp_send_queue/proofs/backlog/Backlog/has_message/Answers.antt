@@ -1,5 +1,5 @@
 use Rattle.std.proofs.Common.{rules, ◌≡◌, is_some, sym, ap, ◌∙◌}
-use Rattle.dcsctp_machine.specs.transfer.SendStreams.{Stream, front_of}
+use Rattle.dcsctp_api.specs.types.queues.SendStreams.{Stream, front_of}
 use Rattle.dcsctp_send_queue.proofs.QueueLemmas.{found_in-at, found_in-none}
 use Rattle.dcsctp_send_queue.proofs.backlog.Backlog.has_message.Goals as goal
 

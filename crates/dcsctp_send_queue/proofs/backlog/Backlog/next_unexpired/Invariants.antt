@@ -1,5 +1,5 @@
 use Rattle.dcsctp_send_streams.specs.Telling.{contents}
-use Rattle.dcsctp_machine.specs.transfer.Sending.{DropsAll}
+use Rattle.dcsctp_api.specs.spec.queues.Sending.{DropsAll}
 use Rattle.dcsctp_send_queue.proofs.WaitingLemmas.{count_messages}
 use Rattle.dcsctp_send_queue.specs.Backlog.{queue_of}
 use Rattle.dcsctp_send_queue.proofs.backlog.Backlog.next_unexpired.Given as goal

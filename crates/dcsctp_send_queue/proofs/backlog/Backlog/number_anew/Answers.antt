@@ -1,6 +1,6 @@
 use Rattle.std.proofs.Common.{◌≡◌, ◌∙◌, ℕ, Bool, Some, set, ap}
-use Rattle.dcsctp_machine.specs.transfer.SendStreams.{Stream, next_numbers, counted, stream_at}
-use Rattle.dcsctp_machine.specs.transfer.SendQueue.{front_counted, is_front_unordered, SendQueueState}
+use Rattle.dcsctp_api.specs.types.queues.SendStreams.{Stream, next_numbers, counted, stream_at}
+use Rattle.dcsctp_api.specs.spec.queues.SendQueue.{front_counted, is_front_unordered, SendQueueState}
 use Rattle.dcsctp_send_queue.proofs.NumberingLemmas.{anew_at}
 use Rattle.dcsctp_send_queue.specs.Backlog.{queue_of}
 use Rattle.dcsctp_send_queue.proofs.backlog.Backlog.number_anew.Goals as goal

@@ -1,14 +1,14 @@
 use Rattle.std.proofs.Common.{◌≡◌, ◌∙◌, ◌-◌, ◌^◌, ◌++◌, ℕ, List, drop, min, ap, subst}
 use Rattle.std.proofs.lemmas.Result.{err_from_is_err_and}
-use Rattle.dcsctp_machine.specs.transfer.SendStreams.{Waiting, Stream, stream_at, size_of}
+use Rattle.dcsctp_api.specs.types.queues.SendStreams.{Waiting, Stream, stream_at, size_of}
 use Rattle.dcsctp_send_streams.specs.Telling.{contents, TellsFront}
-use Rattle.dcsctp_machine.specs.transfer.SendEvents.{expiries}
-use Rattle.dcsctp_machine.specs.transfer.Sending.{part_events}
-use Rattle.dcsctp_machine.specs.transfer.OwnResets.{count_under_way}
+use Rattle.dcsctp_api.specs.spec.queues.SendEvents.{expiries}
+use Rattle.dcsctp_api.specs.spec.queues.Sending.{part_events}
+use Rattle.dcsctp_api.specs.spec.queues.OwnResets.{count_under_way}
 use Rattle.dcsctp_send_queue.specs.Leaving.{not_begun, size_not_begun}
 use Rattle.dcsctp_send_queue.proofs.FrontLemmas.{front_left, front_right}
 use Rattle.dcsctp_send_queue.specs.Backlog.{queue_of}
-use Rattle.dcsctp_machine.specs.transfer.SendQueue.{SendQueueState}
+use Rattle.dcsctp_api.specs.spec.queues.SendQueue.{SendQueueState}
 use Rattle.dcsctp_send_queue.proofs.backlog.Backlog.pause.Goals as goal
 
 pub returns-in_err-tell_low-clause-front : goal.returns-in_err-tell_low-clause-front

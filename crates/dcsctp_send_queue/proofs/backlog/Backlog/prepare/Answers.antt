@@ -1,11 +1,11 @@
 use Rattle.std.proofs.Common.{ℕ, List, ◌++◌, ap, sym, subst, ◌∙◌, rules}
-use Rattle.dcsctp_machine.specs.Event.{Event}
+use Rattle.dcsctp_api.specs.spec.endpoint.Event.{Event}
 use Rattle.dcsctp_send_streams.specs.Telling.{contents, TellsFront}
-use Rattle.dcsctp_machine.specs.transfer.OwnResets.{is_open, prepared_in, prepare_events_in}
+use Rattle.dcsctp_api.specs.spec.queues.OwnResets.{is_open, prepared_in, prepare_events_in}
 use Rattle.dcsctp_send_queue.proofs.ResetLemmas.{on_ok_map, on_err_map, paused_is, open_is, closed_is, open_events, closed_events, can_go_on-after_pause}
 use Rattle.dcsctp_send_queue.proofs.QueueLemmas.{found_in-at}
 use Rattle.dcsctp_send_queue.specs.Backlog.{queue_of}
-use Rattle.dcsctp_machine.specs.transfer.SendQueue.{SendQueueState}
+use Rattle.dcsctp_api.specs.spec.queues.SendQueue.{SendQueueState}
 use Rattle.dcsctp_send_queue.proofs.backlog.Backlog.prepare.Goals as goal
 
 pub returns-in-Open-clause-ok : goal.returns-in-Open-clause-ok

@@ -1,6 +1,6 @@
 use Rattle.std.proofs.Common.{ap, ◌∙◌}
 use Rattle.std.specs.List.{insert}
-use Rattle.dcsctp_machine.specs.transfer.SendStreams.{with_message}
+use Rattle.dcsctp_api.specs.types.queues.SendStreams.{with_message}
 use Rattle.dcsctp_send_queue.proofs.GoingOnLemmas.{set-changed, insert-changed, can_go_on-insert}
 use Rattle.dcsctp_send_queue.specs.Backlog.{queue_of}
 use Rattle.dcsctp_send_queue.proofs.backlog.Backlog.put.Goals as goal

@@ -1,5 +1,5 @@
 use Rattle.std.proofs.Common.{◌∙◌}
-use Rattle.dcsctp_machine.specs.transfer.SendStreams.{raised}
+use Rattle.dcsctp_api.specs.types.queues.SendStreams.{raised}
 use Rattle.dcsctp_send_queue.proofs.ResetLemmas.{put_back_is}
 use Rattle.dcsctp_send_queue.proofs.QueueLemmas.{changed_at}
 use Rattle.dcsctp_send_queue.specs.Backlog.{queue_of}

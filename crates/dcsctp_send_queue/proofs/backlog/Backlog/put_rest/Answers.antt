@@ -1,6 +1,6 @@
 use Rattle.std.proofs.Common.{ap}
-use Rattle.dcsctp_machine.specs.transfer.QueuedParts.{with_rest}
-use Rattle.dcsctp_machine.specs.transfer.SendQueue.{SendQueueState, changed, used}
+use Rattle.dcsctp_api.specs.spec.queues.QueuedParts.{with_rest}
+use Rattle.dcsctp_api.specs.spec.queues.SendQueue.{SendQueueState, changed, used}
 use Rattle.dcsctp_send_queue.proofs.ResetLemmas.{change_used}
 use Rattle.dcsctp_send_queue.proofs.RestoringLemmas.{put_rest_is}
 use Rattle.dcsctp_send_queue.specs.Backlog.{queue_of}

@@ -1,5 +1,5 @@
 use Rattle.std.proofs.Common.{ap, sym, refl, ◌∙◌, arith}
-use Rattle.dcsctp_machine.specs.Ids.{stream_numbers}
+use Rattle.dcsctp_api.specs.types.Ids.{stream_numbers}
 use Rattle.dcsctp_send_queue.proofs.ReadyLemmas.{ready_pushed, ready_passed, ready_full, numbers-length}
 use Rattle.dcsctp_send_queue.proofs.backlog.Backlog.ready_ids.Goals as goal
 use Rattle.dcsctp_send_queue.proofs.backlog.Backlog.ready_ids.Goals.{then-len-max+then-is_ready+in_ok-push, else-len-max, else-len-max-via-then-len-max+else-is_ready, else-len-max-via-else-len-max}

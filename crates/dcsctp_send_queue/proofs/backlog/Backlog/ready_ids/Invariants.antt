@@ -1,5 +1,5 @@
 use Rattle.std.proofs.Common.{◌≡◌, take}
-use Rattle.dcsctp_machine.specs.Ids.{stream_numbers}
+use Rattle.dcsctp_api.specs.types.Ids.{stream_numbers}
 use Rattle.dcsctp_send_queue.proofs.ReadyLemmas.{ready_ids}
 use Rattle.dcsctp_send_queue.proofs.backlog.Backlog.ready_ids.Given as goal
 

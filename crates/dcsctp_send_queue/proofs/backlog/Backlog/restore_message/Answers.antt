@@ -1,6 +1,6 @@
 use Rattle.std.proofs.Common.{ap, sym, ◌∙◌}
-use Rattle.dcsctp_machine.specs.SnapshotItems.{queued_part}
-use Rattle.dcsctp_machine.specs.transfer.SendQueue.{SendQueueState}
+use Rattle.dcsctp_api.specs.types.SnapshotItems.{queued_part}
+use Rattle.dcsctp_api.specs.spec.queues.SendQueue.{SendQueueState}
 use Rattle.dcsctp_send_queue.proofs.RestoringLemmas.{restored_goes}
 use Rattle.dcsctp_send_queue.specs.Backlog.{queue_of}
 use Rattle.dcsctp_send_queue.proofs.backlog.Backlog.restore_message.Goals as goal

@@ -1,7 +1,7 @@
 use Rattle.std.proofs.Common.{◌≡◌, drop, map}
-use Rattle.dcsctp_machine.specs.SnapshotItems.{queued_part}
-use Rattle.dcsctp_machine.specs.transfer.SendQueue.{CanGoOn}
-use Rattle.dcsctp_machine.specs.transfer.QueuedParts.{messages_restored}
+use Rattle.dcsctp_api.specs.types.SnapshotItems.{queued_part}
+use Rattle.dcsctp_api.specs.spec.queues.SendQueue.{CanGoOn}
+use Rattle.dcsctp_api.specs.spec.queues.QueuedParts.{messages_restored}
 use Rattle.dcsctp_send_queue.specs.Backlog.{queue_of}
 use Rattle.dcsctp_send_queue.proofs.backlog.Backlog.restore_messages.Given as goal
 

@@ -1,4 +1,4 @@
-use Rattle.dcsctp_machine.specs.transfer.QueuedParts.{stream_restored}
+use Rattle.dcsctp_api.specs.spec.queues.QueuedParts.{stream_restored}
 use Rattle.dcsctp_send_queue.proofs.ResetLemmas.{change_used}
 use Rattle.dcsctp_send_queue.specs.Backlog.{queue_of}
 use Rattle.dcsctp_send_queue.proofs.backlog.Backlog.restore_stream.Goals as goal

@@ -1,6 +1,6 @@
 use Rattle.std.proofs.Common.{◌≡◌, drop}
-use Rattle.dcsctp_machine.specs.transfer.SendQueue.{CanGoOn}
-use Rattle.dcsctp_machine.specs.transfer.QueuedParts.{streams_restored}
+use Rattle.dcsctp_api.specs.spec.queues.SendQueue.{CanGoOn}
+use Rattle.dcsctp_api.specs.spec.queues.QueuedParts.{streams_restored}
 use Rattle.dcsctp_send_queue.specs.Backlog.{queue_of}
 use Rattle.dcsctp_send_queue.proofs.backlog.Backlog.restore_streams.Given as goal
 

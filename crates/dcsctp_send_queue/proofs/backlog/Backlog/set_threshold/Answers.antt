@@ -1,4 +1,4 @@
-use Rattle.dcsctp_machine.specs.transfer.SendQueue.{with_threshold}
+use Rattle.dcsctp_api.specs.spec.queues.SendQueue.{with_threshold}
 use Rattle.dcsctp_send_queue.proofs.ResetLemmas.{change_used}
 use Rattle.dcsctp_send_queue.specs.Backlog.{queue_of}
 use Rattle.dcsctp_send_queue.proofs.backlog.Backlog.set_threshold.Goals as goal

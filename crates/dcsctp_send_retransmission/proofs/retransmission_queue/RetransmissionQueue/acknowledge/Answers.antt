@@ -1,9 +1,9 @@
 use Rattle.std.proofs.Common.{◌≡◌, ◌∙◌, ◌==◌, nat_lt, nat_le, length, ap, refl, arith}
-use Rattle.dcsctp_machine.specs.declared.progress.Change.TheVariants.{Acknowledge}
-use Rattle.dcsctp_machine.specs.transfer.Outstanding.{OutstandingState}
-use Rattle.dcsctp_machine.specs.declared.congestion.Acknowledged.{Acknowledged}
-use Rattle.dcsctp_machine.specs.transfer.Retransmission.{RetransmissionState, with_items}
-use Rattle.dcsctp_machine.specs.transfer.Acknowledging.{covered, missed_until, without_first, acknowledgement}
+use Rattle.dcsctp_api.specs.types.declared.progress.Change.TheVariants.{Acknowledge}
+use Rattle.dcsctp_api.specs.spec.queues.Outstanding.{OutstandingState}
+use Rattle.dcsctp_api.specs.types.declared.congestion.Acknowledged.{Acknowledged}
+use Rattle.dcsctp_api.specs.spec.queues.Retransmission.{RetransmissionState, with_items}
+use Rattle.dcsctp_api.specs.spec.queues.Acknowledging.{covered, missed_until, without_first, acknowledgement}
 use Rattle.dcsctp_send_outstanding.proofs.ItemsLemmas.{length-changed_between, length-reported}
 use Rattle.dcsctp_send_retransmission.proofs.QueueLemmas.{length-missed_until, acknowledged_is}
 use Rattle.dcsctp_send_retransmission.proofs.retransmission_queue.RetransmissionQueue.acknowledge.Goals as goal

@@ -1,6 +1,6 @@
 use Rattle.std.proofs.Common.{◌≡◌, Some, slice_get, ap, sym}
-use Rattle.dcsctp_machine.specs.transfer.Items.{Item}
-use Rattle.dcsctp_machine.specs.transfer.Outstanding.{distance_to}
+use Rattle.dcsctp_api.specs.spec.queues.Items.{Item}
+use Rattle.dcsctp_api.specs.spec.queues.Outstanding.{distance_to}
 use Rattle.dcsctp_send_retransmission.proofs.retransmission_queue.RetransmissionQueue.chunk.Goals as goal
 
 pub returns-then-place-len-clause-found : goal.returns-then-place-len-clause-found

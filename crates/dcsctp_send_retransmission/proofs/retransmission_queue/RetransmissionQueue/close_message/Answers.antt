@@ -1,7 +1,7 @@
 use Rattle.std.proofs.Common.{◌≡◌, ◌+◌, ◌<◌, ◌^◌, false, length, refl, ap, sym, ◌∙◌}
 use Rattle.dcsctp_send_streams.specs.Telling.{contents}
-use Rattle.dcsctp_machine.specs.transfer.Sending.{Fragment}
-use Rattle.dcsctp_machine.specs.transfer.Items.{Item}
+use Rattle.dcsctp_api.specs.spec.queues.Sending.{Fragment}
+use Rattle.dcsctp_api.specs.spec.queues.Items.{Item}
 use Rattle.dcsctp_send_retransmission.proofs.StatesLemmas.{same_at, on_ok_map, on_err_map, closes_rest, refuses_rest}
 use Rattle.dcsctp_send_retransmission.proofs.retransmission_queue.RetransmissionQueue.close_message.Goals as goal
 

@@ -1,10 +1,10 @@
 use Rattle.std.proofs.Common.{inl, subst, ◌≡◌, ◌∙◌, ℕ, List, length, ap, sym, refl, arith}
-use Rattle.dcsctp_machine.specs.transfer.Items.{marked_items}
-use Rattle.dcsctp_machine.specs.transfer.Retransmission.{RetransmissionState}
-use Rattle.dcsctp_machine.specs.transfer.Outstanding.{OutstandingState}
+use Rattle.dcsctp_api.specs.spec.queues.Items.{marked_items}
+use Rattle.dcsctp_api.specs.spec.queues.Retransmission.{RetransmissionState}
+use Rattle.dcsctp_api.specs.spec.queues.Outstanding.{OutstandingState}
 use Rattle.std.proofs.lemmas.Result.{err_from_is_err_and}
 use Rattle.dcsctp_send_retransmission.specs.States.{stage, Goes}
-use Rattle.dcsctp_machine.specs.transfer.Filling.{Stage, StepNew, none, counting}
+use Rattle.dcsctp_api.specs.spec.queues.Filling.{Stage, StepNew, none, counting}
 use Rattle.dcsctp_send_retransmission.proofs.StatesLemmas.{goes_filling}
 use Rattle.dcsctp_send_retransmission.proofs.FreshLemmas.{fresh_none, ends_fresh, ends_fresh_ok}
 use Rattle.dcsctp_send_retransmission.proofs.HaltingLemmas.{halts_counted, halts_marked, halts_new}

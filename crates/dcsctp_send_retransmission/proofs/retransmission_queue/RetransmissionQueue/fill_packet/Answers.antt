@@ -1,7 +1,7 @@
 use Rattle.std.proofs.Common.{ℕ, List, [], subst, refl}
 use Rattle.std.proofs.lemmas.Result.{err_from_is_err_and}
 use Rattle.dcsctp_send_retransmission.specs.States.{stage, StopsFilling}
-use Rattle.dcsctp_machine.specs.transfer.Filling.{FillsStage}
+use Rattle.dcsctp_api.specs.spec.queues.Filling.{FillsStage}
 use Rattle.dcsctp_send_retransmission.proofs.StatesLemmas.{stops_filling_any}
 use Rattle.dcsctp_send_retransmission.proofs.HaltingLemmas.{fills_up}
 use Rattle.dcsctp_send_retransmission.proofs.retransmission_queue.RetransmissionQueue.fill_packet.Goals as goal

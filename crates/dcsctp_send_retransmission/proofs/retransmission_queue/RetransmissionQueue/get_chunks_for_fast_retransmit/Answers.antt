@@ -1,10 +1,10 @@
 use Rattle.std.proofs.Common.{◌≡◌, ◌∙◌, ℕ, List, [], false, ap, sym, subst, refl}
 use Rattle.std.proofs.lemmas.Result.{err_from_is_err_and}
-use Rattle.dcsctp_machine.specs.transfer.Outstanding.{OutstandingState}
-use Rattle.dcsctp_machine.specs.transfer.Retransmission.{RetransmissionState}
+use Rattle.dcsctp_api.specs.spec.queues.Outstanding.{OutstandingState}
+use Rattle.dcsctp_api.specs.spec.queues.Retransmission.{RetransmissionState}
 use Rattle.dcsctp_send_retransmission.specs.Sending.{HandsOut}
 use Rattle.dcsctp_send_retransmission.specs.States.{stage, Stops}
-use Rattle.dcsctp_machine.specs.transfer.Filling.{SendsMarked, Steps}
+use Rattle.dcsctp_api.specs.spec.queues.Filling.{SendsMarked, Steps}
 use Rattle.dcsctp_send_retransmission.proofs.SendingLemmas.{fills_hand_out, counted_outstanding}
 use Rattle.dcsctp_send_retransmission.proofs.StatesLemmas.{stops_any}
 use Rattle.dcsctp_send_retransmission.proofs.retransmission_queue.RetransmissionQueue.get_chunks_for_fast_retransmit.Goals as goal

@@ -1,4 +1,4 @@
-use Rattle.dcsctp_machine.specs.transfer.Retransmission.{timer_with}
+use Rattle.dcsctp_api.specs.spec.queues.Retransmission.{timer_with}
 use Rattle.dcsctp_send_retransmission.proofs.HaltingLemmas.{fills_up_timed}
 use Rattle.dcsctp_send_retransmission.proofs.retransmission_queue.RetransmissionQueue.get_chunks_to_send.Goals as goal
 

@@ -1,6 +1,6 @@
 use Rattle.std.proofs.Common.{◌≡◌, ◌+◌, ◌-◌, refl, arith}
 use Rattle.std.proofs.lemmas.Result.{err_from_is_err_and}
-use Rattle.dcsctp_machine.specs.transfer.ItemMessages.{IsMessage}
+use Rattle.dcsctp_api.specs.spec.queues.ItemMessages.{IsMessage}
 use Rattle.dcsctp_send_retransmission.specs.States.{stage}
 use Rattle.dcsctp_send_retransmission.proofs.StatesLemmas.{found}
 use Rattle.dcsctp_send_retransmission.proofs.retransmission_queue.RetransmissionQueue.give_up.Goals as goal

@@ -1,8 +1,8 @@
 use Rattle.std.proofs.Common.{[], ◌∙◌, ◌<◌, length, refl, ap, sym, arith}
 use Rattle.std.proofs.lemmas.Result.{err_from_is_err_and}
-use Rattle.dcsctp_machine.specs.transfer.Retransmission.{RetransmissionState}
+use Rattle.dcsctp_api.specs.spec.queues.Retransmission.{RetransmissionState}
 use Rattle.dcsctp_send_retransmission.specs.States.{stage}
-use Rattle.dcsctp_machine.specs.transfer.NextItem.{is_due}
+use Rattle.dcsctp_api.specs.spec.queues.NextItem.{is_due}
 use Rattle.dcsctp_send_retransmission.proofs.StatesLemmas.{found}
 use Rattle.dcsctp_send_retransmission.proofs.GivingUpLemmas.{if_grows, scans_none, scans_at, scans_stop, scans_on, scanned_to}
 use Rattle.dcsctp_send_retransmission.proofs.retransmission_queue.RetransmissionQueue.give_up_first.Goals as goal

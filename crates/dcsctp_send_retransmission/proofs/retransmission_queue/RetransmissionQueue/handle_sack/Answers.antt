@@ -1,10 +1,10 @@
 use Rattle.std.specs.Prelude.{Option, ℕ}
 use Rattle.std.specs.Option.{option_map}
 use Rattle.std.proofs.Common.{subst, ◌≡◌, ◌≤◌, nat_lt, ◌∙◌, length, ap, refl, arith}
-use Rattle.dcsctp_machine.specs.transfer.Outstanding.{acknowledged_by, tsn_at}
-use Rattle.dcsctp_machine.specs.transfer.Reports.{MissesUntil}
-use Rattle.dcsctp_machine.specs.transfer.Acknowledging.{is_recovering, AcknowledgesItems, has_acknowledged, exiting, acknowledged_until, settled_at}
-use Rattle.dcsctp_machine.specs.transfer.Retransmission.{RetransmissionState}
+use Rattle.dcsctp_api.specs.spec.queues.Outstanding.{acknowledged_by, tsn_at}
+use Rattle.dcsctp_api.specs.spec.queues.Reports.{MissesUntil}
+use Rattle.dcsctp_api.specs.spec.queues.Acknowledging.{is_recovering, AcknowledgesItems, has_acknowledged, exiting, acknowledged_until, settled_at}
+use Rattle.dcsctp_api.specs.spec.queues.Retransmission.{RetransmissionState}
 use Rattle.dcsctp_send_retransmission.proofs.AnswerLemmas.{sack_answers}
 use Rattle.dcsctp_send_retransmission.proofs.retransmission_queue.RetransmissionQueue.handle_sack.Goals as goal
 

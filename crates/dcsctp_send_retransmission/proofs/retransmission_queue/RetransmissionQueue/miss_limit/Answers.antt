@@ -1,5 +1,5 @@
 use Rattle.std.proofs.Common.{◌≡◌, ◌∙◌, true, false, sym}
-use Rattle.dcsctp_machine.specs.transfer.Acknowledging.{is_recovering}
+use Rattle.dcsctp_api.specs.spec.queues.Acknowledging.{is_recovering}
 use Rattle.dcsctp_send_outstanding.proofs.ReportLemmas.{misses_until}
 use Rattle.dcsctp_send_retransmission.proofs.retransmission_queue.RetransmissionQueue.miss_limit.Goals as goal
 

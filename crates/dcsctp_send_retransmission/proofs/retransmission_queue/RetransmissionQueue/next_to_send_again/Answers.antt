@@ -1,9 +1,9 @@
 use Rattle.std.proofs.Common.{◌∙◌, sym, ap, inl, inr, arith}
 use Rattle.std.proofs.lemmas.Result.{err_from_is_err_and}
-use Rattle.dcsctp_machine.specs.transfer.Items.{marked_items}
-use Rattle.dcsctp_machine.specs.transfer.Retransmission.{RetransmissionState}
+use Rattle.dcsctp_api.specs.spec.queues.Items.{marked_items}
+use Rattle.dcsctp_api.specs.spec.queues.Retransmission.{RetransmissionState}
 use Rattle.dcsctp_send_retransmission.specs.States.{stage}
-use Rattle.dcsctp_machine.specs.transfer.Filling.{none, more}
+use Rattle.dcsctp_api.specs.spec.queues.Filling.{none, more}
 use Rattle.dcsctp_send_retransmission.proofs.HaltingLemmas.{gives_up_fewer}
 use Rattle.dcsctp_send_retransmission.proofs.SendingLemmas.{keeps_refl, keeps_trans, gives_up_keeps}
 use Rattle.dcsctp_send_retransmission.proofs.retransmission_queue.RetransmissionQueue.next_to_send_again.Goals as goal

@@ -1,8 +1,8 @@
 use Rattle.std.proofs.Common.{◌≤◌, ℕ, List}
-use Rattle.dcsctp_machine.specs.transfer.Items.{marked_items}
+use Rattle.dcsctp_api.specs.spec.queues.Items.{marked_items}
 use Rattle.dcsctp_send_retransmission.specs.Sending.{Keeps}
 use Rattle.dcsctp_send_retransmission.specs.States.{stage}
-use Rattle.dcsctp_machine.specs.transfer.Filling.{Steps, StepAgain}
+use Rattle.dcsctp_api.specs.spec.queues.Filling.{Steps, StepAgain}
 use Rattle.dcsctp_send_retransmission.proofs.retransmission_queue.RetransmissionQueue.next_to_send_again.Given as goal
 
 abbrev pub invariant-loop-place : goal.invariant-loop-place

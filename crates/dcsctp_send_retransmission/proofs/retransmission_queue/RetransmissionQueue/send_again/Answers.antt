@@ -2,7 +2,7 @@ use Rattle.std.proofs.Common.{arith}
 use Rattle.dcsctp_send_retransmission.proofs.SendingLemmas.{keeps_refl, fills_none, fills_trans}
 use Rattle.dcsctp_send_retransmission.proofs.StatesLemmas.{steps_trans, stops_trans}
 use Rattle.dcsctp_send_retransmission.specs.States.{stage}
-use Rattle.dcsctp_machine.specs.transfer.Filling.{StepAgain, none}
+use Rattle.dcsctp_api.specs.spec.queues.Filling.{StepAgain, none}
 use Rattle.std.proofs.lemmas.Result.{err_from_is_err_and}
 use Rattle.dcsctp_send_retransmission.proofs.retransmission_queue.RetransmissionQueue.send_again.Goals as goal
 

@@ -1,8 +1,8 @@
 use Rattle.std.proofs.Common.{◌≤◌, ◌+◌, length}
-use Rattle.dcsctp_machine.specs.transfer.Items.{marked_items}
+use Rattle.dcsctp_api.specs.spec.queues.Items.{marked_items}
 use Rattle.dcsctp_send_retransmission.specs.Sending.{Fills}
 use Rattle.dcsctp_send_retransmission.specs.States.{stage}
-use Rattle.dcsctp_machine.specs.transfer.Filling.{StepAgain, Steps}
+use Rattle.dcsctp_api.specs.spec.queues.Filling.{StepAgain, Steps}
 use Rattle.dcsctp_send_retransmission.proofs.retransmission_queue.RetransmissionQueue.send_again.Given as goal
 
 abbrev pub invariant-loop-now : goal.invariant-loop-now

@@ -1,8 +1,8 @@
 use Rattle.std.proofs.Common.{◌≡◌, Bool, ◌+◌, ◌-◌, refl, ap, ◌∙◌, arith}
-use Rattle.dcsctp_machine.specs.declared.progress.Change.TheVariants.{SendAgain}
-use Rattle.dcsctp_machine.specs.transfer.Items.{size_of}
-use Rattle.dcsctp_machine.specs.transfer.Outstanding.{header, header_of}
-use Rattle.dcsctp_machine.specs.transfer.Retransmission.{RetransmissionState}
+use Rattle.dcsctp_api.specs.types.declared.progress.Change.TheVariants.{SendAgain}
+use Rattle.dcsctp_api.specs.spec.queues.Items.{size_of}
+use Rattle.dcsctp_api.specs.spec.queues.Outstanding.{header, header_of}
+use Rattle.dcsctp_api.specs.spec.queues.Retransmission.{RetransmissionState}
 use Rattle.dcsctp_send_retransmission.specs.declared.packet.Packet.{Packet}
 use Rattle.dcsctp_send_retransmission.specs.Sending.{Keeps}
 use Rattle.dcsctp_send_retransmission.proofs.SendingLemmas.{keeps_refl, fills_same, keeps_with, fragments_changed, filled_kept, filled_more}

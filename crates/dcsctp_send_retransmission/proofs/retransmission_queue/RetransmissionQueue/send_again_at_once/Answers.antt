@@ -1,9 +1,9 @@
 use Rattle.std.proofs.Common.{◌∙◌, true, Ok, sym, refl, ap, inl, inr, arith}
 use Rattle.std.proofs.lemmas.Result.{err_from_is_err_and}
-use Rattle.dcsctp_machine.specs.transfer.Items.{marked_items}
-use Rattle.dcsctp_machine.specs.transfer.Retransmission.{RetransmissionState}
+use Rattle.dcsctp_api.specs.spec.queues.Items.{marked_items}
+use Rattle.dcsctp_api.specs.spec.queues.Retransmission.{RetransmissionState}
 use Rattle.dcsctp_send_retransmission.specs.States.{stage}
-use Rattle.dcsctp_machine.specs.transfer.Filling.{SendsMarked, none}
+use Rattle.dcsctp_api.specs.spec.queues.Filling.{SendsMarked, none}
 use Rattle.dcsctp_send_retransmission.proofs.HaltingLemmas.{goes_again, waits_for_room}
 use Rattle.dcsctp_send_retransmission.proofs.SendingLemmas.{fills_none, fills_trans, keeps_refl}
 use Rattle.dcsctp_send_retransmission.proofs.StatesLemmas.{goes_at, sends_first_here, sends_first_later}

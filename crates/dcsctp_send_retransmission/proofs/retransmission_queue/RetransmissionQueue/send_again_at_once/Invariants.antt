@@ -1,11 +1,11 @@
 use Rattle.std.proofs.Common.{List}
 use Rattle.dcsctp_api.specs.declared.events.SocketEvent.{SocketEvent}
-use Rattle.dcsctp_machine.specs.transfer.SendQueue.{SendQueueState}
-use Rattle.dcsctp_machine.specs.transfer.Items.{marked_items}
+use Rattle.dcsctp_api.specs.spec.queues.SendQueue.{SendQueueState}
+use Rattle.dcsctp_api.specs.spec.queues.Items.{marked_items}
 use Rattle.dcsctp_send_retransmission.specs.Sending.{Fills}
 use Rattle.dcsctp_send_retransmission.specs.States.{stage}
-use Rattle.dcsctp_machine.specs.transfer.Filling.{SendsMarked, Steps}
-use Rattle.dcsctp_machine.specs.transfer.AtOnce.{SendsFirst}
+use Rattle.dcsctp_api.specs.spec.queues.Filling.{SendsMarked, Steps}
+use Rattle.dcsctp_api.specs.spec.queues.AtOnce.{SendsFirst}
 use Rattle.dcsctp_send_retransmission.proofs.retransmission_queue.RetransmissionQueue.send_again_at_once.Given as goal
 
 abbrev pub invariant-loop-place : goal.invariant-loop-place

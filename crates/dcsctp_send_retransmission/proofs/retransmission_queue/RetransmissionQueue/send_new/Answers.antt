@@ -1,7 +1,7 @@
 use Rattle.std.proofs.Common.{sym, ◌∙◌, refl}
 use Rattle.std.proofs.lemmas.Result.{err_from_is_err_and}
 use Rattle.dcsctp_send_retransmission.specs.States.{stage}
-use Rattle.dcsctp_machine.specs.transfer.Filling.{StepNew, none}
+use Rattle.dcsctp_api.specs.spec.queues.Filling.{StepNew, none}
 use Rattle.dcsctp_send_retransmission.proofs.StatesLemmas.{steps_trans, stops_trans}
 use Rattle.dcsctp_send_retransmission.proofs.FreshLemmas.{fresh_none, fresh_trans}
 use Rattle.dcsctp_send_retransmission.proofs.SendingLemmas.{fills_trans, fills_none, keeps_refl}

@@ -1,9 +1,9 @@
 use Rattle.std.proofs.Common.{◌≡◌}
-use Rattle.dcsctp_machine.specs.transfer.Items.{marked_items}
+use Rattle.dcsctp_api.specs.spec.queues.Items.{marked_items}
 use Rattle.dcsctp_send_outstanding.specs.Fresh.{SendsFresh}
 use Rattle.dcsctp_send_retransmission.specs.Sending.{Fills}
 use Rattle.dcsctp_send_retransmission.specs.States.{stage}
-use Rattle.dcsctp_machine.specs.transfer.Filling.{StepNew, Steps}
+use Rattle.dcsctp_api.specs.spec.queues.Filling.{StepNew, Steps}
 use Rattle.dcsctp_send_retransmission.proofs.retransmission_queue.RetransmissionQueue.send_new.Given as goal
 
 abbrev pub invariant-loop-now : goal.invariant-loop-now

@@ -1,8 +1,8 @@
 use Rattle.std.proofs.Common.{inl, inr, ap, sym, ◌∙◌}
 use Rattle.std.proofs.lemmas.Result.{err_from_is_err_and}
-use Rattle.dcsctp_machine.specs.transfer.Retransmission.{can_send}
+use Rattle.dcsctp_api.specs.spec.queues.Retransmission.{can_send}
 use Rattle.dcsctp_send_retransmission.specs.States.{stage}
-use Rattle.dcsctp_machine.specs.transfer.Filling.{StepAgain}
+use Rattle.dcsctp_api.specs.spec.queues.Filling.{StepAgain}
 use Rattle.dcsctp_send_retransmission.proofs.StatesLemmas.{goes_at}
 use Rattle.dcsctp_send_retransmission.proofs.SendingLemmas.{fills_trans, fills_none}
 use Rattle.dcsctp_send_retransmission.proofs.HaltingLemmas.{goes_again}

@@ -1,14 +1,14 @@
 use Rattle.std.proofs.Common.{ℕ, inl, inr, ◌≡◌, ◌+◌, ◌-◌, ◌*◌, ◌/◌, ◌^◌, ◌<◌, min, length, [], ◌∷◌, ◌++◌, ap, ◌∙◌, false, refl, sym, subst}
 use Rattle.dcsctp_send_retransmission.specs.declared.packet.Packet.{Packet}
-use Rattle.dcsctp_machine.specs.transfer.Retransmission.{RetransmissionState}
+use Rattle.dcsctp_api.specs.spec.queues.Retransmission.{RetransmissionState}
 use Rattle.dcsctp_send_retransmission.specs.Sending.{Keeps, Fills}
-use Rattle.dcsctp_machine.specs.transfer.Outstanding.{OutstandingState, header}
+use Rattle.dcsctp_api.specs.spec.queues.Outstanding.{OutstandingState, header}
 use Rattle.dcsctp_send_outstanding.specs.Fresh.{SendsFresh}
 use Rattle.dcsctp_send_queue.specs.Calls.{StopsTaking}
 use Rattle.dcsctp_send_streams.specs.Telling.{contents}
 use Rattle.std.proofs.lemmas.Result.{err_from_is_err_and}
 use Rattle.dcsctp_send_retransmission.specs.States.{stage}
-use Rattle.dcsctp_machine.specs.transfer.Filling.{none, more}
+use Rattle.dcsctp_api.specs.spec.queues.Filling.{none, more}
 use Rattle.dcsctp_send_retransmission.proofs.StatesLemmas.{sends_new, may_add}
 use Rattle.dcsctp_send_retransmission.proofs.FreshLemmas.{fresh_none, fresh_one}
 use Rattle.dcsctp_send_retransmission.proofs.SendingLemmas.{keeps_refl, fills_same, with_outstanding, sends_fills}

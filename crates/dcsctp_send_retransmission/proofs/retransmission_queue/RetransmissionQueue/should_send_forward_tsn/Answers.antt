@@ -1,4 +1,4 @@
-use Rattle.dcsctp_machine.specs.transfer.Filling.{none}
+use Rattle.dcsctp_api.specs.spec.queues.Filling.{none}
 use Rattle.dcsctp_send_retransmission.proofs.GivingUpLemmas.{none_due_without}
 use Rattle.dcsctp_send_retransmission.proofs.retransmission_queue.RetransmissionQueue.should_send_forward_tsn.Goals as goal
 

@@ -1,6 +1,6 @@
 use Rattle.std.proofs.Common.{ℕ, Bool, ◌∙◌, ◌<◌, length, ap, sym, subst, arith, List}
 use Rattle.dcsctp_send_retransmission.specs.declared.retransmission_queue.forwarding.LastNumbers.{LastNumbers}
-use Rattle.dcsctp_machine.specs.transfer.Retransmission.{RetransmissionState}
+use Rattle.dcsctp_api.specs.spec.queues.Retransmission.{RetransmissionState}
 use Rattle.dcsctp_send_retransmission.specs.Skipping.{Skips}
 use Rattle.dcsctp_send_outstanding.proofs.ReportLemmas.{has_item}
 use Rattle.dcsctp_send_retransmission.proofs.SkippingLemmas.{stops_here, stops_full}

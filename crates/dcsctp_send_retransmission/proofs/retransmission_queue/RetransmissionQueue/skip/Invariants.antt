@@ -1,7 +1,7 @@
 use Rattle.std.proofs.Common.{◌≡◌, ℕ, ◌<◌, true, Some, take}
 use Rattle.std.specs.List.{slice_get}
-use Rattle.dcsctp_machine.specs.transfer.Items.{Item}
-use Rattle.dcsctp_machine.specs.transfer.Skipping.{goes_on}
+use Rattle.dcsctp_api.specs.spec.queues.Items.{Item}
+use Rattle.dcsctp_api.specs.spec.queues.Skipping.{goes_on}
 use Rattle.dcsctp_send_retransmission.specs.Skipping.{Collects}
 use Rattle.dcsctp_send_retransmission.proofs.retransmission_queue.RetransmissionQueue.skip.Given as goal
 

@@ -2,9 +2,9 @@ use Rattle.std.proofs.Common.{is_some, ◌⊎◌, ◌<◌, ◌≡◌, ◌∙◌,
 use Rattle.std.specs.List.{slice_get}
 use Rattle.std.specs.Map.{lookup}
 use Rattle.std.specs.BTreeMap.{is_at}
-use Rattle.dcsctp_machine.specs.transfer.Sending.{Fragment}
-use Rattle.dcsctp_machine.specs.transfer.Items.{Item}
-use Rattle.dcsctp_machine.specs.transfer.Skipping.{is_listed, LacksRoom}
+use Rattle.dcsctp_api.specs.spec.queues.Sending.{Fragment}
+use Rattle.dcsctp_api.specs.spec.queues.Items.{Item}
+use Rattle.dcsctp_api.specs.spec.queues.Skipping.{is_listed, LacksRoom}
 use Rattle.dcsctp_send_retransmission.specs.Skipping.{limit_of}
 use Rattle.dcsctp_send_retransmission.specs.declared.retransmission_queue.forwarding.LastNumbers.{LastNumbers}
 use Rattle.dcsctp_send_retransmission.proofs.SkippingLemmas.{key_cmp, take_more, collects_skipped, collects_taken, lacks_room, fits_after}

@@ -1,6 +1,6 @@
 use Rattle.std.proofs.Common.{◌≡◌, ◌++◌, take}
 use Rattle.dcsctp_send_streams.specs.Telling.{contents}
-use Rattle.dcsctp_machine.specs.transfer.Acknowledging.{delivered}
+use Rattle.dcsctp_api.specs.spec.queues.Acknowledging.{delivered}
 use Rattle.dcsctp_send_retransmission.proofs.retransmission_queue.RetransmissionQueue.tell_delivered.Given as goal
 
 abbrev pub invariant-loop-place : goal.invariant-loop-place

@@ -1,6 +1,6 @@
 use Rattle.std.proofs.Common.{◌≡◌, take, map}
-use Rattle.dcsctp_machine.specs.SnapshotItems.{queued_part}
-use Rattle.dcsctp_machine.specs.transfer.QueuedParts.{whole_message}
+use Rattle.dcsctp_api.specs.types.SnapshotItems.{queued_part}
+use Rattle.dcsctp_api.specs.spec.queues.QueuedParts.{whole_message}
 use Rattle.dcsctp_send_streams.proofs.stream.OutgoingStream.handover_messages.Given as goal
 
 -- The messages so far.

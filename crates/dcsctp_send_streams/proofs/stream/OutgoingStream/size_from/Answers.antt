@@ -1,5 +1,5 @@
 use Rattle.std.proofs.Common.{◌≡◌, ◌-◌, ◌^◌, min, drop, ap, ◌∙◌, arith}
-use Rattle.dcsctp_machine.specs.transfer.SendStreams.{size_of}
+use Rattle.dcsctp_api.specs.types.queues.SendStreams.{size_of}
 use Rattle.std.proofs.lemmas.List.{drop_all}
 use Rattle.dcsctp_send_streams.proofs.stream.OutgoingStream.size_from.Goals as goal
 

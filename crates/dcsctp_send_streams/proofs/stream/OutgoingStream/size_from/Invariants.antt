@@ -1,5 +1,5 @@
 use Rattle.std.proofs.Common.{◌≡◌, ◌+◌, ◌-◌, ◌^◌, ◌<◌, min, drop}
-use Rattle.dcsctp_machine.specs.transfer.SendStreams.{size_of}
+use Rattle.dcsctp_api.specs.types.queues.SendStreams.{size_of}
 use Rattle.dcsctp_send_streams.proofs.stream.OutgoingStream.size_from.Given as goal
 
 abbrev pub invariant-loop-place : goal.invariant-loop-place

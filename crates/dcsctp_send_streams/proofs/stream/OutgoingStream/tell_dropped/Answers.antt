@@ -1,10 +1,10 @@
 use Rattle.std.proofs.Common.{◌≡◌, ◌∙◌, ◌<◌, ◌+◌, ◌++◌, ℕ, List, drop, length, ap, sym, arith}
 use Rattle.std.proofs.lemmas.List.{at_drop_more}
 use Rattle.std.proofs.lemmas.Result.{err_from_is_err_and}
-use Rattle.dcsctp_machine.specs.Event.{Event}
-use Rattle.dcsctp_machine.specs.transfer.SendStreams.{Waiting}
+use Rattle.dcsctp_api.specs.spec.endpoint.Event.{Event}
+use Rattle.dcsctp_api.specs.types.queues.SendStreams.{Waiting}
 use Rattle.dcsctp_send_streams.specs.Telling.{contents}
-use Rattle.dcsctp_machine.specs.transfer.SendEvents.{expiry_events, expiries}
+use Rattle.dcsctp_api.specs.spec.queues.SendEvents.{expiry_events, expiries}
 use Rattle.dcsctp_send_streams.proofs.TellingLemmas.{front_within}
 use Rattle.dcsctp_send_streams.proofs.stream.OutgoingStream.tell_dropped.Goals as goal
 

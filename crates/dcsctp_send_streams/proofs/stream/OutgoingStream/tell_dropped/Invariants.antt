@@ -1,7 +1,7 @@
 use Rattle.std.proofs.Common.{◌≡◌, ℕ, List, ◌++◌, drop}
-use Rattle.dcsctp_machine.specs.Event.{Event}
+use Rattle.dcsctp_api.specs.spec.endpoint.Event.{Event}
 use Rattle.dcsctp_send_streams.specs.Telling.{contents}
-use Rattle.dcsctp_machine.specs.transfer.SendEvents.{expiries}
+use Rattle.dcsctp_api.specs.spec.queues.SendEvents.{expiries}
 use Rattle.dcsctp_send_streams.proofs.stream.OutgoingStream.tell_dropped.Given as goal
 
 abbrev pub invariant-loop-place : goal.invariant-loop-place

@@ -1,5 +1,5 @@
 use Rattle.std.proofs.Common.{◌≡◌}
-use Rattle.dcsctp_machine.specs.transfer.SendStreams.{begun_anew}
+use Rattle.dcsctp_api.specs.types.queues.SendStreams.{begun_anew}
 use Rattle.dcsctp_send_streams.proofs.Mapped.{mapped_to}
 use Rattle.dcsctp_send_streams.proofs.streams.Streams.begin_all_anew.Given as goal
 

@@ -1,5 +1,5 @@
 use Rattle.std.proofs.Common.{set, ap, sym, ◌∙◌, arith}
-use Rattle.dcsctp_machine.specs.transfer.SendStreams.{committed, stream_at}
+use Rattle.dcsctp_api.specs.types.queues.SendStreams.{committed, stream_at}
 use Rattle.dcsctp_send_streams.proofs.Mapped.{mapped_to-none, mapped_to-all, mapped_to-step, length-mapped_to}
 use Rattle.dcsctp_send_streams.proofs.streams.Streams.commit_all.Goals as goal
 

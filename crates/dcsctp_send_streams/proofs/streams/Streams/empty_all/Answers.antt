@@ -1,6 +1,6 @@
 use Rattle.std.proofs.Common.{set, ap, sym, ◌∙◌, arith}
-use Rattle.dcsctp_machine.specs.transfer.SendStreams.{stream_at}
-use Rattle.dcsctp_machine.specs.transfer.QueuedParts.{emptied}
+use Rattle.dcsctp_api.specs.types.queues.SendStreams.{stream_at}
+use Rattle.dcsctp_api.specs.spec.queues.QueuedParts.{emptied}
 use Rattle.dcsctp_send_streams.proofs.Mapped.{mapped_to-none, mapped_to-all, mapped_to-step, length-mapped_to}
 use Rattle.dcsctp_send_streams.proofs.streams.Streams.empty_all.Goals as goal
 

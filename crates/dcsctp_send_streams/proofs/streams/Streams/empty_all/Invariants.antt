@@ -1,5 +1,5 @@
 use Rattle.std.proofs.Common.{◌≡◌}
-use Rattle.dcsctp_machine.specs.transfer.QueuedParts.{emptied}
+use Rattle.dcsctp_api.specs.spec.queues.QueuedParts.{emptied}
 use Rattle.dcsctp_send_streams.proofs.Mapped.{mapped_to}
 use Rattle.dcsctp_send_streams.proofs.streams.Streams.empty_all.Given as goal
 

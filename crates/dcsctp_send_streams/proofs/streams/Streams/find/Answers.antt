@@ -1,5 +1,5 @@
 use Rattle.std.proofs.Common.{◌≡◌, length, arith}
-use Rattle.dcsctp_machine.specs.transfer.SendStreams.{IsAscending}
+use Rattle.dcsctp_api.specs.types.queues.SendStreams.{IsAscending}
 use Rattle.dcsctp_send_streams.proofs.StreamLemmas.{id_read}
 use Rattle.dcsctp_send_streams.proofs.PlaceLemmas.{lesser_through, greater_from, above_from}
 use Rattle.dcsctp_send_streams.proofs.streams.Streams.find.Goals as goal

@@ -1,5 +1,5 @@
 use Rattle.std.proofs.Common.{◌-◌, ℕ, ◌<◌, ◌≤◌, length}
-use Rattle.dcsctp_machine.specs.transfer.SendStreams.{stream_at}
+use Rattle.dcsctp_api.specs.types.queues.SendStreams.{stream_at}
 use Rattle.dcsctp_send_streams.proofs.streams.Streams.find.Given as goal
 
 abbrev pub invariant-halving : goal.invariant-halving

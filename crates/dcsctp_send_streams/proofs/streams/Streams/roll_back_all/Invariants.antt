@@ -1,5 +1,5 @@
 use Rattle.std.proofs.Common.{◌≡◌}
-use Rattle.dcsctp_machine.specs.transfer.SendStreams.{rolled_back}
+use Rattle.dcsctp_api.specs.types.queues.SendStreams.{rolled_back}
 use Rattle.dcsctp_send_streams.proofs.Mapped.{mapped_to}
 use Rattle.dcsctp_send_streams.proofs.streams.Streams.roll_back_all.Given as goal
 

@@ -1,11 +1,11 @@
 use Rattle.std.proofs.Common.{subst}
-use Rattle.dcsctp_api.specs.Calls.{Closes}
+use Rattle.dcsctp_core.specs.api.Calls.{Closes}
 use Rattle.dcsctp_core.specs.declared.context.Context.{Context}
 use Rattle.dcsctp_core.specs.Timeout.{IsTold}
 use Rattle.dcsctp_core.specs.View.{endpoint_of, view_of}
 use Rattle.dcsctp_socket.specs.SocketView.{SocketView, user_view_of}
-use Rattle.dcsctp_machine.specs.declared.ends.AbortReason.TheVariants.{CloseCalled}
-use Rattle.dcsctp_machine.specs.control.Acts.{abort_with}
+use Rattle.dcsctp_core.specs.types.declared.ends.AbortReason.TheVariants.{CloseCalled}
+use Rattle.dcsctp_core.specs.spec.association.Acts.{abort_with}
 use Rattle.dcsctp_socket_calls.specs.Parts.{WorksCall, ActTurns}
 use Rattle.dcsctp_socket.proofs.SoundCalls.{close_sound}
 use Rattle.dcsctp_socket.proofs.AnsweredCalls.{closes}

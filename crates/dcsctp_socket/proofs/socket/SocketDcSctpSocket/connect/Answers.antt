@@ -1,4 +1,4 @@
-use Rattle.dcsctp_api.specs.Calls.{Connects}
+use Rattle.dcsctp_core.specs.api.Calls.{Connects}
 use Rattle.dcsctp_core.specs.declared.context.Context.{Context}
 use Rattle.dcsctp_core.specs.Timeout.{IsTold}
 use Rattle.dcsctp_core.specs.View.{endpoint_of, view_of}

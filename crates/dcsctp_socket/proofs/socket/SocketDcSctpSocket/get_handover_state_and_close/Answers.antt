@@ -3,7 +3,7 @@ use Rattle.dcsctp_core.specs.declared.context.Context.{Context}
 use Rattle.dcsctp_core.specs.Timeout.{IsTold}
 use Rattle.dcsctp_core.specs.View.{endpoint_of, view_of}
 use Rattle.dcsctp_socket_calls.specs.HandoverParts.{WorksHandover}
-use Rattle.dcsctp_api.specs.Handover.{HandsOver}
+use Rattle.dcsctp_core.specs.api.Handover.{HandsOver}
 use Rattle.dcsctp_socket.specs.SocketView.{SocketView, user_view_of}
 use Rattle.dcsctp_socket.proofs.AnsweredCalls.{hands_over}
 use Rattle.dcsctp_socket.proofs.SoundCalls.{hand_over_sound}

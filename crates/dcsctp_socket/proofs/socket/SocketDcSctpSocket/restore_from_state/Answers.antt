@@ -2,7 +2,7 @@ use Rattle.std.proofs.Common.{◌≡◌, true, sym, subst}
 use Rattle.dcsctp_core.specs.declared.context.Context.{Context}
 use Rattle.dcsctp_core.specs.Timeout.{IsTold}
 use Rattle.dcsctp_core.specs.View.{endpoint_of}
-use Rattle.dcsctp_machine.specs.Snapshot.{snapshot, is_valid_snapshot}
+use Rattle.dcsctp_core.specs.types.Snapshot.{snapshot, is_valid_snapshot}
 use Rattle.dcsctp_socket_calls.specs.HandoverParts.{WorksRestore}
 use Rattle.dcsctp_socket.specs.SocketView.{SocketView}
 use Rattle.dcsctp_socket.proofs.SoundCalls.{restore_sound}

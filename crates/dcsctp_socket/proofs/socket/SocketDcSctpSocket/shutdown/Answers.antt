@@ -2,7 +2,7 @@ use Rattle.std.proofs.Common.{subst}
 use Rattle.dcsctp_core.specs.declared.context.Context.{Context}
 use Rattle.dcsctp_core.specs.Timeout.{IsTold}
 use Rattle.dcsctp_core.specs.View.{endpoint_of}
-use Rattle.dcsctp_machine.specs.control.Acts.{shut_down}
+use Rattle.dcsctp_core.specs.spec.association.Acts.{shut_down}
 use Rattle.dcsctp_socket_calls.specs.Parts.{WorksCall, ActTurns}
 use Rattle.dcsctp_socket.proofs.SoundCalls.{shutdown_sound}
 use Rattle.dcsctp_socket.proofs.socket.SocketDcSctpSocket.shutdown.Goals as goal

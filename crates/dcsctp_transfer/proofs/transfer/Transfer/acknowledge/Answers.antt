@@ -1,6 +1,6 @@
 use Rattle.std.proofs.Common.{◌∙◌, ap, sym, ℕ, ◌%◌, ◌^◌}
-use Rattle.dcsctp_machine.specs.transfer.Reassembly.{remaining_bytes}
-use Rattle.dcsctp_machine.specs.transfer.Transfer.{Transfer}
+use Rattle.dcsctp_send_retransmission.specs.spec.queues.Reassembly.{remaining_bytes}
+use Rattle.dcsctp_send_retransmission.specs.spec.queues.Transfer.{Transfer}
 use Rattle.dcsctp_transfer.proofs.SackLemmas.{gives_wanted}
 use Rattle.dcsctp_transfer.proofs.transfer.Transfer.acknowledge.Goals as goal
 

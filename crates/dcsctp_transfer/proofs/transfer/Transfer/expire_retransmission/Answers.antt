@@ -1,6 +1,6 @@
 use Rattle.std.proofs.Common.{Bool, if◌then◌else◌, ◌∙◌, ap, sym}
-use Rattle.dcsctp_machine.specs.transfer.Retransmission.{RetransmissionState, after_expiry}
-use Rattle.dcsctp_machine.specs.transfer.Transfer.{Transfer}
+use Rattle.dcsctp_send_retransmission.specs.spec.queues.Retransmission.{RetransmissionState, after_expiry}
+use Rattle.dcsctp_send_retransmission.specs.spec.queues.Transfer.{Transfer}
 use Rattle.dcsctp_transfer.proofs.SacksLemmas.{lost_by}
 use Rattle.dcsctp_transfer.proofs.transfer.Transfer.expire_retransmission.Goals as goal
 

@@ -1,8 +1,8 @@
-use Rattle.std.proofs.Common.{◌∙◌, min, ap, sym}
+use Rattle.std.proofs.Common.{refl, ◌∙◌, min, ap, sym}
 use Rattle.std.proofs.lemmas.Result.{err_from_is_err_and}
-use Rattle.dcsctp_machine.specs.Timers.{moment_after}
-use Rattle.dcsctp_machine.specs.transfer.Transfer.{Transfer}
-use Rattle.dcsctp_machine.specs.transfer.Retransmission.{outstanding_count}
+use Rattle.dcsctp_send_retransmission.specs.spec.endpoint.Timers.{moment_after}
+use Rattle.dcsctp_send_retransmission.specs.spec.queues.Transfer.{Transfer}
+use Rattle.dcsctp_send_retransmission.specs.spec.queues.Retransmission.{outstanding_count}
 use Rattle.dcsctp_transfer.proofs.AbandoningLemmas.{forwards_none, none_may, forwards_due, forwards_not_due, tells_abandoning}
 use Rattle.dcsctp_transfer.proofs.transfer.Transfer.forward_tsn.Goals as goal
 
@@ -14,14 +14,14 @@ returns-then-outstanding_items-eq0-clause-ok c =
 pub returns-in_err-should_send_forward_tsn-clause-told : goal.returns-in_err-should_send_forward_tsn-clause-told
 returns-in_err-should_send_forward_tsn-clause-told c =
     rw (err_from_is_err_and c.from_residual.result c.from_residual.ensures.1).1
-    (tells_abandoning c.should_send_forward_tsn.result c.args.now c.args.self.now c.self.inside.retransmission_queue _ c.queue.inside.queue c.args.queue.now _ c.args.events.now _
-    (ap (λ (t : Transfer). t.retransmission) c.self.view_is) c.queue.view_is c.should_send_forward_tsn.ensures.gives_up)
+    (tells_abandoning c.should_send_forward_tsn.result c.args.now c.args.self.now c.self.inside.retransmission_queue _ c.args.queue.now c.args.queue.now _ c.args.events.now _
+    (ap (λ (t : Transfer). t.retransmission) c.self.view_is) refl c.should_send_forward_tsn.ensures.gives_up)
 
 pub returns-then-not-branch-clause-ok : goal.returns-then-not-branch-clause-ok
 returns-then-not-branch-clause-ok c =
-    forwards_not_due c.args.now c.args.self.now _ c.self.inside.retransmission_queue c.should_send_forward_tsn.new.self c.queue.inside.queue c.args.queue.now c.should_send_forward_tsn.new.queue c.args.events.now c.should_send_forward_tsn.new.events c.args.packet.now
+    forwards_not_due c.args.now c.args.self.now _ c.self.inside.retransmission_queue c.should_send_forward_tsn.new.self c.args.queue.now c.args.queue.now c.should_send_forward_tsn.new.queue c.args.events.now c.should_send_forward_tsn.new.events c.args.packet.now
     (ap (λ (t : Transfer). t.retransmission) c.self.view_is)
-    c.queue.view_is
+    refl
     (ap (λ (t : Transfer). record t { retransmission = c.should_send_forward_tsn.new.self }) c.self.view_is)
     (λ none. c.if-outstanding_items-eq0.false (c.outstanding_items.ensures.value ∙ ap (λ (t : Transfer). outstanding_count t.retransmission) c.self.view_is ∙ none))
     (record { steps = c.in_ok-should_send_forward_tsn.ensures.gives_up.0; none_left = c.in_ok-should_send_forward_tsn.ensures.gives_up.1 })
@@ -30,14 +30,14 @@ returns-then-not-branch-clause-ok c =
 pub returns-in_err-put_forward_tsn-clause-told : goal.returns-in_err-put_forward_tsn-clause-told
 returns-in_err-put_forward_tsn-clause-told c =
     rw (err_from_is_err_and c.from_residual-in_err-put_forward_tsn.result c.from_residual-in_err-put_forward_tsn.ensures.1).1
-    (tells_abandoning c.should_send_forward_tsn.result c.args.now c.args.self.now c.self.inside.retransmission_queue _ c.queue.inside.queue c.args.queue.now _ c.args.events.now _
-    (ap (λ (t : Transfer). t.retransmission) c.self.view_is) c.queue.view_is c.should_send_forward_tsn.ensures.gives_up)
+    (tells_abandoning c.should_send_forward_tsn.result c.args.now c.args.self.now c.self.inside.retransmission_queue _ c.args.queue.now c.args.queue.now _ c.args.events.now _
+    (ap (λ (t : Transfer). t.retransmission) c.self.view_is) refl c.should_send_forward_tsn.ensures.gives_up)
 
 pub returns-clause-ok : goal.returns-clause-ok
 returns-clause-ok c =
-    forwards_due c.args.now c.args.self.now _ c.self.inside.retransmission_queue c.should_send_forward_tsn.new.self c.queue.inside.queue c.args.queue.now c.should_send_forward_tsn.new.queue c.args.events.now c.should_send_forward_tsn.new.events c.args.packet.now c.put_forward_tsn.new.packet c.next_forward_tsn.result
+    forwards_due c.args.now c.args.self.now _ c.self.inside.retransmission_queue c.should_send_forward_tsn.new.self c.args.queue.now c.args.queue.now c.should_send_forward_tsn.new.queue c.args.events.now c.should_send_forward_tsn.new.events c.args.packet.now c.put_forward_tsn.new.packet c.next_forward_tsn.result
     (ap (λ (t : Transfer). t.retransmission) c.self.view_is)
-    c.queue.view_is
+    refl
     (ap (λ (t : Transfer). record t { retransmission = c.should_send_forward_tsn.new.self }) c.self.view_is)
     (λ none. c.if-outstanding_items-eq0.false (c.outstanding_items.ensures.value ∙ ap (λ (t : Transfer). outstanding_count t.retransmission) c.self.view_is ∙ none))
     (record { steps = c.in_ok-should_send_forward_tsn.ensures.gives_up.0; none_left = c.in_ok-should_send_forward_tsn.ensures.gives_up.1 })

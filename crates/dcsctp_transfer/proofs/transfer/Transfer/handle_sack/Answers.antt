@@ -2,11 +2,11 @@ use Rattle.std.proofs.Common.{◌∙◌, ap, sym, subst, List}
 use Rattle.std.specs.Option.{option_map}
 use Rattle.std.specs.Duration.{as_nanos}
 use Rattle.std.proofs.lemmas.Result.{err_from_is_err_and}
-use Rattle.dcsctp_wire.specs.CleanBlocks.{blocks_in, AreCleaned}
-use Rattle.dcsctp_wire.specs.declared.chunk.sack.GapAckBlock.{GapAckBlock}
-use Rattle.dcsctp_machine.specs.transfer.Acknowledging.{has_acknowledged}
-use Rattle.dcsctp_machine.specs.transfer.Retransmission.{RetransmissionState}
-use Rattle.dcsctp_machine.specs.transfer.Transfer.{Transfer}
+use Rattle.dcsctp_send_retransmission.specs.wire.CleanBlocks.{blocks_in, AreCleaned}
+use Rattle.dcsctp_send_retransmission.specs.wire.declared.chunk.sack.GapAckBlock.{GapAckBlock}
+use Rattle.dcsctp_send_retransmission.specs.spec.queues.Acknowledging.{has_acknowledged}
+use Rattle.dcsctp_send_retransmission.specs.spec.queues.Retransmission.{RetransmissionState}
+use Rattle.dcsctp_send_retransmission.specs.spec.queues.Transfer.{Transfer}
 use Rattle.dcsctp_transfer.proofs.SacksLemmas.{is_valid, is_invalid, told_if_valid, timed_acknowledges}
 use Rattle.dcsctp_transfer.proofs.transfer.Transfer.handle_sack.Goals as goal
 

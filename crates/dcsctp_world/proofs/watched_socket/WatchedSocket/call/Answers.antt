@@ -1,10 +1,10 @@
 use Rattle.std.proofs.Common.{Err, List, map, ap}
 use Rattle.std.proofs.lemmas.Result.{err_from_is_err_and}
-use Rattle.dcsctp_api.specs.declared.errors.SocketFault.{SocketFault}
-use Rattle.dcsctp_machine.specs.Schedule.{call_content}
-use Rattle.dcsctp_machine.specs.CallTurns.{Turned}
-use Rattle.dcsctp_machine.specs.transfer.Messages.{message_content}
-use Rattle.dcsctp_machine.specs.Sockets.{UserTurns}
+use Rattle.dcsctp_core.specs.api.declared.errors.SocketFault.{SocketFault}
+use Rattle.dcsctp_core.specs.types.Schedule.{call_content}
+use Rattle.dcsctp_core.specs.spec.endpoint.CallTurns.{Turned}
+use Rattle.dcsctp_core.specs.types.queues.Messages.{message_content}
+use Rattle.dcsctp_core.specs.spec.endpoint.UserTurns.{UserTurns}
 use Rattle.dcsctp_world.specs.Growth.{IsCallReply}
 use Rattle.dcsctp_world.specs.Parts.{shown}
 use Rattle.dcsctp_world.proofs.Drawing.{side_draws}

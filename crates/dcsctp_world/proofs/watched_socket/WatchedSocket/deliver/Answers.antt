@@ -1,5 +1,5 @@
 use Rattle.std.proofs.Common.{ℕ, Option, Ok, List, refl, sym, subst}
-use Rattle.dcsctp_machine.specs.Sockets.{DeliveryTurns}
+use Rattle.dcsctp_spec_runs.specs.Sockets.{DeliveryTurns}
 use Rattle.dcsctp_world.specs.declared.act.Reply.TheVariants.{NoCall}
 use Rattle.dcsctp_world.specs.Growth.{Works, IsDeliveryReply}
 use Rattle.dcsctp_world.specs.Parts.{shown}

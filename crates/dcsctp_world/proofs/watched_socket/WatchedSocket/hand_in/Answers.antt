@@ -1,7 +1,7 @@
 use Rattle.std.proofs.Common.{Err, List, refl, ap}
 use Rattle.std.proofs.lemmas.Result.{err_from_is_err_and}
-use Rattle.dcsctp_api.specs.declared.errors.SocketFault.{SocketFault}
-use Rattle.dcsctp_machine.specs.CallTurns.{Turned, HandleInput}
+use Rattle.dcsctp_core.specs.api.declared.errors.SocketFault.{SocketFault}
+use Rattle.dcsctp_core.specs.spec.endpoint.CallTurns.{Turned, HandleInput}
 use Rattle.dcsctp_world.specs.declared.act.Reply.TheVariants.{Done}
 use Rattle.dcsctp_world.specs.Parts.{shown}
 use Rattle.dcsctp_world.proofs.Drawing.{side_draws}

@@ -1,7 +1,7 @@
 use Rattle.std.proofs.Common.{Err, List, ap}
 use Rattle.std.proofs.lemmas.Result.{err_from_is_err_and}
-use Rattle.dcsctp_api.specs.declared.errors.SocketFault.{SocketFault}
-use Rattle.dcsctp_machine.specs.CallTurns.{Turned}
+use Rattle.dcsctp_core.specs.api.declared.errors.SocketFault.{SocketFault}
+use Rattle.dcsctp_core.specs.spec.endpoint.CallTurns.{Turned}
 use Rattle.dcsctp_world.specs.Outside.{HandoverTurns, IsHandedOnBy}
 use Rattle.dcsctp_world.specs.Parts.{shown}
 use Rattle.dcsctp_world.proofs.Drawing.{side_draws}

@@ -1,8 +1,8 @@
 use Rattle.std.proofs.Common.{◌≡◌, false, Err, List, ap}
 use Rattle.std.proofs.lemmas.Result.{err_from_is_err_and}
-use Rattle.dcsctp_api.specs.declared.errors.SocketFault.{SocketFault}
-use Rattle.dcsctp_machine.specs.CallTurns.{Turned}
-use Rattle.dcsctp_machine.specs.Snapshot.{snapshot, is_valid_snapshot}
+use Rattle.dcsctp_core.specs.api.declared.errors.SocketFault.{SocketFault}
+use Rattle.dcsctp_core.specs.spec.endpoint.CallTurns.{Turned}
+use Rattle.dcsctp_core.specs.types.Snapshot.{snapshot, is_valid_snapshot}
 use Rattle.dcsctp_world.specs.Outside.{ValidTurns, IsRestoredBy}
 use Rattle.dcsctp_world.specs.Parts.{shown}
 use Rattle.dcsctp_world.proofs.HandingOn.{not_restored_by}

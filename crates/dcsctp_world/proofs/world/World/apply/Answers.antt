@@ -1,5 +1,5 @@
 use Rattle.std.proofs.Common.{true, subst}
-use Rattle.dcsctp_machine.specs.Schedule.{step_act, step_content}
+use Rattle.dcsctp_core.specs.types.Schedule.{step_act, step_content}
 use Rattle.dcsctp_world.specs.Recording.{Recording}
 use Rattle.dcsctp_world.specs.Shown.{WorldView}
 use Rattle.dcsctp_world.specs.Acts.{RanOut}

@@ -1,5 +1,5 @@
-use Rattle.dcsctp_machine.specs.Schedule.{act_content}
-use Rattle.dcsctp_machine.specs.declared.schedule.Side.TheVariants as sides
+use Rattle.dcsctp_core.specs.types.Schedule.{act_content}
+use Rattle.dcsctp_core.specs.types.declared.schedule.Side.TheVariants as sides
 use Rattle.std.proofs.Common.{true, subst}
 use Rattle.dcsctp_world.specs.Recording.{Recording}
 use Rattle.dcsctp_world.specs.Shown.{WorldView, options_of}

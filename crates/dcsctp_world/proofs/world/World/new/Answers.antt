@@ -1,6 +1,6 @@
 use Rattle.std.proofs.Common.{false, ap, ◌∙◌}
-use Rattle.dcsctp_machine.specs.declared.options.Options.{Options}
-use Rattle.dcsctp_machine.specs.Sockets.{Both}
+use Rattle.dcsctp_core.specs.types.declared.options.Options.{Options}
+use Rattle.dcsctp_spec_runs.specs.Sockets.{Both}
 use Rattle.dcsctp_world.specs.Parts.{world_of}
 use Rattle.dcsctp_world.specs.Recording.{Recording, fresh_recording}
 use Rattle.dcsctp_world.specs.Shown.{WorldView, fresh_side}

@@ -1,4 +1,4 @@
-use Rattle.dcsctp_machine.specs.Schedule.{outside_content}
+use Rattle.dcsctp_core.specs.types.Schedule.{outside_content}
 use Rattle.dcsctp_world.proofs.ComingBack.{restores_where}
 use Rattle.dcsctp_world.proofs.world.World.outside.Goals as goal
 

@@ -1,6 +1,6 @@
 use Rattle.std.proofs.Common.{Err, [], subst}
-use Rattle.dcsctp_machine.specs.declared.schedule.Step.{Step}
-use Rattle.dcsctp_machine.specs.Schedule.{step_content, step_act}
+use Rattle.dcsctp_core.specs.types.declared.schedule.Step.{Step}
+use Rattle.dcsctp_core.specs.types.Schedule.{step_content, step_act}
 use Rattle.dcsctp_world.specs.Acts.{Applied, Applies, Ran}
 use Rattle.dcsctp_world.specs.Drawing.{DrawOn, AreWhole}
 use Rattle.dcsctp_world.specs.Parts.{world_of}

@@ -1,5 +1,5 @@
 use Rattle.std.proofs.Common.{take, map}
-use Rattle.dcsctp_machine.specs.Schedule.{step_content}
+use Rattle.dcsctp_core.specs.types.Schedule.{step_content}
 use Rattle.dcsctp_world.specs.Acts.{Ran}
 use Rattle.dcsctp_world.specs.Drawing.{DrawOn, AreWhole}
 use Rattle.dcsctp_world.specs.Recording.{recorded_stream}

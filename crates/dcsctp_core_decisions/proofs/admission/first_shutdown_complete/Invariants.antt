@@ -1,9 +1,0 @@
-use Rattle.std.proofs.Common.{◌≡◌, map, drop}
-use Rattle.dcsctp_wire.specs.Content.{chunk_content}
-use Rattle.dcsctp_machine.specs.Packet.{content_in}
-use Rattle.dcsctp_machine.specs.Admission.{first_shutdown_complete}
-use Rattle.dcsctp_core_decisions.proofs.admission.first_shutdown_complete.Given as goal
-
--- the first SHUTDOWN COMPLETE is among the chunks that are left
-abbrev pub invariant-loop-chunk : goal.invariant-loop-chunk
-invariant-loop-chunk l = first_shutdown_complete (map content_in (map chunk_content (drop l.chunk-index l.chunks))) ≡ first_shutdown_complete (map content_in (map chunk_content l.chunks))

@@ -1,0 +1,129 @@
+//! SHUTDOWN, SHUTDOWN ACK and SHUTDOWN COMPLETE (RFC 9260, sections 8.5.1 and 9.2).
+
+ghost use Rattle.std.specs.Prelude.{◌≡◌, true};
+ghost use Rattle.dcsctp_core.specs.spec.endpoint.Event.{closed};
+ghost use Rattle.dcsctp_core.specs.Handling.{Takes, Tries, Works, close_turn};
+ghost use Rattle.dcsctp_core.specs.View.{core_of};
+ghost use Rattle.dcsctp_core_ends.specs.Shutdown.{ack_turn, complete_turn, completed_turn, is_open, received_turn, reflected_turn, shutdown_turn};
+
+use crate::shutdown::sending::{emit_shutdown_complete, send_shutdown_complete};
+use crate::shutdown::stepping::{enter_shutdown_ack_sent, step_shutdown};
+use dcsctp_core::api::ErrorKind;
+use dcsctp_core::{Context, Following, OpenPhase, State};
+use rand_core::Rng;
+use std::alloc::AllocError;
+
+// The peer shuts the association down: SHUTDOWN ACK is sent once all that was sent is acknowledged.
+fn receive_shutdown<R: Rng>(context: &mut Context<R>) -> Result<(), AllocError>
+    ensures { Takes R.stream received_turn context.old result context.new }
+{
+    context.state.set_phase(OpenPhase::ShutdownReceived);
+    step_shutdown(context)
+}
+
+/// Handles a SHUTDOWN. It counts while an association is open, and is answered by SHUTDOWN ACK. That is sent
+/// at once if a SHUTDOWN or a SHUTDOWN ACK was sent, else once all that was sent is acknowledged. Unlike RFC
+/// 9260, section 9.2, its cumulative TSN ack is not used (docs/DECISIONS.md, Shutdown).
+///
+/// `Err`: an allocation failed; the first of its events may already have been added.
+pub fn handle_shutdown<R: Rng>(context: &mut Context<R>) -> Result<(), AllocError>
+    ensures { Takes R.stream shutdown_turn context.old result context.new }
+{
+    match &context.state {
+        State::Closed | State::CookieWait(_) | State::CookieEchoed(_) => Ok(()),
+        State::Open(opened) => match opened.phase {
+            OpenPhase::Established => receive_shutdown(context),
+            OpenPhase::ShutdownPending => receive_shutdown(context),
+            OpenPhase::ShutdownSent(_) => enter_shutdown_ack_sent(context),
+            OpenPhase::ShutdownReceived => Ok(()),
+            OpenPhase::ShutdownAckSent(_) => enter_shutdown_ack_sent(context),
+        },
+    }
+}
+
+// The association ends, with OnClosed.
+fn end_shutdown<R: Rng>(context: &mut Context<R>) -> Result<(), AllocError>
+    ensures { Tries R.stream (close_turn closed) context.old result context.new }
+{
+    let alloc = context.alloc;
+    context.internal_close(ErrorKind::NoError, String::new(alloc))?;
+    Ok(())
+}
+
+// The SHUTDOWN ACK was awaited: SHUTDOWN COMPLETE is sent, and the association ends.
+fn complete_shutdown<R: Rng>(context: &mut Context<R>) -> Result<Following, AllocError>
+    requires { is_open (core_of context.old.state) ≡ true }
+    ensures { Works R.stream completed_turn context.old result context.new }
+{
+    send_shutdown_complete(context)?;
+    end_shutdown(context)?;
+    Ok(Following::DroppedRest)
+}
+
+/// Answers a SHUTDOWN ACK that isn't awaited under its own tag, with the T bit (RFC 9260, section 8.5.1, E).
+///
+/// `Err`: an allocation failed; nothing has changed.
+pub fn reflect_shutdown_ack<R: Rng>(
+    context: &mut Context<R>,
+    header_tag: u32,
+) -> Result<(), AllocError>
+    ensures { Tries R.stream (reflected_turn header_tag) context.old result context.new }
+{
+    emit_shutdown_complete(context, header_tag, true, true)?;
+    Ok(())
+}
+
+// The same as a chunk's turn: the next chunk follows.
+fn reflect<R: Rng>(context: &mut Context<R>, header_tag: u32) -> Result<Following, AllocError>
+    ensures { Works R.stream (reflected_turn header_tag) context.old result context.new }
+{
+    reflect_shutdown_ack(context, header_tag)?;
+    Ok(Following::NextChunk)
+}
+
+/// Handles a SHUTDOWN ACK of a packet with this header tag. One that is awaited ends the association, with
+/// OnClosed, and is answered by SHUTDOWN COMPLETE. The rest of its packet is dropped. Any other is answered
+/// under its own tag, with the T bit.
+///
+/// `Err`: an allocation failed; the first of its events may already have been added.
+pub fn handle_shutdown_ack<R: Rng>(
+    context: &mut Context<R>,
+    header_tag: u32,
+) -> Result<Following, AllocError>
+    ensures { Works R.stream (ack_turn header_tag) context.old result context.new }
+{
+    match &context.state {
+        State::Closed => reflect(context, header_tag),
+        State::CookieWait(_) => reflect(context, header_tag),
+        State::CookieEchoed(_) => reflect(context, header_tag),
+        State::Open(opened) => match opened.phase {
+            OpenPhase::ShutdownSent(_) => complete_shutdown(context),
+            OpenPhase::ShutdownAckSent(_) => complete_shutdown(context),
+            OpenPhase::Established => reflect(context, header_tag),
+            OpenPhase::ShutdownPending => reflect(context, header_tag),
+            OpenPhase::ShutdownReceived => reflect(context, header_tag),
+        },
+    }
+}
+
+/// Handles a SHUTDOWN COMPLETE, which counts while a SHUTDOWN ACK waits for it. The association ends, with
+/// OnClosed, and the rest of the packet is dropped.
+///
+/// `Err`: an allocation failed; nothing has changed.
+pub fn handle_shutdown_complete<R: Rng>(context: &mut Context<R>) -> Result<Following, AllocError>
+    ensures { Works R.stream complete_turn context.old result context.new }
+{
+    match &context.state {
+        State::Closed | State::CookieWait(_) => Ok(Following::NextChunk),
+        State::CookieEchoed(_) => Ok(Following::NextChunk),
+        State::Open(opened) => match opened.phase {
+            OpenPhase::ShutdownAckSent(_) => {
+                end_shutdown(context)?;
+                Ok(Following::DroppedRest)
+            }
+            OpenPhase::Established | OpenPhase::ShutdownPending => Ok(Following::NextChunk),
+            OpenPhase::ShutdownSent(_) => Ok(Following::NextChunk),
+            OpenPhase::ShutdownReceived => Ok(Following::NextChunk),
+        },
+    }
+}

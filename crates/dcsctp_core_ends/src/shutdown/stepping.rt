@@ -1,0 +1,81 @@
+//! The steps of a shutdown (RFC 9260, section 9.2): each waits until what was sent is acknowledged.
+
+ghost use Rattle.std.specs.Prelude.{◌≡◌, true};
+ghost use Rattle.std.specs.Duration.{as_nanos};
+ghost use Rattle.dcsctp_core.specs.spec.endpoint.Timers.{started};
+ghost use Rattle.dcsctp_core.specs.spec.endpoint.ShutdownOutcomes.{t2_settings};
+ghost use Rattle.dcsctp_core.specs.Handling.{Tries};
+ghost use Rattle.dcsctp_core.specs.View.{core_of};
+ghost use Rattle.dcsctp_core_ends.specs.Shutdown.{ack_sent_turn, is_open, shutdown_sent_turn, step_turn};
+
+use crate::shutdown::sending::{send_shutdown, send_shutdown_ack};
+use dcsctp_core::send_timer::{BackoffAlgorithm, Timer};
+use dcsctp_core::types::{Options, SocketTime};
+use dcsctp_core::{Context, OpenPhase, ShutdownState, State};
+use rand_core::Rng;
+use std::alloc::AllocError;
+use std::time::Duration;
+
+// T2-shutdown, started now with this retransmission timeout. Each wait is twice the last one, without a
+// limit; the options say how often a packet is sent again. Unlike RFC 9260, section 9.2,
+// `t2_shutdown_timeout` is not used (docs/DECISIONS.md, Shutdown).
+fn started_t2(options: &Options, rto: Duration, now: SocketTime) -> ShutdownState
+    ensures { result.t2_shutdown.running ≡ started now (t2_settings options.now (as_nanos rto)) }
+{
+    let mut t2_shutdown = Timer::new(
+        rto,
+        BackoffAlgorithm::Exponential,
+        options.max_retransmissions,
+        None,
+    );
+    t2_shutdown.start(now);
+    ShutdownState { t2_shutdown }
+}
+
+/// Sends SHUTDOWN, and starts T2: its SHUTDOWN ACK is awaited from now on.
+///
+/// `Err`: an allocation failed; nothing has changed.
+pub(crate) fn enter_shutdown_sent<R: Rng>(context: &mut Context<R>) -> Result<(), AllocError>
+    requires { is_open (core_of context.old.state) ≡ true }
+    ensures { Tries R.stream shutdown_sent_turn context.old result context.new }
+{
+    send_shutdown(context)?;
+    let sent = started_t2(&context.options, context.state.rto(), context.moment);
+    context.state.set_phase(OpenPhase::ShutdownSent(sent));
+    Ok(())
+}
+
+/// Sends SHUTDOWN ACK, and starts T2: its SHUTDOWN COMPLETE is awaited from now on.
+///
+/// `Err`: an allocation failed; nothing has changed.
+pub(crate) fn enter_shutdown_ack_sent<R: Rng>(context: &mut Context<R>) -> Result<(), AllocError>
+    requires { is_open (core_of context.old.state) ≡ true }
+    ensures { Tries R.stream ack_sent_turn context.old result context.new }
+{
+    send_shutdown_ack(context)?;
+    let sent = started_t2(&context.options, context.state.rto(), context.moment);
+    context.state.set_phase(OpenPhase::ShutdownAckSent(sent));
+    Ok(())
+}
+
+/// Continues a shutdown that is under way, if all that was sent is acknowledged or abandoned. SHUTDOWN is
+/// sent if the user asked for it, SHUTDOWN ACK if the peer did. What waits in the queue isn't looked at
+/// (docs/DECISIONS.md, Shutdown).
+///
+/// `Err`: an allocation failed; nothing has changed.
+pub fn step_shutdown<R: Rng>(context: &mut Context<R>) -> Result<(), AllocError>
+    ensures { Tries R.stream step_turn context.old result context.new }
+{
+    if context.state.has_unacknowledged_items() {
+        return Ok(());
+    }
+    match &context.state {
+        State::Closed | State::CookieWait(_) | State::CookieEchoed(_) => Ok(()),
+        State::Open(opened) => match opened.phase {
+            OpenPhase::ShutdownPending => enter_shutdown_sent(context),
+            OpenPhase::ShutdownReceived => enter_shutdown_ack_sent(context),
+            OpenPhase::Established | OpenPhase::ShutdownSent(_) => Ok(()),
+            OpenPhase::ShutdownAckSent(_) => Ok(()),
+        },
+    }
+}

@@ -1,0 +1,24 @@
+-- What the case of a COOKIE ECHO is to the machine, and the peer that its cookie shows.
+use Rattle.dcsctp_core.specs.types.declared.options.Options.{Options}
+use Rattle.dcsctp_core.specs.types.Offer.{offer_of, negotiated}
+use Rattle.dcsctp_core.specs.spec.Cookie.{Cookie}
+use Rattle.dcsctp_core.specs.spec.association.CookieEchoChanges.{Resolution, establish_new, restart, simultaneous_init, discard, maintain_existing, invalid_tag, stale}
+use Rattle.dcsctp_core.specs.spec.endpoint.CookieEchoOutcomes.{window_by_cookie}
+use Rattle.dcsctp_core.specs.declared.transmission_control_block.Peer.{Peer}
+use Rattle.dcsctp_core_handshake.specs.declared.cookie_resolution.CookieResolution.{CookieResolution}
+use Rattle.dcsctp_core_handshake.specs.declared.cookie_resolution.CookieResolution.TheVariants.{EstablishNew, RestartDetected, SimultaneousInit, Discard, MaintainExisting, InvalidTag, Stale}
+
+-- the case of a COOKIE ECHO
+abbrev pub resolution_of : CookieResolution → Resolution
+resolution_of EstablishNew = establish_new
+resolution_of RestartDetected = restart
+resolution_of SimultaneousInit = simultaneous_init
+resolution_of Discard = discard
+resolution_of MaintainExisting = maintain_existing
+resolution_of InvalidTag = invalid_tag
+resolution_of Stale = stale
+
+-- the peer that a cookie shows
+abbrev pub peer_by_cookie : Options → Cookie → Peer
+peer_by_cookie options cookie =
+    record { pair = cookie.addressee; a_rwnd = window_by_cookie options cookie; capabilities = negotiated (offer_of options) cookie.offer }

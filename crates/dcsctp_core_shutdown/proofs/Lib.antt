@@ -1,3 +1,0 @@
-pub mod EndLemmas
-pub mod FitLemmas
-pub mod T2Lemmas

@@ -1,5 +1,0 @@
-use Rattle.dcsctp_machine.proofs.MayBeWorkedLemmas.{admitted_packets_may_be_worked}
-use Rattle.dcsctp_machine.proofs.laws.admitted_packets_may_be_worked.Goals as goal
-
-pub returns : goal.returns
-returns c = admitted_packets_may_be_worked

@@ -1,5 +1,0 @@
-use Rattle.dcsctp_machine.proofs.LawLemmas.{answer_keeps_agreement}
-use Rattle.dcsctp_machine.proofs.laws.answer_keeps_agreement.Goals as goal
-
-pub returns : goal.returns
-returns c = answer_keeps_agreement

@@ -1,5 +1,0 @@
-use Rattle.dcsctp_machine.proofs.ControlLemmas.{chunks_are_controlled}
-use Rattle.dcsctp_machine.proofs.laws.chunks_are_controlled.Goals as goal
-
-pub returns : goal.returns
-returns c = chunks_are_controlled

@@ -1,5 +1,0 @@
-use Rattle.dcsctp_machine.proofs.LimitLemmas.{flush_keeps_limits}
-use Rattle.dcsctp_machine.proofs.laws.flush_keeps_limits.Goals as goal
-
-pub returns : goal.returns
-returns c = flush_keeps_limits

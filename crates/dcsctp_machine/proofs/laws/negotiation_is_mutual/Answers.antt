@@ -1,5 +1,0 @@
-use Rattle.dcsctp_machine.proofs.LawLemmas.{negotiation_is_mutual}
-use Rattle.dcsctp_machine.proofs.laws.negotiation_is_mutual.Goals as goal
-
-pub returns : goal.returns
-returns c = negotiation_is_mutual

@@ -1,5 +1,0 @@
-use Rattle.dcsctp_machine.proofs.ReadBackLemmas.{offer_reads_back, capabilities_hold_offer}
-use Rattle.dcsctp_machine.proofs.laws.offer_reads_back.Goals as goal
-
-pub returns : goal.returns
-returns c = record { announced = offer_reads_back; held = capabilities_hold_offer }

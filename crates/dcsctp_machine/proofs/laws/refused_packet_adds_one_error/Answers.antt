@@ -1,5 +1,0 @@
-use Rattle.dcsctp_machine.proofs.ReadBackLemmas.{refused_packet_adds_one_error}
-use Rattle.dcsctp_machine.proofs.laws.refused_packet_adds_one_error.Goals as goal
-
-pub returns : goal.returns
-returns c = refused_packet_adds_one_error c.one_reading.ensures

@@ -1,5 +1,0 @@
-use Rattle.dcsctp_machine.proofs.SocketLemmas.{sockets_keep_options}
-use Rattle.dcsctp_machine.proofs.laws.sockets_keep_options.Goals as goal
-
-pub returns : goal.returns
-returns c = sockets_keep_options

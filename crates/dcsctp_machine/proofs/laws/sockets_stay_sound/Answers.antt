@@ -1,5 +1,0 @@
-use Rattle.dcsctp_machine.proofs.SoundRuns.{sockets_stay_sound}
-use Rattle.dcsctp_machine.proofs.laws.sockets_stay_sound.Goals as goal
-
-pub returns : goal.returns
-returns c = sockets_stay_sound

@@ -1,9 +1,0 @@
-pub mod Effect
-pub mod Choices
-pub mod FlushChanges
-pub mod HandshakeChanges
-pub mod CookieEchoChanges
-pub mod ResetChanges
-pub mod ResumeChanges
-pub mod ShutdownChanges
-pub mod Acts

@@ -1,5 +1,0 @@
-use Rattle.dcsctp_machine_agreement.proofs.Agreement.{sides_agree}
-use Rattle.dcsctp_machine_agreement.proofs.laws.sides_agree.Goals as goal
-
-pub returns : goal.returns
-returns c = sides_agree c.answer_keeps_agreement.ensures c.effects_in_place.ensures c.sides_run_alone.ensures

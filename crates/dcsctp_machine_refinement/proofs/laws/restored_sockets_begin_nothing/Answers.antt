@@ -1,5 +1,0 @@
-use Rattle.dcsctp_machine_refinement.proofs.RestoredFlush.{restored_sockets_begin_nothing}
-use Rattle.dcsctp_machine_refinement.proofs.laws.restored_sockets_begin_nothing.Goals as goal
-
-pub returns : goal.returns
-returns c = restored_sockets_begin_nothing

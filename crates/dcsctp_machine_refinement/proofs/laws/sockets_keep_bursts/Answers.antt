@@ -1,5 +1,0 @@
-use Rattle.dcsctp_machine_refinement.proofs.BurstTurns.{sockets_keep_bursts}
-use Rattle.dcsctp_machine_refinement.proofs.laws.sockets_keep_bursts.Goals as goal
-
-pub returns : goal.returns
-returns c = sockets_keep_bursts

@@ -1,5 +1,0 @@
-use Rattle.dcsctp_machine_refinement.proofs.TellingEffects.{effects_are_told}
-use Rattle.dcsctp_machine_refinement.proofs.laws.sockets_tell_effects.Goals as goal
-
-pub returns : goal.returns
-returns c = effects_are_told (record { chunks = c.chunks_are_controlled.ensures; acts = c.acts_are_controlled.ensures })

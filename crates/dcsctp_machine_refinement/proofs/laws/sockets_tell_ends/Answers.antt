@@ -1,5 +1,0 @@
-use Rattle.dcsctp_machine_refinement.proofs.TellingEnds.{ends_are_told}
-use Rattle.dcsctp_machine_refinement.proofs.laws.sockets_tell_ends.Goals as goal
-
-pub returns : goal.returns
-returns c = ends_are_told (record { once = c.ends_once.ensures; acts = c.acts_are_controlled.ensures })

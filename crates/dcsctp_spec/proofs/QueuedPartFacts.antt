@@ -1,0 +1,42 @@
+-- Outside examples of specs/queues/QueuedParts: two messages wait on stream 1, of which three bytes of the first were sent.
+use Rattle.std.proofs.Common.{◌≡◌, true, false, None, Some, [], ◌∷◌, refl}
+use Rattle.dcsctp_types.specs.declared.sending.Pause.TheVariants.{Open}
+use Rattle.dcsctp_types.specs.Snapshot.{empty_send_part}
+use Rattle.dcsctp_spec.specs.queues.QueuedParts.{with_queue, queue_restored}
+use Rattle.dcsctp_spec.specs.queues.SendQueue.{SendQueueState}
+use Rattle.dcsctp_types.specs.queues.SendStreams.{Stream, Waiting}
+
+abbrev first : Waiting
+first = record { message_id = 7; ppid = 51; is_unordered = false; payload = 1 ∷ 2 ∷ 3 ∷ 4 ∷ []; max_retransmissions = None; expires_at = Some 2000000; lifecycle = Some 9 }
+
+abbrev second : Waiting
+second = record { message_id = 8; ppid = 53; is_unordered = true; payload = 5 ∷ []; max_retransmissions = Some 3; expires_at = None; lifecycle = None }
+
+abbrev stream : Stream
+stream = record { id = 1; priority = 256; threshold = 0; amount = 2; next_ssn = 6; next_mid = 0; next_unordered_mid = 0; pause = Open; messages = first ∷ second ∷ [] }
+
+abbrev queue : SendQueueState
+queue =
+    record {
+      streams = stream ∷ [];
+      under_way = Some (record { stream_id = record { 0 = 1 }; ssn = 5; mid = 0; next_fsn = 2; sent = 3 });
+      total_amount = 2;
+      total_threshold = 100;
+      default_priority = 256;
+      default_threshold = 0;
+      is_interleaved = false;
+      next_message_id = 9;
+    }
+
+-- the queue of another socket
+abbrev other : SendQueueState
+other = record queue { streams = []; under_way = None; total_amount = 0; next_message_id = 0 }
+
+-- It comes back whole, at the moment at which it was given.
+comes_back : queue_restored 0 (with_queue 0 true queue empty_send_part) other ≡ queue
+comes_back = refl
+
+-- Without messages the numbers come back.
+numbers_come_back : queue_restored 0 (with_queue 0 false queue empty_send_part) other
+    ≡ record queue { streams = record stream { amount = 0; messages = [] } ∷ []; under_way = None; total_amount = 0 }
+numbers_come_back = refl

@@ -1,0 +1,185 @@
+-- Outside examples of how an association is shut down, worked by hand and computed by the definitions: a wrong rule in specs/
+-- would not check here. Moments and durations are nanoseconds.
+use Rattle.std.proofs.Common.{◌≡◌, ◌+◌, ◌^◌, ℕ, zero, suc, true, false, Option, None, Some, List, [], ◌∷◌, refl}
+use Rattle.dcsctp_types.specs.declared.ends.AbortReason.TheVariants.{TooManyErrors}
+use Rattle.dcsctp_types.specs.declared.kinds.BackoffAlgorithm.TheVariants.{Exponential}
+use Rattle.dcsctp_types.specs.declared.progress.ItemState.TheVariants.{InFlight}
+use Rattle.dcsctp_spec.specs.endpoint.Event.{Event}
+use Rattle.dcsctp_spec.specs.endpoint.Event as events
+use Rattle.dcsctp_spec.specs.Packet.{Emission, shutdown, shutdown_ack, shutdown_complete}
+use Rattle.dcsctp_spec.specs.queues.Items.{Item}
+use Rattle.dcsctp_spec.specs.queues.Transfer.{Transfer}
+use Rattle.dcsctp_spec.specs.endpoint.Endpoint.{Endpoint, Core, closed, cookie_wait, cookie_echoed, open_in, OpenPhase, established, shutdown_pending, shutdown_sent, shutdown_received, shutdown_ack_sent}
+use Rattle.dcsctp_spec.specs.endpoint.Timers.{RunningTimer}
+use Rattle.dcsctp_spec.specs.endpoint.Following.{next_chunk, dropped_rest}
+use Rattle.dcsctp_spec.specs.endpoint.Outcome.{Outcome, still}
+use Rattle.dcsctp_spec.specs.endpoint.Turn.{act_input}
+use Rattle.dcsctp_spec.specs.endpoint.TimeTurns.{t2_timer, deadline, has_come, expiry_input}
+use Rattle.dcsctp_spec.specs.association.Acts.{shutdown_repeats, abort_with}
+use Rattle.dcsctp_spec.specs.endpoint.ShutdownOutcomes.{step_outcome, shut_down_outcome, shutdown_outcome, shutdown_ack_outcome, shutdown_complete_outcome, t2_again_outcome, shutdown_repeated}
+use Rattle.dcsctp_spec.proofs.HandshakeTurnFacts.{mine, held, queue, packet_of}
+
+-- an item of three bytes in flight
+abbrev one_item : Item
+one_item =
+    record {
+      fragment = record { message_id = 1; stream = 4; ssn = 0; mid = 0; fsn = 0; ppid = 53; is_unordered = false; is_beginning = true; is_end = true; payload = 1 ∷ 2 ∷ 3 ∷ []; max_retransmissions = None; expires_at = None; lifecycle = None };
+      progress = record { state = InFlight; was_acknowledged = false; times_sent_again = 0; sent_before = None; misses = 0 };
+      sent_at = 500_000_000;
+      begins_after_reset = false;
+    }
+
+-- so many of them
+abbrev items_of : ℕ → List Item
+items_of zero = []
+items_of (suc more) = one_item ∷ items_of more
+
+-- The retransmission timeout is 400 ms, TSN 5 came last, for the second time, and so many items are unacknowledged.
+abbrev moved : Transfer → ℕ → Transfer
+moved transfer items =
+    record transfer {
+      retransmission = record transfer.retransmission { outstanding = record transfer.retransmission.outstanding { items = items_of items } };
+      timeout = record transfer.timeout { rto = 400_000_000; srtt = 100_000_000 };
+      tracker = record transfer.tracker { cumulative = 2 ^ 32 + 5 };
+    }
+
+-- a second after the socket was made; two restarts are allowed, and a message waits to be sent
+abbrev at : Endpoint → Core → Transfer → ℕ → Endpoint
+at e core transfer items =
+    record e {
+      moment = 1_000_000_000;
+      options = record e.options { max_retransmissions = Some 2 };
+      core = core;
+      counts = record e.counts { packets_sent = 4 };
+      below = record { queue = queue; transfer = Some (moved transfer items) };
+    }
+
+-- T2, with its deadline and its wait
+abbrev t2 : ℕ → ℕ → ℕ → Option RunningTimer
+t2 deadline wait expiries = Some (record { deadline = deadline; wait = wait; expiries = expiries; terms = record { backoff = Exponential; max_restarts = Some 2; max_backoff = None } })
+
+-- the endpoint in another phase, once it has sent one packet and T2 was started
+abbrev waiting : Endpoint → OpenPhase → Endpoint
+waiting e phase = record e { core = open_in phase mine held; counts = record e.counts { packets_sent = 5 }; timers = record e.timers { t2 = t2 1_400_000_000 400_000_000 0 } }
+
+-- in the clear, for the peer's tag
+abbrev request : Event Emission
+request = packet_of false 9 (shutdown 5 ∷ [])
+
+abbrev answer : Event Emission
+answer = packet_of false 9 (shutdown_ack ∷ [])
+
+abbrev went : Endpoint → Event Emission → Outcome
+went e event = record { words = []; effects = []; after = e; events = event ∷ []; following = next_chunk }
+
+abbrev in_phase : OpenPhase → Core
+in_phase phase = open_in phase mine held
+
+-- ---- the user's call
+
+-- Where all is acknowledged SHUTDOWN goes out at once, whatever waits to be sent.
+calls_where_acknowledged : (e : Endpoint) (transfer : Transfer) → shut_down_outcome (at e (in_phase established) transfer 0) (in_phase established)
+    ≡ went (waiting (at e (in_phase established) transfer 0) shutdown_sent) request
+calls_where_acknowledged e transfer = refl
+
+-- While an item isn't, nothing does,
+calls_before : (e : Endpoint) (transfer : Transfer) → shut_down_outcome (at e (in_phase established) transfer 1) (in_phase established)
+    ≡ still (at e (in_phase shutdown_pending) transfer 1)
+calls_before e transfer = refl
+
+no_step_before : (e : Endpoint) (transfer : Transfer) → step_outcome (at e (in_phase shutdown_pending) transfer 1) (in_phase shutdown_pending)
+    ≡ still (at e (in_phase shutdown_pending) transfer 1)
+no_step_before e transfer = refl
+
+-- until it is.
+step_then : (e : Endpoint) (transfer : Transfer) → step_outcome (at e (in_phase shutdown_pending) transfer 0) (in_phase shutdown_pending)
+    ≡ went (waiting (at e (in_phase shutdown_pending) transfer 0) shutdown_sent) request
+step_then e transfer = refl
+
+answer_then : (e : Endpoint) (transfer : Transfer) → step_outcome (at e (in_phase shutdown_received) transfer 0) (in_phase shutdown_received)
+    ≡ went (waiting (at e (in_phase shutdown_received) transfer 0) shutdown_ack_sent) answer
+answer_then e transfer = refl
+
+-- Without a peer the association ends.
+ends_in_cookie_wait : (e : Endpoint) → (shut_down_outcome e (cookie_wait mine)).events ≡ events.closed ∷ []
+ends_in_cookie_wait e = refl
+
+nothing_where_closed : (e : Endpoint) → shut_down_outcome e closed ≡ still e
+nothing_where_closed e = refl
+
+-- A COOKIE ACK is awaited no longer.
+stops_t1 : (e : Endpoint) (transfer : Transfer) (cookie : List ℕ) → (shut_down_outcome (at e (cookie_echoed mine held cookie) transfer 1) (cookie_echoed mine held cookie)).after.timers.t1 ≡ None
+stops_t1 e transfer cookie = refl
+
+once_is_enough : (e : Endpoint) → shut_down_outcome e (in_phase shutdown_sent) ≡ still e
+once_is_enough e = refl
+
+-- ---- SHUTDOWN
+
+asked_in_established : (e : Endpoint) (transfer : Transfer) → shutdown_outcome (at e (in_phase established) transfer 0) (in_phase established)
+    ≡ went (waiting (at e (in_phase established) transfer 0) shutdown_ack_sent) answer
+asked_in_established e transfer = refl
+
+asked_before : (e : Endpoint) (transfer : Transfer) → shutdown_outcome (at e (in_phase shutdown_pending) transfer 1) (in_phase shutdown_pending)
+    ≡ still (at e (in_phase shutdown_received) transfer 1)
+asked_before e transfer = refl
+
+-- Both ends asked.
+asked_while_asking : (e : Endpoint) (transfer : Transfer) → shutdown_outcome (at e (in_phase shutdown_sent) transfer 1) (in_phase shutdown_sent)
+    ≡ went (waiting (at e (in_phase shutdown_sent) transfer 1) shutdown_ack_sent) answer
+asked_while_asking e transfer = refl
+
+asked_twice : (e : Endpoint) → shutdown_outcome e (in_phase shutdown_received) ≡ still e
+asked_twice e = refl
+
+answered_again : (e : Endpoint) (transfer : Transfer) → shutdown_outcome (at e (in_phase shutdown_ack_sent) transfer 0) (in_phase shutdown_ack_sent)
+    ≡ went (waiting (at e (in_phase shutdown_ack_sent) transfer 0) shutdown_ack_sent) answer
+answered_again e transfer = refl
+
+asked_in_cookie_echoed : (e : Endpoint) (cookie : List ℕ) → shutdown_outcome e (cookie_echoed mine held cookie) ≡ still e
+asked_in_cookie_echoed e cookie = refl
+
+-- ---- SHUTDOWN ACK and SHUTDOWN COMPLETE
+
+-- One that is awaited ends the association; the rest of its packet is dropped.
+completes : (e : Endpoint) → let o : Outcome = shutdown_ack_outcome e (in_phase shutdown_sent) 7 in
+    (o.events ≡ packet_of false 9 (shutdown_complete false ∷ []) ∷ events.closed ∷ []) × (o.after.core ≡ closed) × (o.following ≡ dropped_rest)
+completes e = (refl, refl, refl)
+
+-- One that isn't is reflected under its own tag.
+reflects : (e : Endpoint) → (shutdown_ack_outcome e (in_phase shutdown_pending) 7).events ≡ packet_of true 7 (shutdown_complete true ∷ []) ∷ []
+reflects e = refl
+
+is_completed : (e : Endpoint) → (shutdown_complete_outcome e (in_phase shutdown_ack_sent)).events ≡ events.closed ∷ []
+is_completed e = refl
+
+isnt_completed : (e : Endpoint) → shutdown_complete_outcome e (in_phase shutdown_sent) ≡ still e
+isnt_completed e = refl
+
+-- ---- T2
+
+-- Its second wait is twice the first.
+waits_twice_as_long : (e : Endpoint) (transfer : Transfer) →
+    (t2_again_outcome (record (waiting (at e (in_phase shutdown_sent) transfer 0) shutdown_sent) { moment = 1_400_000_000 })).after.timers.t2 ≡ t2 2_200_000_000 800_000_000 1
+waits_twice_as_long e transfer = refl
+
+sends_again : (e : Endpoint) (transfer : Transfer) → (t2_again_outcome (at e (in_phase shutdown_sent) transfer 0)).events ≡ request ∷ []
+sends_again e transfer = refl
+
+answers_again : (e : Endpoint) (transfer : Transfer) → (t2_again_outcome (at e (in_phase shutdown_ack_sent) transfer 0)).events ≡ answer ∷ []
+answers_again e transfer = refl
+
+-- Data that comes meanwhile starts it anew.
+data_starts_it : (e : Endpoint) (transfer : Transfer) → shutdown_repeated (at e (in_phase shutdown_sent) transfer 0) held
+    ≡ went (waiting (at e (in_phase shutdown_sent) transfer 0) shutdown_sent) request
+data_starts_it e transfer = refl
+
+due_at_its_deadline : (e : Endpoint) (transfer : Transfer) → has_come 1_400_000_000 (deadline (waiting (at e (in_phase shutdown_sent) transfer 0) shutdown_sent) t2_timer) ≡ true
+due_at_its_deadline e transfer = refl
+
+-- Two restarts, and then the peer is given up.
+second_restart : (e : Endpoint) → expiry_input (record e { timers = record e.timers { t2 = t2 9 8 1 } }) t2_timer ≡ act_input shutdown_repeats
+second_restart e = refl
+
+no_third_restart : (e : Endpoint) → expiry_input (record e { timers = record e.timers { t2 = t2 9 8 2 } }) t2_timer ≡ act_input (abort_with TooManyErrors)
+no_third_restart e = refl

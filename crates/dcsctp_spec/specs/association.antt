@@ -1,0 +1,10 @@
+pub mod Effect
+pub mod Choices
+pub mod FlushChanges
+pub mod HandshakeChanges
+pub mod CookieEchoChanges
+pub mod ResetChanges
+pub mod ResumeChanges
+pub mod ShutdownChanges
+pub mod Acts
+pub mod Controlled

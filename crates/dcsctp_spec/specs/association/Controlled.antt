@@ -1,0 +1,62 @@
+-- How a turn of an endpoint is one of its association. The association changes as the change says, and the effects are the
+-- change's. The user sees its packets, connections, ends and resets in the change's order. Not said here: timers, counts, what
+-- lies below, the words drawn, and whether packets have a checksum. Nor are the texts, streams and kinds of events, and events
+-- that don't count here.
+use Rattle.std.specs.Prelude.{◌≡◌, ℕ, List, [], ◌∷◌}
+use Rattle.dcsctp_types.specs.Settings.{SameOptions}
+use Rattle.dcsctp_spec.specs.Packet.{Content, Packet, Emission}
+use Rattle.dcsctp_spec.specs.endpoint.Event.{Event, sent, connected, closed, aborted, streams_reset_failed, streams_reset_performed, incoming_stream_reset}
+use Rattle.dcsctp_spec.specs.endpoint.Endpoint.{Endpoint}
+use Rattle.dcsctp_spec.specs.endpoint.Outcome.{Outcome}
+use Rattle.dcsctp_spec.specs.association.Effect.{Effect, draws, sends, holds, connects, ends, begins, completes, fails, accepts, performs, resumes, noted, Change}
+use Rattle.dcsctp_spec.specs.association.Choices.{Choices}
+use Rattle.dcsctp_spec.specs.association.Acts.{Act, act_change, ChunkChange}
+
+-- what of a turn its user sees and two sides have to agree on
+pub data Sign : Type 0 where
+  packet_sent : Packet → Sign
+  has_connected : Sign
+  has_ended : Sign
+  own_reset_performed : Sign
+  own_reset_failed : Sign
+  peer_reset_performed : Sign
+
+abbrev pub signs_of_events : List (Event Emission) → List Sign
+signs_of_events [] = []
+signs_of_events (sent emission ∷ events) = packet_sent emission.packet ∷ signs_of_events events
+signs_of_events (connected ∷ events) = has_connected ∷ signs_of_events events
+signs_of_events (closed ∷ events) = has_ended ∷ signs_of_events events
+signs_of_events (aborted kind text ∷ events) = has_ended ∷ signs_of_events events
+signs_of_events (streams_reset_performed streams ∷ events) = own_reset_performed ∷ signs_of_events events
+signs_of_events (streams_reset_failed streams ∷ events) = own_reset_failed ∷ signs_of_events events
+signs_of_events (incoming_stream_reset streams ∷ events) = peer_reset_performed ∷ signs_of_events events
+signs_of_events (event ∷ events) = signs_of_events events
+
+abbrev pub signs_of_effects : List Effect → List Sign
+signs_of_effects [] = []
+signs_of_effects (sends packet ∷ effects) = packet_sent packet ∷ signs_of_effects effects
+signs_of_effects (connects link ∷ effects) = has_connected ∷ signs_of_effects effects
+signs_of_effects (ends ∷ effects) = has_ended ∷ signs_of_effects effects
+signs_of_effects (completes my number ∷ effects) = own_reset_performed ∷ signs_of_effects effects
+signs_of_effects (fails number ∷ effects) = own_reset_failed ∷ signs_of_effects effects
+signs_of_effects (performs peer number ∷ effects) = peer_reset_performed ∷ signs_of_effects effects
+signs_of_effects (draws pair ∷ effects) = signs_of_effects effects
+signs_of_effects (holds link ∷ effects) = signs_of_effects effects
+signs_of_effects (begins number ∷ effects) = signs_of_effects effects
+signs_of_effects (accepts number ∷ effects) = signs_of_effects effects
+signs_of_effects (resumes link own last ∷ effects) = signs_of_effects effects
+
+pub record IsControlled (e : Endpoint) (o : Outcome) (change : Change) : Type 0 where
+  pub core : o.after.core ≡ change.core
+  pub options : SameOptions e.options o.after.options
+  pub signs : signs_of_events o.events ≡ signs_of_effects change.effects
+  pub effects : o.effects ≡ noted change.effects
+  pub following : o.following ≡ change.following
+
+-- a chunk's turn, as far as the association goes
+abbrev pub ControlledChunk : Endpoint → ℕ → Content → Outcome → Type 0
+ControlledChunk e tag content o = (change : Change) × ChunkChange e.options e.core tag content change × IsControlled e o change
+
+-- an act's turn, as far as the association goes
+abbrev pub ControlledAct : Endpoint → Act → Outcome → Type 0
+ControlledAct e act o = (choices : Choices) × IsControlled e o (act_change e.options e.core act choices)

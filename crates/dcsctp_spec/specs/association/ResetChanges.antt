@@ -1,0 +1,179 @@
+-- What RE-CONFIG does to the association (RFC 6525, section 5.2).
+use Rattle.std.specs.Prelude.{◌==◌, ℕ, Bool, true, false, Option, None, Some, List, [], ◌∷◌, ◌++◌, if◌then◌else◌}
+use Rattle.dcsctp_types.specs.declared.association.Pair.{Pair}
+use Rattle.dcsctp_types.specs.declared.association.Held.{Held}
+use Rattle.dcsctp_types.specs.wire.declared.reconfiguration.ReconfigurationResponseResult.{ReconfigurationResponseResult}
+use Rattle.dcsctp_types.specs.wire.declared.reconfiguration.ReconfigurationResponseResult.TheVariants.{SuccessNothingToDo, SuccessPerformed, Denied, ErrorWrongSSN, ErrorRequestAlreadyInProgress, ErrorBadSequenceNumber, InProgress}
+use Rattle.dcsctp_spec.specs.Reconfiguration.{ResetParameter, outgoing_reset_request, incoming_reset_request, reconfiguration_response, other_reset_parameter}
+use Rattle.dcsctp_spec.specs.Packet.{re_config}
+use Rattle.dcsctp_spec.specs.endpoint.Endpoint.{Core, cookie_echoed, open_in}
+use Rattle.dcsctp_spec.specs.endpoint.Following.{next_chunk}
+use Rattle.dcsctp_spec.specs.association.Effect.{Effect, completes, fails, accepts, performs, Change, unchanged, emitted_alone}
+use Rattle.dcsctp_spec.specs.association.Choices.{Choices}
+use Rattle.dcsctp_spec.specs.association.FlushChanges.{Flushed, flush, next_number}
+
+-- ---- which number
+
+-- where a request's number stands to the last one
+pub data Place : Type 0 where
+  -- It is the last one again.
+  again : Place
+  -- It is the next one.
+  next : Place
+  -- It is neither.
+  astray : Place
+
+abbrev pub place_of : ℕ → ℕ → Place
+place_of last number = if number == last then again else (if number == next_number last then next else astray)
+
+-- ---- a request of the peer
+
+-- what is known of the association after a request, how the request is answered, and its effects
+pub record Answered : Type 0 where
+  pub held : Held
+  pub result : ReconfigurationResponseResult
+  pub effects : List Effect
+
+-- the last number of the peer, and how it was answered
+abbrev pub with_last : Held → ℕ → ReconfigurationResponseResult → Held
+with_last held number result = record held { peer_last = number; peer_result = result }
+
+-- An Outgoing SSN Reset Request is performed once all data sent before it is received, and is in progress until then.
+abbrev pub worked : Held → ℕ → Bool → Answered
+worked held number true = record { held = with_last held number SuccessPerformed; result = SuccessPerformed; effects = performs held.peer number ∷ [] }
+worked held number false = record { held = with_last held number InProgress; result = InProgress; effects = [] }
+
+-- The last request again is answered as before; one in progress is handled again.
+abbrev pub repeated : Held → ReconfigurationResponseResult → Bool → Answered
+repeated held SuccessNothingToDo is_reached = record { held = held; result = SuccessNothingToDo; effects = [] }
+repeated held SuccessPerformed is_reached = record { held = held; result = SuccessPerformed; effects = [] }
+repeated held Denied is_reached = record { held = held; result = Denied; effects = [] }
+repeated held ErrorWrongSSN is_reached = record { held = held; result = ErrorWrongSSN; effects = [] }
+repeated held ErrorRequestAlreadyInProgress is_reached = record { held = held; result = ErrorRequestAlreadyInProgress; effects = [] }
+repeated held ErrorBadSequenceNumber is_reached = record { held = held; result = ErrorBadSequenceNumber; effects = [] }
+repeated held InProgress is_reached = worked held held.peer_last is_reached
+
+-- a request whose number is neither the last nor the next
+abbrev pub refused : Held → Answered
+refused held = record { held = held; result = ErrorBadSequenceNumber; effects = [] }
+
+-- the effects of an acceptance before those of the request
+abbrev pub accepted : ℕ → Answered → Answered
+accepted number after = record after { effects = accepts number ∷ after.effects }
+
+abbrev pub outgoing_by : Held → ℕ → Bool → Place → Answered
+outgoing_by held number is_reached again = repeated held held.peer_result is_reached
+outgoing_by held number is_reached next = accepted number (worked held number is_reached)
+outgoing_by held number is_reached astray = refused held
+
+-- No stream is reset for an Incoming SSN Reset Request: it is answered by this, even if the answer before was in progress.
+abbrev pub nothing_to_do : Held → ℕ → Answered
+nothing_to_do held number = record { held = with_last held number SuccessNothingToDo; result = SuccessNothingToDo; effects = [] }
+
+abbrev pub incoming_by : Held → ℕ → Place → Answered
+incoming_by held number again = nothing_to_do held number
+incoming_by held number next = accepted number (nothing_to_do held number)
+incoming_by held number astray = refused held
+
+-- ---- an answer of the peer
+
+-- what is known of the association after an answer, and its effects
+pub record Informed : Type 0 where
+  pub held : Held
+  pub effects : List Effect
+
+-- its own request has ended
+abbrev pub without_outstanding : Held → Held
+without_outstanding held = record held { own_outstanding = None }
+
+abbrev pub completed : Pair → Held → ℕ → Informed
+completed my held number = record { held = without_outstanding held; effects = completes my number ∷ [] }
+
+abbrev pub failed : Held → ℕ → Informed
+failed held number = record { held = without_outstanding held; effects = fails number ∷ [] }
+
+-- One in progress stays outstanding, and is sent again.
+abbrev pub informed_by : Pair → Held → ℕ → ReconfigurationResponseResult → Informed
+informed_by my held number SuccessNothingToDo = completed my held number
+informed_by my held number SuccessPerformed = completed my held number
+informed_by my held number Denied = failed held number
+informed_by my held number ErrorWrongSSN = failed held number
+informed_by my held number ErrorRequestAlreadyInProgress = failed held number
+informed_by my held number ErrorBadSequenceNumber = failed held number
+informed_by my held number InProgress = record { held = held; effects = [] }
+
+-- is it the number of the outstanding request?
+abbrev pub is_outstanding : ℕ → Option ℕ → Bool
+is_outstanding number None = false
+is_outstanding number (Some outstanding) = number == outstanding
+
+abbrev pub informed_where : Pair → Held → ℕ → ReconfigurationResponseResult → Bool → Informed
+informed_where my held number result true = informed_by my held number result
+informed_where my held number result false = record { held = held; effects = [] }
+
+-- ---- the parameters after one another
+
+-- What is left of them. A second Outgoing SSN Reset Request is an error, and nothing is sent.
+pub record WorkedParameters : Type 0 where
+  pub held : Held
+  pub effects : List Effect
+  pub answers : List ResetParameter
+  pub is_refused : Bool
+
+abbrev pub after_request : ℕ → Answered → WorkedParameters → WorkedParameters
+after_request number first rest =
+    record rest { effects = first.effects ++ rest.effects; answers = reconfiguration_response number first.result ∷ rest.answers }
+
+abbrev pub after_answer : Informed → WorkedParameters → WorkedParameters
+after_answer first rest = record rest { effects = first.effects ++ rest.effects }
+
+-- its own pair, whether data has come that was sent before, and whether an outgoing request was handled so far
+abbrev pub work_parameters : Pair → Bool → Bool → Held → List ResetParameter → WorkedParameters
+work_parameters my is_reached has_worked held [] = record { held = held; effects = []; answers = []; is_refused = false }
+work_parameters my is_reached true held (outgoing_reset_request number answered reset ∷ parameters) =
+    record { held = held; effects = []; answers = []; is_refused = true }
+work_parameters my is_reached false held (outgoing_reset_request number answered reset ∷ parameters) =
+    let first : Answered = outgoing_by held number is_reached (place_of held.peer_last number) in
+    after_request number first (work_parameters my is_reached true first.held parameters)
+work_parameters my is_reached has_worked held (incoming_reset_request number streams ∷ parameters) =
+    let first : Answered = incoming_by held number (place_of held.peer_last number) in
+    after_request number first (work_parameters my is_reached has_worked first.held parameters)
+work_parameters my is_reached has_worked held (reconfiguration_response number result ∷ parameters) =
+    let first : Informed = informed_where my held number result (is_outstanding number held.own_outstanding) in
+    after_answer first (work_parameters my is_reached has_worked first.held parameters)
+work_parameters my is_reached has_worked held (other_reset_parameter parameter ∷ parameters) = work_parameters my is_reached has_worked held parameters
+
+-- ---- the chunk
+
+-- A chunk without parameters is an error too.
+abbrev pub work_chunk : Pair → Bool → Held → List ResetParameter → WorkedParameters
+work_chunk my is_reached held [] = record { held = held; effects = []; answers = []; is_refused = true }
+work_chunk my is_reached held (parameter ∷ parameters) = work_parameters my is_reached false held (parameter ∷ parameters)
+
+-- If there are answers, they are sent in a packet of one RE-CONFIG.
+abbrev pub answers_emitted : Bool → ℕ → List ResetParameter → List Effect
+answers_emitted fits tag [] = []
+answers_emitted fits tag (answer ∷ answers) = emitted_alone fits tag (re_config (answer ∷ answers))
+
+-- After them comes a flush: a request that has ended may let the next one begin.
+abbrev pub reset_sent : Bool → Held → List ResetParameter → Choices → Flushed
+reset_sent true held answers choices = record { held = held; effects = [] }
+reset_sent false held answers choices =
+    let after : Flushed = flush held.peer.tag held [] choices.filling in
+    record { held = after.held; effects = answers_emitted choices.fits held.peer.tag answers ++ after.effects }
+
+-- the peer part and effects after the chunk
+abbrev pub reset_worked : Pair → Held → List ResetParameter → Choices → Informed
+reset_worked my held parameters choices =
+    let worked : WorkedParameters = work_chunk my choices.is_reached held parameters in
+    let sent : Flushed = reset_sent worked.is_refused worked.held worked.answers choices in
+    record { held = sent.held; effects = worked.effects ++ sent.effects }
+
+abbrev pub re_config_change : Core → List ResetParameter → Choices → Change
+re_config_change (cookie_echoed my held cookie) parameters choices =
+    let after : Informed = reset_worked my held parameters choices in
+    record { core = cookie_echoed my after.held cookie; effects = after.effects; following = next_chunk }
+re_config_change (open_in phase my held) parameters choices =
+    let after : Informed = reset_worked my held parameters choices in
+    record { core = open_in phase my after.held; effects = after.effects; following = next_chunk }
+re_config_change core parameters choices = unchanged core

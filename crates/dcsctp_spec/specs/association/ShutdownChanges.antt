@@ -1,0 +1,99 @@
+-- How an association shuts down and ends (RFC 9260, sections 8.5, 9.1 and 9.2).
+use Rattle.std.specs.Prelude.{ℕ, Bool, true, false, List, [], ◌∷◌}
+use Rattle.dcsctp_types.specs.declared.association.Pair.{Pair}
+use Rattle.dcsctp_types.specs.declared.association.Held.{Held}
+use Rattle.dcsctp_spec.specs.endpoint.Cause.{Cause}
+use Rattle.dcsctp_spec.specs.Packet.{Content, abort, shutdown, shutdown_ack, shutdown_complete}
+use Rattle.dcsctp_spec.specs.endpoint.Endpoint.{Core, closed, cookie_wait, cookie_echoed, open_in, OpenPhase, established, shutdown_pending, shutdown_sent, shutdown_received, shutdown_ack_sent}
+use Rattle.dcsctp_spec.specs.endpoint.Following.{next_chunk}
+use Rattle.dcsctp_spec.specs.association.Effect.{Change, unchanged, ended, emitted, emitted_alone}
+
+-- a phase after one control chunk to the peer, or none
+abbrev pub sending_change : OpenPhase → Pair → Held → List Content → Change
+sending_change phase my held contents = record { core = open_in phase my held; effects = emitted held.peer.tag contents; following = next_chunk }
+
+-- A step of shutdown, once all data that was sent is acknowledged (RFC 9260, section 9.2).
+abbrev pub shutdown_step_change_in : OpenPhase → Pair → Held → ℕ → Bool → Change
+shutdown_step_change_in shutdown_pending my held tsn true = sending_change shutdown_sent my held (shutdown tsn ∷ [])
+shutdown_step_change_in shutdown_received my held tsn true = sending_change shutdown_ack_sent my held (shutdown_ack ∷ [])
+shutdown_step_change_in phase my held tsn is_acknowledged = sending_change phase my held []
+
+abbrev pub shutdown_step_change : Core → ℕ → Bool → Change
+shutdown_step_change (open_in phase my held) tsn is_acknowledged = shutdown_step_change_in phase my held tsn is_acknowledged
+shutdown_step_change core tsn is_acknowledged = unchanged core
+
+-- ---- calls
+
+abbrev pub shutdown_call_change_in : OpenPhase → Pair → Held → ℕ → Bool → Change
+shutdown_call_change_in established my held tsn is_acknowledged = shutdown_step_change_in shutdown_pending my held tsn is_acknowledged
+shutdown_call_change_in phase my held tsn is_acknowledged = unchanged (open_in phase my held)
+
+-- The user shuts the association down. One whose COOKIE ACK is awaited will never connect.
+abbrev pub shutdown_call_change : Core → ℕ → Bool → Change
+shutdown_call_change closed tsn is_acknowledged = unchanged closed
+shutdown_call_change (cookie_wait my) tsn is_acknowledged = ended []
+shutdown_call_change (cookie_echoed my held cookie) tsn is_acknowledged = shutdown_step_change_in shutdown_pending my held tsn is_acknowledged
+shutdown_call_change (open_in phase my held) tsn is_acknowledged = shutdown_call_change_in phase my held tsn is_acknowledged
+
+-- The association is aborted, by the user, for a violation, or after too many errors; the peer is told if the packet fits (RFC
+-- 9260, sections 8.1 and 9.1).
+abbrev pub abort_call_change : Core → List Cause → Bool → Change
+abort_call_change closed causes fits = unchanged closed
+abort_call_change (cookie_wait my) causes fits = ended []
+abort_call_change (cookie_echoed my held cookie) causes fits = ended (emitted_alone fits held.peer.tag (abort false causes))
+abort_call_change (open_in phase my held) causes fits = ended (emitted_alone fits held.peer.tag (abort false causes))
+
+-- ---- T2, and data while a SHUTDOWN waits for its answer
+
+abbrev pub shutdown_again_change_in : OpenPhase → Pair → Held → ℕ → Change
+shutdown_again_change_in shutdown_sent my held tsn = sending_change shutdown_sent my held (shutdown tsn ∷ [])
+shutdown_again_change_in shutdown_ack_sent my held tsn = sending_change shutdown_ack_sent my held (shutdown_ack ∷ [])
+shutdown_again_change_in phase my held tsn = unchanged (open_in phase my held)
+
+-- SHUTDOWN or SHUTDOWN ACK is sent again.
+abbrev pub shutdown_again_change : Core → ℕ → Change
+shutdown_again_change (open_in phase my held) tsn = shutdown_again_change_in phase my held tsn
+shutdown_again_change core tsn = unchanged core
+
+-- ---- chunks
+
+-- An ABORT ends the association with a peer.
+abbrev pub abort_change : Core → Change
+abort_change (cookie_echoed my held cookie) = ended []
+abort_change (open_in phase my held) = ended []
+abort_change core = unchanged core
+
+-- the peer shuts the association down
+abbrev pub shutdown_change_in : OpenPhase → Pair → Held → ℕ → Bool → Change
+shutdown_change_in established my held tsn is_acknowledged = shutdown_step_change_in shutdown_received my held tsn is_acknowledged
+shutdown_change_in shutdown_pending my held tsn is_acknowledged = shutdown_step_change_in shutdown_received my held tsn is_acknowledged
+shutdown_change_in shutdown_sent my held tsn is_acknowledged = sending_change shutdown_ack_sent my held (shutdown_ack ∷ [])
+shutdown_change_in shutdown_received my held tsn is_acknowledged = unchanged (open_in shutdown_received my held)
+shutdown_change_in shutdown_ack_sent my held tsn is_acknowledged = sending_change shutdown_ack_sent my held (shutdown_ack ∷ [])
+
+abbrev pub shutdown_change : Core → ℕ → Bool → Change
+shutdown_change (open_in phase my held) tsn is_acknowledged = shutdown_change_in phase my held tsn is_acknowledged
+shutdown_change core tsn is_acknowledged = unchanged core
+
+-- A SHUTDOWN ACK that isn't awaited is answered under its own tag, with the T bit (RFC 9260, sections 8.4 and
+-- 8.5.1).
+abbrev pub reflected_change : Core → ℕ → Change
+reflected_change core header = record { core = core; effects = emitted header (shutdown_complete true ∷ []); following = next_chunk }
+
+abbrev pub shutdown_ack_change_in : OpenPhase → Pair → Held → ℕ → Change
+shutdown_ack_change_in shutdown_sent my held header = ended (emitted held.peer.tag (shutdown_complete false ∷ []))
+shutdown_ack_change_in shutdown_ack_sent my held header = ended (emitted held.peer.tag (shutdown_complete false ∷ []))
+shutdown_ack_change_in phase my held header = reflected_change (open_in phase my held) header
+
+abbrev pub shutdown_ack_change : Core → ℕ → Change
+shutdown_ack_change (open_in phase my held) header = shutdown_ack_change_in phase my held header
+shutdown_ack_change core header = reflected_change core header
+
+abbrev pub shutdown_complete_change_in : OpenPhase → Pair → Held → Change
+shutdown_complete_change_in shutdown_ack_sent my held = ended []
+shutdown_complete_change_in phase my held = unchanged (open_in phase my held)
+
+-- SHUTDOWN COMPLETE counts while a SHUTDOWN ACK waits for it.
+abbrev pub shutdown_complete_change : Core → Change
+shutdown_complete_change (open_in phase my held) = shutdown_complete_change_in phase my held
+shutdown_complete_change core = unchanged core

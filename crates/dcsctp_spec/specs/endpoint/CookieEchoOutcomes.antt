@@ -1,0 +1,217 @@
+-- The turn of a COOKIE ECHO (RFC 9260, sections 5.1 and 5.2.4). association/CookieEchoChanges says which case it is.
+use Rattle.std.specs.Prelude.{◌≡◌, ◌==◌, ℕ, min, Bool, None, Some, List, [], ◌∷◌, codes, Result, Ok, Err}
+use Rattle.std.specs.Duration.{as_nanos}
+use Rattle.dcsctp_types.specs.declared.association.Held.{Held}
+use Rattle.dcsctp_types.specs.declared.options.Options.{Options}
+use Rattle.dcsctp_types.specs.declared.word.Word.TheVariants.{U64}
+use Rattle.dcsctp_types.specs.declared.kinds.ErrorKind.TheVariants.{ParseFailed, WrongSequence}
+use Rattle.dcsctp_spec.specs.Cookie.{Cookie, cookie_at, is_stale}
+use Rattle.dcsctp_spec.specs.endpoint.Event.{Event, sent, connected, connection_restarted, error}
+use Rattle.dcsctp_spec.specs.Packet.{cookie_ack, shutdown_ack, Emission}
+use Rattle.dcsctp_spec.specs.queues.SendQueue.{SendQueueState, numbered_for}
+use Rattle.dcsctp_spec.specs.queues.Transfer.{new_transfer}
+use Rattle.dcsctp_spec.specs.endpoint.Endpoint.{Endpoint, Core, cookie_echoed, open_in, OpenPhase, established, shutdown_ack_sent, stopped_timers, heartbeats_begun}
+use Rattle.dcsctp_spec.specs.endpoint.Outcome.{Outcome, noting, still, counted}
+use Rattle.dcsctp_spec.specs.endpoint.Following.{dropped_rest}
+use Rattle.dcsctp_spec.specs.association.CookieEchoChanges.{Resolution, establish_new, restart, simultaneous_init, discard, maintain_existing, invalid_tag, stale, aged, resolve, held_by_cookie, shutting_down_error}
+use Rattle.dcsctp_spec.specs.association.Effect.{holds, connects, link_of}
+use Rattle.dcsctp_spec.specs.endpoint.FlushOutcomes.{Answer, FlushAnswers, FlushKind, flush_answered, flush_outcome}
+use Rattle.dcsctp_spec.specs.endpoint.HandshakeOutcomes.{queue_anew, connected_after}
+
+-- ---- one that is refused
+
+abbrev pub invalid_tag_text : List ℕ
+invalid_tag_text = codes "Received CookieEcho with invalid verification tag"
+
+abbrev pub stale_text : List ℕ
+stale_text = codes "Stale state cookie"
+
+abbrev pub shutting_down_text : List ℕ
+shutting_down_text = codes "Received COOKIE-ECHO while shutting down"
+
+-- Nothing happens, and the rest of the packet is dropped.
+abbrev pub discard_outcome : Endpoint → Outcome
+discard_outcome e = record { words = []; effects = []; after = e; events = []; following = dropped_rest }
+
+-- one OnError, no change, and the rest of the packet is dropped
+abbrev pub refused_echo_outcome : Endpoint → List ℕ → Outcome
+refused_echo_outcome e text = record { words = []; effects = []; after = e; events = error ParseFailed text ∷ []; following = dropped_rest }
+
+-- SHUTDOWN ACK again, and ERROR with the cause Cookie Received While Shutting Down (RFC 9260, section 5.2.4, A)
+abbrev pub shutting_down_emission : Held → Emission
+shutting_down_emission held =
+    record {
+      with_checksum = held.capabilities.zero_checksum_method.0 == 0;
+      packet = record { tag = held.peer.tag; contents = shutdown_ack ∷ shutting_down_error ∷ [] };
+    }
+
+abbrev pub refused_restart_outcome : Endpoint → Held → Outcome
+refused_restart_outcome e held =
+    record {
+      words = [];
+      effects = [];
+      after = counted e;
+      events = sent (shutting_down_emission held) ∷ error WrongSequence shutting_down_text ∷ [];
+      following = dropped_rest;
+    }
+
+-- ---- one that makes an association
+
+-- the peer's window: no larger than the send buffer
+abbrev pub window_by_cookie : Options → Cookie → ℕ
+window_by_cookie options cookie = min cookie.window options.max_send_buffer_size
+
+-- The association is established, with what belongs to it anew. The heartbeat interval starts anew, and a heartbeat timeout runs
+-- on.
+abbrev pub established_by : Endpoint → Cookie → SendQueueState → ℕ → Endpoint
+established_by e cookie queue tie =
+    record e {
+      core = open_in established cookie.maker (held_by_cookie e.options cookie);
+      tie = tie;
+      outstanding = None;
+      timers = heartbeats_begun e (record stopped_timers { heartbeat_interval = e.timers.heartbeat_interval; heartbeat_timeout = e.timers.heartbeat_timeout });
+      below = record {
+        queue = queue;
+        transfer = Some (new_transfer e.options (held_by_cookie e.options cookie).capabilities cookie.maker.first_tsn cookie.addressee.first_tsn (window_by_cookie e.options cookie));
+      };
+    }
+
+-- a packet that begins with COOKIE ACK to a cookie's addressee
+abbrev pub acknowledgement : Held → Cookie → Emission
+acknowledgement held cookie =
+    record { with_checksum = held.capabilities.zero_checksum_method.0 == 0; packet = record { tag = cookie.addressee.tag; contents = cookie_ack ∷ [] } }
+
+-- These events, and a flush that begins with COOKIE ACK.
+abbrev pub establish_by : FlushKind → Endpoint → Cookie → SendQueueState → ℕ → List (Event Emission) → Outcome
+establish_by flush e cookie queue tie events =
+    let held : Held = held_by_cookie e.options cookie in
+    noting (holds (link_of cookie.maker held) ∷ connects (link_of cookie.maker held) ∷ [])
+    (flush (established_by e cookie queue tie) (U64 tie ∷ []) events (held.capabilities.zero_checksum_method.0 == 0) cookie.addressee.tag (cookie_ack ∷ []))
+
+-- are messages of such an association numbered for interleaving?
+abbrev pub interleaves : Endpoint → Cookie → Bool
+interleaves e cookie = (held_by_cookie e.options cookie).capabilities.message_interleaving
+
+-- What waits to be sent is unchanged if there was no peer; else it starts anew.
+abbrev pub queue_kept : Endpoint → Cookie → SendQueueState
+queue_kept e cookie = numbered_for (interleaves e cookie) e.below.queue
+
+abbrev pub queue_begun : Endpoint → Cookie → SendQueueState
+queue_begun e cookie = queue_anew e.below.queue (interleaves e cookie)
+
+abbrev pub establish_new_by : FlushKind → Endpoint → Cookie → ℕ → Outcome
+establish_new_by flush e cookie tie = establish_by flush e cookie (queue_kept e cookie) tie (connected ∷ [])
+
+abbrev pub replace_by : FlushKind → Endpoint → Cookie → ℕ → List (Event Emission) → Outcome
+replace_by flush e cookie tie events = establish_by flush e cookie (queue_begun e cookie) tie events
+
+abbrev pub restart_by : FlushKind → Endpoint → Cookie → ℕ → Outcome
+restart_by flush e cookie tie = replace_by flush e cookie tie (connection_restarted ∷ connected ∷ [])
+
+abbrev pub restart_by_in : FlushKind → Endpoint → Cookie → ℕ → OpenPhase → Held → Outcome
+restart_by_in flush e cookie tie shutdown_ack_sent held = refused_restart_outcome e held
+restart_by_in flush e cookie tie phase held = restart_by flush e cookie tie
+
+abbrev pub restart_by_where : FlushKind → Endpoint → Cookie → ℕ → Core → Outcome
+restart_by_where flush e cookie tie (open_in phase mine held) = restart_by_in flush e cookie tie phase held
+restart_by_where flush e cookie tie core = restart_by flush e cookie tie
+
+-- ---- one of the existing association
+
+abbrev pub acknowledge_by : FlushKind → Endpoint → Held → Cookie → List (Event Emission) → Outcome
+acknowledge_by flush e held cookie events = flush e [] events (held.capabilities.zero_checksum_method.0 == 0) cookie.addressee.tag (cookie_ack ∷ [])
+
+abbrev pub maintain_by : FlushKind → Endpoint → Cookie → Core → Outcome
+maintain_by flush e cookie (cookie_echoed mine held echoed) =
+    noting (connects (link_of mine held) ∷ []) (acknowledge_by flush (connected_after e mine held) held cookie (connected ∷ []))
+maintain_by flush e cookie (open_in phase mine held) = acknowledge_by flush e held cookie []
+maintain_by flush e cookie core = still e
+
+-- ---- every case
+
+-- Its change is `resolved_change`.
+abbrev pub resolved_by : FlushKind → Endpoint → Cookie → Core → ℕ → Resolution → Outcome
+resolved_by flush e cookie core word establish_new = establish_new_by flush e cookie word
+resolved_by flush e cookie core word restart = restart_by_where flush e cookie word core
+resolved_by flush e cookie core word simultaneous_init = replace_by flush e cookie word (connected ∷ [])
+resolved_by flush e cookie core word discard = discard_outcome e
+resolved_by flush e cookie core word maintain_existing = maintain_by flush e cookie core
+resolved_by flush e cookie core word invalid_tag = refused_echo_outcome e invalid_tag_text
+resolved_by flush e cookie core word stale = refused_echo_outcome e stale_text
+
+-- the case, by the age of the cookie too
+abbrev pub resolved_now : Endpoint → Core → ℕ → Cookie → Resolution
+resolved_now e core header cookie = aged (is_stale (as_nanos e.options.cookie_lifetime) e.moment cookie) (resolve core e.tie header cookie)
+
+-- By the association, the header tag and what the bytes read as; the word is the one that comes next, drawn or not. Its change is
+-- `cookie_echo_change`.
+abbrev pub cookie_echo_by : FlushKind → Endpoint → Core → ℕ → Result Cookie (List ℕ) → ℕ → Outcome
+cookie_echo_by flush e core header (Err text) word = refused_echo_outcome e text
+cookie_echo_by flush e core header (Ok cookie) word = resolved_by flush e cookie core word (resolved_now e core header cookie)
+
+-- ---- the answers that its flush may get, if there is one
+
+abbrev pub EstablishAnswers : Endpoint → Cookie → SendQueueState → ℕ → List Answer → Type 0
+EstablishAnswers e cookie queue tie answers =
+    FlushAnswers (established_by e cookie queue tie) (acknowledgement (held_by_cookie e.options cookie) cookie) answers
+
+abbrev pub RestartAnswersIn : Endpoint → Cookie → ℕ → OpenPhase → List Answer → Type 0
+RestartAnswersIn e cookie tie shutdown_ack_sent answers = answers ≡ []
+RestartAnswersIn e cookie tie phase answers = EstablishAnswers e cookie (queue_begun e cookie) tie answers
+
+abbrev pub RestartAnswers : Endpoint → Cookie → ℕ → Core → List Answer → Type 0
+RestartAnswers e cookie tie (open_in phase mine held) answers = RestartAnswersIn e cookie tie phase answers
+RestartAnswers e cookie tie core answers = EstablishAnswers e cookie (queue_begun e cookie) tie answers
+
+abbrev pub MaintainAnswers : Endpoint → Cookie → Core → List Answer → Type 0
+MaintainAnswers e cookie (cookie_echoed mine held echoed) answers = FlushAnswers (connected_after e mine held) (acknowledgement held cookie) answers
+MaintainAnswers e cookie (open_in phase mine held) answers = FlushAnswers e (acknowledgement held cookie) answers
+MaintainAnswers e cookie core answers = answers ≡ []
+
+abbrev pub ResolvedAnswers : Endpoint → Cookie → Core → ℕ → Resolution → List Answer → Type 0
+ResolvedAnswers e cookie core word establish_new answers = EstablishAnswers e cookie (queue_kept e cookie) word answers
+ResolvedAnswers e cookie core word restart answers = RestartAnswers e cookie word core answers
+ResolvedAnswers e cookie core word simultaneous_init answers = EstablishAnswers e cookie (queue_begun e cookie) word answers
+ResolvedAnswers e cookie core word discard answers = answers ≡ []
+ResolvedAnswers e cookie core word maintain_existing answers = MaintainAnswers e cookie core answers
+ResolvedAnswers e cookie core word invalid_tag answers = answers ≡ []
+ResolvedAnswers e cookie core word stale answers = answers ≡ []
+
+abbrev pub EchoedAnswers : Endpoint → Core → ℕ → Result Cookie (List ℕ) → ℕ → List Answer → Type 0
+EchoedAnswers e core header (Err text) word answers = answers ≡ []
+EchoedAnswers e core header (Ok cookie) word answers = ResolvedAnswers e cookie core word (resolved_now e core header cookie) answers
+
+-- a COOKIE ECHO is handled
+abbrev pub CookieEchoTurn : Endpoint → ℕ → List ℕ → Outcome → Type 0
+CookieEchoTurn e header bytes o =
+    (word : ℕ) × (answers : List Answer) × EchoedAnswers e e.core header (cookie_at bytes) word answers
+    × (o ≡ cookie_echo_by (flush_answered answers) e e.core header (cookie_at bytes) word)
+
+-- ---- if nothing waits, as it is so far
+
+abbrev pub establish_outcome : Endpoint → Cookie → SendQueueState → ℕ → List (Event Emission) → Outcome
+establish_outcome e cookie queue tie events = establish_by flush_outcome e cookie queue tie events
+
+abbrev pub establish_new_outcome : Endpoint → Cookie → ℕ → Outcome
+establish_new_outcome e cookie tie = establish_new_by flush_outcome e cookie tie
+
+abbrev pub replace_outcome : Endpoint → Cookie → ℕ → List (Event Emission) → Outcome
+replace_outcome e cookie tie events = replace_by flush_outcome e cookie tie events
+
+abbrev pub restart_outcome : Endpoint → Cookie → ℕ → Outcome
+restart_outcome e cookie tie = restart_by flush_outcome e cookie tie
+
+abbrev pub restart_outcome_in : Endpoint → Cookie → ℕ → OpenPhase → Held → Outcome
+restart_outcome_in e cookie tie phase held = restart_by_in flush_outcome e cookie tie phase held
+
+abbrev pub restart_outcome_where : Endpoint → Cookie → ℕ → Core → Outcome
+restart_outcome_where e cookie tie core = restart_by_where flush_outcome e cookie tie core
+
+abbrev pub maintain_outcome : Endpoint → Cookie → Core → Outcome
+maintain_outcome e cookie core = maintain_by flush_outcome e cookie core
+
+abbrev pub resolved_outcome : Endpoint → Cookie → Core → ℕ → Resolution → Outcome
+resolved_outcome e cookie core word resolution = resolved_by flush_outcome e cookie core word resolution
+
+abbrev pub cookie_echo_outcome : Endpoint → Core → ℕ → Result Cookie (List ℕ) → ℕ → Outcome
+cookie_echo_outcome e core header read word = cookie_echo_by flush_outcome e core header read word

@@ -1,0 +1,179 @@
+-- The turns of data: what is received, what acknowledges it, and what is sent (RFC 9260, section 6; RFC 3758; RFC 8260).
+use Rattle.std.specs.Prelude.{◌≡◌, ℕ, Bool, true, false, Option, None, Some, List, [], ◌∷◌, ◌++◌, codes, if◌then◌else◌}
+use Rattle.std.specs.List.{AllByRecursion}
+use Rattle.dcsctp_types.specs.wire.Content.{SackContent, no_user_data}
+use Rattle.dcsctp_types.specs.declared.association.Held.{Held}
+use Rattle.dcsctp_types.specs.declared.kinds.ErrorKind.TheVariants.{ProtocolViolation, NotConnected}
+use Rattle.dcsctp_spec.specs.endpoint.Event.{error}
+use Rattle.dcsctp_spec.specs.Packet.{Plain, error_of, plain, Emission}
+use Rattle.dcsctp_types.specs.queues.Messages.{MessageContent}
+use Rattle.dcsctp_types.specs.declared.arrivals.SkippedTo.{SkippedTo}
+use Rattle.dcsctp_spec.specs.queues.Arrivals.{Arrival}
+use Rattle.dcsctp_spec.specs.queues.Reassembly.{with_ready}
+use Rattle.dcsctp_spec.specs.queues.Acknowledging.{is_sack_valid, has_acknowledged, delivered_by}
+use Rattle.dcsctp_spec.specs.queues.AtOnce.{SendsAtOnce}
+use Rattle.dcsctp_spec.specs.queues.Chunks.{AreChunks}
+use Rattle.dcsctp_spec.specs.queues.Retransmission.{RetransmissionState, has_fast_retransmit}
+use Rattle.dcsctp_spec.specs.queues.Transfer.{Transfer}
+use Rattle.dcsctp_spec.specs.queues.Tracker.{TrackerState, after_packet_end, is_acknowledgement_due, sacked, delay_over}
+use Rattle.dcsctp_spec.specs.endpoint.Endpoint.{Endpoint, held_in}
+use Rattle.dcsctp_spec.specs.endpoint.Outcome.{Outcome, still, reports, emits, behind, to_peer}
+use Rattle.dcsctp_spec.specs.association.Choices.{plain_contents}
+use Rattle.dcsctp_spec.specs.endpoint.FlushOutcomes.{Answer, goes_out, draft_to, flush_of, room_in, where_fits, IsWithin, own_sack, FitsPlain, filled, FlushAnswers}
+use Rattle.dcsctp_spec.specs.endpoint.HeartbeatOutcomes.{error_counted}
+use Rattle.dcsctp_spec.specs.endpoint.ShutdownOutcomes.{step_outcome}
+use Rattle.dcsctp_spec.specs.endpoint.TransferMoves.{ReceivesData, MovesForward, TakesSack, lost_all}
+
+-- with this below its association
+abbrev pub with_transfer : Endpoint → Transfer → Endpoint
+with_transfer e transfer = record e { below = record e.below { transfer = Some transfer } }
+
+abbrev pub with_tracker : Endpoint → Transfer → TrackerState → Endpoint
+with_tracker e transfer tracker = with_transfer e (record transfer { tracker = tracker })
+
+-- ---- a flush by itself
+
+-- What waits is sent to the peer.
+abbrev pub flush_by : Endpoint → Option Held → List Answer → Outcome
+flush_by e None answers = still e
+flush_by e (Some held) answers = flush_of e (draft_to held) answers
+
+abbrev pub AnswersTo : Endpoint → Option Held → List Answer → Type 0
+AnswersTo e None answers = answers ≡ []
+AnswersTo e (Some held) answers = FlushAnswers e (draft_to held) answers
+
+abbrev pub FlushTurn : Endpoint → Outcome → Type 0
+FlushTurn e o = (answers : List Answer) × AnswersTo e (held_in e.core) answers × (o ≡ flush_by e (held_in e.core) answers)
+
+-- ---- DATA and I-DATA
+
+abbrev pub no_user_data_text : List ℕ
+no_user_data_text = codes "Received DATA chunk with no user data"
+
+abbrev pub not_connected_text : List ℕ
+not_connected_text = codes "Received unexpected commands on socket that is not connected"
+
+-- Data without a payload is reported to the user, and to the peer, if it is known, with the cause No User Data (RFC 9260, section
+-- 3.3.10.9).
+abbrev pub no_user_data_outcome : Endpoint → Option Held → ℕ → Outcome
+no_user_data_outcome e None tsn = reports e ProtocolViolation no_user_data_text
+no_user_data_outcome e (Some held) tsn =
+    behind [] (error ProtocolViolation no_user_data_text ∷ []) (emits e [] (to_peer held (plain (error_of (no_user_data tsn ∷ [])))))
+
+abbrev pub ReceiveTurn : Endpoint → Option Transfer → Arrival → Outcome → Type 0
+ReceiveTurn e None arrival o = o ≡ reports e NotConnected not_connected_text
+ReceiveTurn e (Some transfer) arrival o = (left : Transfer) × ReceivesData arrival transfer left × (o ≡ still (with_transfer e left))
+
+-- by its payload
+abbrev pub DataWhere : Endpoint → Arrival → List ℕ → Outcome → Type 0
+DataWhere e arrival [] o = o ≡ no_user_data_outcome e (held_in e.core) arrival.tsn
+DataWhere e arrival (byte ∷ bytes) o = ReceiveTurn e e.below.transfer arrival o
+
+-- DATA or I-DATA is received.
+abbrev pub DataTurn : Endpoint → Arrival → Outcome → Type 0
+DataTurn e arrival o = DataWhere e arrival arrival.chunk.payload o
+
+-- ---- FORWARD-TSN and I-FORWARD-TSN
+
+abbrev pub ForwardTurn : Endpoint → Option Transfer → ℕ → List SkippedTo → Outcome → Type 0
+ForwardTurn e None tsn entries o = o ≡ still e
+ForwardTurn e (Some transfer) tsn entries o = (left : Transfer) × MovesForward tsn entries transfer left × (o ≡ still (with_transfer e left))
+
+-- ---- SACK
+
+abbrev pub no_tcb_text : List ℕ
+no_tcb_text = codes "No TCB"
+
+-- A packet of lost items, whatever the congestion window is: as many as fit (RFC 9260, section 7.2.4).
+pub record SendsLost (e : Endpoint) (held : Held) (transfer : Transfer) (o : Outcome) : Type 0 where
+  pub left : RetransmissionState
+  pub tsns : List ℕ
+  pub sends : SendsAtOnce e.moment (room_in e (draft_to held)) e.below.queue transfer.retransmission left tsns
+  pub chunks : List Plain
+  pub are : AreChunks left.outstanding tsns chunks
+  pub fit : AllByRecursion FitsPlain chunks
+  pub within : IsWithin e (draft_to held) → IsWithin e (filled (draft_to held) (plain_contents chunks))
+  pub is : o
+      ≡ goes_out (with_transfer e (record transfer { retransmission = left })) [] (draft_to held).with_checksum (draft_to held).packet.tag (plain_contents chunks)
+
+-- One is sent if it waits.
+abbrev pub FastRetransmits : Bool → Endpoint → Held → Transfer → Outcome → Type 0
+FastRetransmits false e held transfer o = o ≡ still e
+FastRetransmits true e held transfer o = SendsLost e held transfer o
+
+-- the endpoint once a SACK was taken into account: if it acknowledges something, no error counts
+abbrev pub sack_taken : Endpoint → Transfer → Transfer → Endpoint
+sack_taken e old new =
+    record (with_transfer e new) { error_count = if has_acknowledged old.retransmission new.retransmission then 0 else e.error_count }
+
+-- A SACK is taken into account. A shutdown under way may go on then, a fast retransmission may follow, and then a flush.
+pub record AcknowledgesBy (e : Endpoint) (held : Held) (transfer : Transfer) (sack : SackContent) (o : Outcome) : Type 0 where
+  pub left : Transfer
+  pub takes : TakesSack e.moment sack transfer left
+  pub stepped : Outcome
+  pub steps : stepped ≡ step_outcome (sack_taken e transfer left) e.core
+  pub fast : Outcome
+  pub resends : FastRetransmits (has_fast_retransmit left.retransmission) stepped.after held left fast
+  pub answers : List Answer
+  pub allowed : FlushAnswers fast.after (draft_to held) answers
+  pub is : o ≡ behind [] (delivered_by sack.cumulative_tsn_ack transfer.retransmission ++ (stepped.events ++ fast.events)) (flush_of fast.after (draft_to held) answers)
+
+abbrev pub SackWhere : Bool → Endpoint → Held → Transfer → SackContent → Outcome → Type 0
+SackWhere false e held transfer sack o = o ≡ still e
+SackWhere true e held transfer sack o = AcknowledgesBy e held transfer sack o
+
+abbrev pub SackBy : Endpoint → Option Held → Transfer → SackContent → Outcome → Type 0
+SackBy e None transfer sack o = o ≡ still e
+SackBy e (Some held) transfer sack o = SackWhere (is_sack_valid transfer.retransmission sack.cumulative_tsn_ack) e held transfer sack o
+
+-- A SACK is received.
+abbrev pub SackTurn : Endpoint → Option Transfer → SackContent → Outcome → Type 0
+SackTurn e None sack o = o ≡ reports e NotConnected no_tcb_text
+SackTurn e (Some transfer) sack o = SackBy e (held_in e.core) transfer sack o
+
+-- ---- the end of a packet
+
+-- a packet to the peer that begins with this SACK, if it fits
+abbrev pub acknowledging : Endpoint → Held → Plain → Emission
+acknowledging e held sack = filled (draft_to held) (plain_contents (where_fits (room_in e (draft_to held)) sack))
+
+-- Its data is acknowledged at once: a flush that begins with a SACK, if that fits.
+pub record AnswersPacket (e : Endpoint) (held : Held) (transfer : Transfer) (tracker : TrackerState) (o : Outcome) : Type 0 where
+  pub answers : List Answer
+  pub allowed : FlushAnswers (with_tracker e transfer (sacked tracker)) (acknowledging e held (own_sack (record transfer { tracker = tracker }))) answers
+  pub is : o ≡ flush_of (with_tracker e transfer (sacked tracker)) (acknowledging e held (own_sack (record transfer { tracker = tracker }))) answers
+
+abbrev pub EndWhere : Bool → Endpoint → Option Held → Transfer → TrackerState → Outcome → Type 0
+EndWhere true e (Some held) transfer tracker o = AnswersPacket e held transfer tracker o
+EndWhere true e None transfer tracker o = o ≡ still (with_tracker e transfer tracker)
+EndWhere false e held transfer tracker o = o ≡ still (with_tracker e transfer tracker)
+
+-- All of a packet was handled: its data is acknowledged now or after a delay (RFC 9260, section 6.2).
+abbrev pub EndsBy : Endpoint → Option Transfer → Outcome → Type 0
+EndsBy e None o = o ≡ still e
+EndsBy e (Some transfer) o =
+    let tracker = after_packet_end e.moment transfer.tracker in EndWhere (is_acknowledgement_due tracker) e (held_in e.core) transfer tracker o
+
+-- ---- what the user takes
+
+-- The first message that is ready is taken. Its bytes count no more.
+abbrev pub TakeWhere : Endpoint → Transfer → List MessageContent → Outcome → Type 0
+TakeWhere e transfer [] o = o ≡ still e
+TakeWhere e transfer (message ∷ messages) o = o ≡ still (with_transfer e (record transfer { reassembly = with_ready messages transfer.reassembly }))
+
+abbrev pub TakeTurn : Endpoint → Option Transfer → Outcome → Type 0
+TakeTurn e None o = o ≡ still e
+TakeTurn e (Some transfer) o = TakeWhere e transfer transfer.reassembly.incoming.ready o
+
+-- ---- timers
+
+-- The delay of an acknowledgement is over: it is due.
+abbrev pub delay_outcome : Endpoint → Option Transfer → Outcome
+delay_outcome e None = still e
+delay_outcome e (Some transfer) = still (with_tracker e transfer (delay_over transfer.tracker))
+
+-- What is in flight is lost: an error is counted, and it is sent again in the flush after the timers (RFC 9260, section 6.3.3).
+abbrev pub LossTurn : Endpoint → Option Transfer → Outcome → Type 0
+LossTurn e None o = o ≡ still e
+LossTurn e (Some transfer) o =
+    o ≡ still (record (with_transfer e (lost_all e.moment transfer)) { error_count = error_counted e.options.max_retransmissions e.error_count })

@@ -1,0 +1,70 @@
+-- How an association ends, whatever ends it.
+use Rattle.std.specs.Prelude.{ℕ, true, false, None, List, [], ◌∷◌, ◌++◌}
+use Rattle.dcsctp_types.specs.wire.Texts.{causes_text}
+use Rattle.dcsctp_types.specs.declared.association.Held.{Held}
+use Rattle.dcsctp_types.specs.declared.ends.AbortReason.{AbortReason}
+use Rattle.dcsctp_types.specs.declared.ends.AbortReason.TheVariants as reasons
+use Rattle.dcsctp_types.specs.declared.kinds.ErrorKind.TheVariants.{PeerReported, ProtocolViolation, TooManyRetries}
+use Rattle.dcsctp_spec.specs.endpoint.Cause.{Cause, reason_text, causes_of}
+use Rattle.dcsctp_spec.specs.endpoint.Event.{Event, aborted}
+use Rattle.dcsctp_spec.specs.endpoint.Event as events
+use Rattle.dcsctp_spec.specs.Packet.{Emission, abort, shutdown_complete}
+use Rattle.dcsctp_spec.specs.endpoint.Endpoint.{Endpoint, Core, closed, cookie_echoed, open_in, stopped_timers}
+use Rattle.dcsctp_spec.specs.association.Effect.{ends}
+use Rattle.dcsctp_spec.specs.endpoint.Outcome.{Outcome, still, quiet, to_peer, sends, emits}
+use Rattle.dcsctp_spec.specs.endpoint.Following.{dropped_rest}
+
+-- No association, and no timer. What waits to be sent is kept, and so is the error count.
+abbrev pub closed_after : Endpoint → Endpoint
+closed_after e = record e { core = closed; tie = 0; outstanding = None; timers = stopped_timers; below = record e.below { transfer = None } }
+
+-- After this outcome the association ends with this event, and the rest of the packet is dropped.
+abbrev pub ended_outcome : Outcome → Event Emission → Outcome
+ended_outcome before event =
+    record before {
+      effects = before.effects ++ ends ∷ [];
+      after = closed_after before.after;
+      events = before.events ++ event ∷ [];
+      following = dropped_rest;
+    }
+
+-- The association ends with this event; if there is none, nothing happens.
+abbrev pub close_outcome : Endpoint → Core → Event Emission → Outcome
+close_outcome e closed event = still e
+close_outcome e core event = ended_outcome (quiet e [] []) event
+
+-- An ABORT ends the association with a peer (RFC 9260, section 9.1). Without a peer nothing happens.
+abbrev pub abort_outcome : Endpoint → List Cause → Core → Outcome
+abort_outcome e causes (cookie_echoed my held cookie) = ended_outcome (quiet e [] []) (aborted PeerReported (causes_text causes))
+abort_outcome e causes (open_in phase my held) = ended_outcome (quiet e [] []) (aborted PeerReported (causes_text causes))
+abort_outcome e causes core = still e
+
+-- ---- its own abort
+
+-- the event that ends an association which is aborted for this reason
+abbrev pub end_of : AbortReason → Event Emission
+end_of reasons.CloseCalled = events.closed
+end_of (reasons.Violation violation) = aborted ProtocolViolation (reason_text (reasons.Violation violation))
+end_of reasons.TooManyErrors = aborted TooManyRetries (reason_text reasons.TooManyErrors)
+
+-- an ABORT to the peer
+abbrev pub abort_to : Held → AbortReason → Emission
+abort_to held reason = to_peer held (abort false (causes_of reason))
+
+-- The peer is told, if it is known and the packet fits (RFC 9260, sections 8.1 and 9.1).
+abbrev pub abort_sent : Endpoint → Core → AbortReason → Outcome
+abort_sent e (cookie_echoed my held cookie) reason = emits e [] (abort_to held reason)
+abort_sent e (open_in phase my held) reason = emits e [] (abort_to held reason)
+abort_sent e core reason = quiet e [] []
+
+-- The own end aborts the association; if there is none, nothing happens. Its change is `abort_call_change`.
+abbrev pub aborting_outcome : Endpoint → Core → AbortReason → Outcome
+aborting_outcome e closed reason = still e
+aborting_outcome e core reason = ended_outcome (abort_sent e core reason) (end_of reason)
+
+-- ---- a chunk of a shutdown that is out of place
+
+-- A SHUTDOWN ACK that isn't awaited is answered by SHUTDOWN COMPLETE with the T bit, under its own tag (RFC 9260, sections
+-- 8.4 and 8.5.1, E). Its change is `reflected_change`.
+abbrev pub reflected_outcome : Endpoint → ℕ → Outcome
+reflected_outcome e header = sends e [] [] (record { with_checksum = true; packet = record { tag = header; contents = shutdown_complete true ∷ [] } })

@@ -1,0 +1,135 @@
+-- What a socket is between two turns (RFC 9260, sections 4 and 5).
+use Rattle.std.specs.Prelude.{◌==◌, ℕ, Bool, if◌then◌else◌, Option, None, Some, List}
+use Rattle.std.specs.Duration.{as_nanos}
+use Rattle.dcsctp_spec.specs.endpoint.Timers.{TimerSettings, RunningTimer, started}
+use Rattle.dcsctp_spec.specs.queues.Transfer.{Below, nothing_below}
+use Rattle.dcsctp_types.specs.declared.association.Pair.{Pair}
+use Rattle.dcsctp_types.specs.declared.association.Held.{Held}
+use Rattle.dcsctp_types.specs.declared.association.Association.{Association}
+use Rattle.dcsctp_types.specs.declared.association.Phase.{Phase}
+use Rattle.dcsctp_types.specs.declared.association.Phase.TheVariants as phases
+use Rattle.dcsctp_types.specs.declared.kinds.BackoffAlgorithm.TheVariants.{Fixed, Exponential}
+use Rattle.dcsctp_types.specs.declared.kinds.SctpImplementation.{SctpImplementation}
+use Rattle.dcsctp_types.specs.declared.kinds.SctpImplementation.TheVariants.{Unknown}
+use Rattle.dcsctp_types.specs.declared.options.Options.{Options}
+
+-- the phases in which an association is open: COOKIE ECHO or COOKIE ACK has come
+pub data OpenPhase : Type 0 where
+  established : OpenPhase
+  shutdown_pending : OpenPhase
+  shutdown_sent : OpenPhase
+  shutdown_received : OpenPhase
+  shutdown_ack_sent : OpenPhase
+
+-- The association, and nothing else of the endpoint.
+pub data Core : Type 0 where
+  closed : Core
+  cookie_wait : Pair → Core
+  -- with the bytes of the cookie that is echoed
+  cookie_echoed : Pair → Held → List ℕ → Core
+  open_in : OpenPhase → Pair → Held → Core
+
+abbrev pub phase_of : OpenPhase → Phase
+phase_of established = phases.Established
+phase_of shutdown_pending = phases.ShutdownPending
+phase_of shutdown_sent = phases.ShutdownSent
+phase_of shutdown_received = phases.ShutdownReceived
+phase_of shutdown_ack_sent = phases.ShutdownAckSent
+
+-- what a socket shows of it
+abbrev pub association_of : Core → Option Association
+association_of closed = None
+association_of (cookie_wait my) = Some (record { phase = phases.CookieWait; my = my; held = None })
+association_of (cookie_echoed my held cookie) = Some (record { phase = phases.CookieEchoed; my = my; held = Some held })
+association_of (open_in phase my held) = Some (record { phase = phase_of phase; my = my; held = Some held })
+
+-- its own verification tag, 0 if there is none
+abbrev pub own_tag : Core → ℕ
+own_tag closed = 0
+own_tag (cookie_wait my) = my.tag
+own_tag (cookie_echoed my held cookie) = my.tag
+own_tag (open_in phase my held) = my.tag
+
+-- what is known of a peer
+abbrev pub held_in : Core → Option Held
+held_in closed = None
+held_in (cookie_wait my) = None
+held_in (cookie_echoed my held cookie) = Some held
+held_in (open_in phase my held) = Some held
+
+-- A timer that belongs to a phase doesn't run outside it.
+pub record Timers : Type 0 where
+  pub t1 : Option RunningTimer
+  pub t2 : Option RunningTimer
+  pub reconfiguration : Option RunningTimer
+  pub heartbeat_interval : Option RunningTimer
+  pub heartbeat_timeout : Option RunningTimer
+
+abbrev pub stopped_timers : Timers
+stopped_timers = record { t1 = None; t2 = None; reconfiguration = None; heartbeat_interval = None; heartbeat_timeout = None }
+
+-- T1-init and T1-cookie: each wait is twice the last one, without a limit. The options say how often a packet is sent again (RFC
+-- 9260, section 5.1).
+abbrev pub t1_settings : Options → ℕ → TimerSettings
+t1_settings options duration =
+    record { duration = duration; terms = record { backoff = Exponential; max_restarts = options.max_init_retransmits; max_backoff = None } }
+
+-- the heartbeat interval: it goes on for good (RFC 9260, section 8.3)
+abbrev pub heartbeat_settings : Options → TimerSettings
+heartbeat_settings options =
+    record { duration = as_nanos options.heartbeat_interval; terms = record { backoff = Fixed; max_restarts = None; max_backoff = None } }
+
+-- its own request to reset streams that is under way (RFC 6525, section 4.1)
+pub record OutstandingRequest : Type 0 where
+  pub last_tsn : ℕ
+  pub streams : List ℕ
+  -- It was answered 'in progress', and waits to be sent again.
+  pub waits_for_retry : Bool
+
+-- Counts over the socket's life; each stops at the greatest number of its type.
+pub record Counts : Type 0 where
+  pub packets_received : ℕ
+  pub packets_sent : ℕ
+  pub messages_queued : ℕ
+
+pub record Endpoint : Type 0 where
+  -- nanoseconds since the socket was made
+  pub moment : ℕ
+  pub options : Options
+  pub core : Core
+  -- the association's tie tag (RFC 9260, section 5.2.2), 0 if the peer isn't known
+  pub tie : ℕ
+  pub outstanding : Option OutstandingRequest
+  -- RFC 9260, section 8.1
+  pub error_count : ℕ
+  pub heartbeat_counter : ℕ
+  pub timers : Timers
+  -- No FORWARD-TSN is sent before.
+  pub no_forward_tsn_before : ℕ
+  pub counts : Counts
+  pub peer_implementation : SctpImplementation
+  pub below : Below
+
+-- The heartbeat interval starts anew. One of zero switches heartbeats off.
+abbrev pub heartbeats_begun : Endpoint → Timers → Timers
+heartbeats_begun e timers =
+    if as_nanos e.options.heartbeat_interval == 0 then timers
+    else record timers { heartbeat_interval = started e.moment (heartbeat_settings e.options) }
+
+-- a socket that was just made
+abbrev pub fresh_endpoint : Options → Endpoint
+fresh_endpoint options =
+    record {
+      moment = 0;
+      options = options;
+      core = closed;
+      tie = 0;
+      outstanding = None;
+      error_count = 0;
+      heartbeat_counter = 0;
+      timers = stopped_timers;
+      no_forward_tsn_before = 0;
+      counts = record { packets_received = 0; packets_sent = 0; messages_queued = 0 };
+      peer_implementation = Unknown;
+      below = nothing_below options;
+    }

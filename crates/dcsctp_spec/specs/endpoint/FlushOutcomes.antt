@@ -1,0 +1,329 @@
+-- A flush: what waits is sent under the peer's tag, at most `max_burst` packets of it (RFC 9260, section 6.1). The transfer layer
+-- is asked to fill one packet after another, and the flush is what its answers make of it.
+use Rattle.std.specs.Prelude.{◌≡◌, ◌⊎◌, ◌==◌, ◌≤◌, ◌+◌, ◌-◌, min, nat_le, nat_lt, ◌&&◌, ◌||◌, Option, None, Some, ℕ, ℤ, pos, negsuc, suc, zero, Bool, true, false, List, [], ◌∷◌, ◌++◌, map, length, if◌then◌else◌}
+use Rattle.std.specs.List.{AllByRecursion}
+use Rattle.dcsctp_types.specs.declared.association.Held.{Held}
+use Rattle.dcsctp_types.specs.declared.word.Word.{Word}
+use Rattle.dcsctp_types.specs.Settings.{packet_size_limit}
+use Rattle.dcsctp_spec.specs.endpoint.Event.{Event, sent, packets_in, buffered_amount_low, total_buffered_amount_low, lifecycle_message_fully_sent, lifecycle_message_maybe_expired, lifecycle_message_expired, lifecycle_end}
+use Rattle.dcsctp_spec.specs.Packet.{Plain, unworked, plain_out, Content, Emission}
+use Rattle.dcsctp_spec.specs.queues.SendQueue.{SendQueueState, has_data}
+use Rattle.dcsctp_spec.specs.queues.Abandoning.{GivesUpAll}
+use Rattle.dcsctp_spec.specs.queues.Chunks.{AreChunks}
+use Rattle.dcsctp_spec.specs.queues.Filling.{Stage, FillsPacket}
+use Rattle.dcsctp_spec.specs.queues.Items.{is_first_abandoned}
+use Rattle.dcsctp_spec.specs.queues.Retransmission.{RetransmissionState, outstanding_count, can_send}
+use Rattle.dcsctp_spec.specs.queues.Skipping.{SaysForward}
+use Rattle.dcsctp_spec.specs.queues.Transfer.{Transfer, may_give, is_idle}
+use Rattle.dcsctp_spec.specs.queues.Reassembly.{remaining_bytes}
+use Rattle.dcsctp_spec.specs.queues.Tracker.{TrackerState, is_acknowledgement_due, owes_acknowledgement, sack_of, sacked}
+use Rattle.dcsctp_spec.specs.endpoint.BegunResets.{BegunReset, streams_within, last_assigned_tsn, begun_in, request_contents, begun_effects, queue_requesting, retransmission_begun, after_begun}
+use Rattle.dcsctp_spec.specs.endpoint.Endpoint.{Endpoint, Core, closed, cookie_wait, cookie_echoed, open_in, Timers, heartbeats_begun, held_in}
+use Rattle.dcsctp_spec.specs.endpoint.Timers.{moment_after}
+use Rattle.dcsctp_spec.specs.endpoint.Outcome.{Outcome, contents_len, still, quiet, sends, behind, noting, then_outcome}
+use Rattle.dcsctp_spec.specs.association.Choices.{plain_contents}
+use Rattle.dcsctp_types.specs.wire.Content.{ChunkContent, sack_chunk}
+use Rattle.dcsctp_types.specs.wire.ReadsBack.{FitsChunk}
+use Rattle.dcsctp_types.specs.wire.Spelling.{chunk_bytes}
+
+-- ---- one packet
+
+-- The only events while a packet is filled: an amount that fell to its threshold, and what became of a message.
+pub data Told : Type 0 where
+  amount_is_low : ℕ → Told
+  total_amount_is_low : Told
+  message_is_sent : ℕ → Told
+  message_may_have_expired : ℕ → Told
+  message_has_expired : ℕ → Told
+  message_ends : ℕ → Told
+
+abbrev pub told_event : Told → Event Emission
+told_event (amount_is_low stream) = buffered_amount_low stream
+told_event total_amount_is_low = total_buffered_amount_low
+told_event (message_is_sent id) = lifecycle_message_fully_sent id
+told_event (message_may_have_expired id) = lifecycle_message_maybe_expired id
+told_event (message_has_expired id) = lifecycle_message_expired id
+told_event (message_ends id) = lifecycle_end id
+
+-- the same, as it is told to a user
+abbrev pub told_content : Told → Event (List ℕ)
+told_content (amount_is_low stream) = buffered_amount_low stream
+told_content total_amount_is_low = total_buffered_amount_low
+told_content (message_is_sent id) = lifecycle_message_fully_sent id
+told_content (message_may_have_expired id) = lifecycle_message_maybe_expired id
+told_content (message_has_expired id) = lifecycle_message_expired id
+told_content (message_ends id) = lifecycle_end id
+
+-- The answer if a packet is to be filled: what goes after the chunks that it holds, the events, and the endpoint after that.
+pub record Answer : Type 0 where
+  -- in the first packet alone: SACK and FORWARD-TSN, and after them the request of a stream reset that is begun
+  pub acknowledgements : List Plain
+  pub begun : Option BegunReset
+  pub data_chunks : List Plain
+  pub told : List Told
+  pub after : Endpoint
+
+abbrev pub answer_contents : Answer → List Content
+answer_contents answer = plain_contents answer.acknowledgements ++ (request_contents answer.begun ++ plain_contents answer.data_chunks)
+
+-- the packet with these chunks behind what it holds
+abbrev pub filled : Emission → List Content → Emission
+filled draft chunks = record draft { packet = record draft.packet { contents = draft.packet.contents ++ chunks } }
+
+-- The packet is sent after these events, unless it is empty.
+abbrev pub goes_out : Endpoint → List (Event Emission) → Bool → ℕ → List Content → Outcome
+goes_out e told with_checksum tag [] = quiet e [] told
+goes_out e told with_checksum tag (content ∷ contents) =
+    sends e [] told (record { with_checksum = with_checksum; packet = record { tag = tag; contents = content ∷ contents } })
+
+-- the outcome of one packet that is asked to be filled
+abbrev pub asked : Endpoint → Emission → Answer → Outcome
+asked e draft answer =
+    noting (begun_effects answer.begun) (goes_out answer.after (map told_event answer.told) draft.with_checksum draft.packet.tag (filled draft (answer_contents answer)).packet.contents)
+
+-- ---- a list of them
+
+-- an empty packet to a peer
+abbrev pub draft_to : Held → Emission
+draft_to held = record { with_checksum = held.capabilities.zero_checksum_method.0 == 0; packet = record { tag = held.peer.tag; contents = [] } }
+
+-- The packet after one that was sent goes to the same peer, without a checksum if zero checksum was negotiated.
+abbrev pub next_draft : Core → Emission → Emission
+next_draft closed draft = record draft { packet = record draft.packet { contents = [] } }
+next_draft (cookie_wait my) draft = record draft { packet = record draft.packet { contents = [] } }
+next_draft (cookie_echoed my held cookie) draft = draft_to held
+next_draft (open_in phase my held) draft = draft_to held
+
+-- A flush whose first packet is this, by the answers to its asks.
+abbrev pub flush_of : Endpoint → Emission → List Answer → Outcome
+flush_of e draft [] = still e
+flush_of e draft (answer ∷ answers) =
+    then_outcome (asked e draft answer) (flush_of (asked e draft answer).after (next_draft e.core draft) answers)
+
+-- how many packets a flush may send: one at most while the COOKIE ECHO isn't answered (RFC 9260, section 5.1)
+abbrev pub packets_allowed : ℤ → Core → ℕ
+packets_allowed (pos zero) core = 0
+packets_allowed (pos (suc more)) (cookie_echoed my held cookie) = 1
+packets_allowed (pos (suc more)) core = suc more
+packets_allowed (negsuc below) core = 0
+
+-- ---- what an ask may be answered
+
+-- no longer than `mtu`
+abbrev pub IsWithin : Endpoint → Emission → Type 0
+IsWithin e emission = 12 + contents_len emission.packet.contents ≤ packet_size_limit e.options
+
+-- what is answered if nothing waits
+abbrev pub nothing_waits : Endpoint → Answer
+nothing_waits e = record { acknowledgements = []; begun = None; data_chunks = []; told = []; after = e }
+
+-- Which packet of a flush is to be filled. A SACK, a FORWARD-TSN and the request of a stream reset go into the first alone.
+pub data Ask : Type 0 where
+  first_ask : Ask
+  later_ask : Ask
+
+-- how many bytes of chunks still fit into a packet
+abbrev pub room_in : Endpoint → Emission → ℕ
+room_in e draft = packet_size_limit e.options - 12 - contents_len draft.packet.contents
+
+-- the chunk, if it fits into that many bytes
+abbrev pub where_fits : ℕ → Plain → List Plain
+where_fits room chunk = if nat_le (length (chunk_bytes (plain_out chunk))) room then chunk ∷ [] else []
+
+-- Is a SACK asked for? A delayed one is sent along if data may follow (RFC 9260, section 6.1).
+abbrev pub wants_sack : Ask → SendQueueState → Transfer → Bool
+wants_sack later_ask queue transfer = false
+wants_sack first_ask queue transfer =
+    is_acknowledgement_due transfer.tracker
+    || (owes_acknowledgement transfer.tracker && (has_data queue || can_send transfer.retransmission))
+
+-- the SACK of what was received, with what is left of the receive window (RFC 9260, section 3.3.4)
+abbrev pub own_sack : Transfer → Plain
+own_sack transfer = unworked (sack_chunk (sack_of transfer.tracker (remaining_bytes transfer.reassembly)))
+
+-- It is sent if it is asked for and fits. Then all received data counts as acknowledged.
+abbrev pub Acknowledges : Bool → ℕ → Transfer → TrackerState → List Plain → Type 0
+Acknowledges false room transfer after chunks = (after ≡ transfer.tracker) × (chunks ≡ [])
+Acknowledges true room transfer after chunks = (after ≡ sacked transfer.tracker) × (chunks ≡ where_fits room (own_sack transfer))
+
+-- Its numbers fit their fields.
+abbrev pub FitsPlain : Plain → Type 0
+FitsPlain chunk = FitsChunk (plain_out chunk)
+
+-- ---- what the queues do while a packet is filled
+
+-- what a packet with that much room begins with
+abbrev pub stage_of : SendQueueState → RetransmissionState → List (Event (List ℕ)) → ℕ → Stage
+stage_of waiting state told room = record { queue = state; waiting = waiting; told = told; tsns = []; room = room }
+
+-- the moment before which no FORWARD-TSN is sent, after one at this moment: 200 milliseconds later, or the round trip (RFC 3758,
+-- section 3.5)
+abbrev pub next_forward : ℕ → Transfer → ℕ
+next_forward now transfer = moment_after now (min 200000000 transfer.timeout.srtt)
+
+-- May messages be abandoned: was it negotiated, and is something outstanding?
+abbrev pub may_abandon : RetransmissionState → Bool
+may_abandon state = state.partial_reliability && nat_lt 0 (outstanding_count state)
+
+-- May they be abandoned for a FORWARD-TSN in this packet? That is so in the first one, from the moment on from which the next may
+-- be sent.
+abbrev pub may_forward : Ask → Endpoint → RetransmissionState → Bool
+may_forward later_ask e state = false
+may_forward first_ask e state = nat_le e.no_forward_tsn_before e.moment && may_abandon state
+
+-- A FORWARD-TSN is made if the first item was abandoned, and goes if it fits. Before that moment no other one is made, also if it
+-- didn't fit.
+abbrev pub ForwardsWhere : Bool → ℕ → Transfer → ℕ → RetransmissionState → Option ℕ → List Plain → Type 0
+ForwardsWhere false now transfer room state next chunks = (next ≡ None) × (chunks ≡ [])
+ForwardsWhere true now transfer room state next chunks =
+    (next ≡ Some (next_forward now transfer)) × ((chunk : ChunkContent) × SaysForward state chunk × (chunks ≡ where_fits room (unworked chunk)))
+
+-- Before it, messages are abandoned that may not be sent any more.
+abbrev pub GivesUpWhere : Bool → ℕ → Transfer → ℕ → Stage → Stage → Option ℕ → List Plain → Type 0
+GivesUpWhere false now transfer room old new next chunks = (new ≡ old) × (next ≡ None) × (chunks ≡ [])
+GivesUpWhere true now transfer room old new next chunks =
+    GivesUpAll now old new × ForwardsWhere (is_first_abandoned new.queue.outstanding.items) now transfer room new.queue next chunks
+
+-- the moment before which no FORWARD-TSN is sent, by whether one was made
+abbrev pub forward_where : Option ℕ → ℕ → ℕ
+forward_where None before = before
+forward_where (Some next) before = next
+
+-- The packet is filled with data. If none may go, nothing changes but that the timer may be set as it is when a packet is full.
+abbrev pub FillsWhere : Bool → ℕ → Stage → Stage → Type 0
+FillsWhere false now old new = (new ≡ old) ⊎ FillsPacket now old new
+FillsWhere true now old new = FillsPacket now old new
+
+-- is the list empty?
+abbrev pub is_none : {A : Type 0} → List A → Bool
+is_none [] = true
+is_none (first ∷ rest) = false
+
+abbrev pub begun_at : Ask → Option Held → ℕ → ℕ → SendQueueState → Option BegunReset
+begun_at first_ask held room last_tsn queue = begun_in held room last_tsn queue
+begun_at later_ask held room last_tsn queue = None
+
+-- What the transfer layer of an association gives: what acknowledges, what abandons messages, a request to reset streams, and data
+-- as far as it may go.
+pub record Gives (ask : Ask) (e : Endpoint) (draft : Emission) (transfer : Transfer) (answer : Answer) : Type 0 where
+  pub sacks : List Plain
+  pub forwards : List Plain
+  pub parts : answer.acknowledgements ≡ sacks ++ forwards
+  pub tracker : TrackerState
+  pub acknowledges : Acknowledges (wants_sack ask e.below.queue transfer) (room_in e draft) transfer tracker sacks
+  -- once messages were abandoned
+  pub gave_up : Stage
+  pub next : Option ℕ
+  pub gives_up : GivesUpWhere (may_forward ask e transfer.retransmission) e.moment transfer (room_in e (filled draft (plain_contents sacks)))
+      (stage_of e.below.queue transfer.retransmission [] 0) gave_up next forwards
+  pub later : answer.after.no_forward_tsn_before ≡ forward_where next e.no_forward_tsn_before
+  pub begins : answer.begun
+      ≡ begun_at ask (held_in e.core) (room_in e (filled draft (plain_contents answer.acknowledgements))) (last_assigned_tsn gave_up.queue) gave_up.waiting
+  -- once the packet is full
+  pub sent : Stage
+  pub fills : let left : SendQueueState =
+      queue_requesting (streams_within (room_in e (filled draft (plain_contents answer.acknowledgements)))) answer.begun gave_up.waiting in
+      let begun : RetransmissionState = retransmission_begun answer.begun gave_up.queue in
+      FillsWhere (may_give left begun) e.moment
+      (stage_of left begun gave_up.told (room_in e (filled draft (plain_contents answer.acknowledgements ++ request_contents answer.begun)))) sent
+  pub chunks : AreChunks sent.queue.outstanding sent.tsns answer.data_chunks
+  pub forwards_fit : AllByRecursion FitsPlain forwards
+  pub data_fit : AllByRecursion FitsPlain answer.data_chunks
+  pub told : map told_content answer.told ≡ sent.told
+  pub below : answer.after.below
+      ≡ record { queue = sent.waiting; transfer = Some (record transfer { retransmission = sent.queue; tracker = tracker }) }
+
+-- If the association is idle, nothing happens.
+abbrev pub GivesWhere : Bool → Ask → Endpoint → Emission → Transfer → Answer → Type 0
+GivesWhere true ask e draft transfer answer = answer ≡ nothing_waits e
+GivesWhere false ask e draft transfer answer = Gives ask e draft transfer answer
+
+abbrev pub AnsweredBelow : Ask → Endpoint → Emission → Answer → Option Transfer → Type 0
+AnsweredBelow ask e draft answer None = answer ≡ nothing_waits e
+AnsweredBelow ask e draft answer (Some transfer) = GivesWhere (is_idle e.below.queue transfer) ask e draft transfer answer
+
+-- The heartbeat interval starts anew with data.
+abbrev pub timers_with : Endpoint → List Plain → Timers
+timers_with e [] = e.timers
+timers_with e (chunk ∷ chunks) = heartbeats_begun e e.timers
+
+-- The answers that are allowed to this ask.
+pub record Answered (ask : Ask) (e : Endpoint) (draft : Emission) (answer : Answer) : Type 0 where
+  pub kept : answer.after
+      ≡ record (after_begun answer.begun e) {
+        timers = timers_with (after_begun answer.begun e) answer.data_chunks;
+        no_forward_tsn_before = answer.after.no_forward_tsn_before;
+        below = answer.after.below;
+      }
+  pub within : IsWithin e draft → IsWithin e (filled draft (answer_contents answer))
+  pub by_transfer : AnsweredBelow ask e draft answer e.below.transfer
+
+-- The lists of answers that end a flush of at most that many packets. It ends at its limit, or at a packet that is empty after
+-- its ask.
+pub data Answers : Ask → ℕ → Endpoint → Emission → List Answer → Type 0 where
+  at_limit : (ask : Ask) (e : Endpoint) (draft : Emission) → Answers ask 0 e draft []
+  at_empty : (ask : Ask) (more : ℕ) (e : Endpoint) (draft : Emission) (answer : Answer) → Answered ask e draft answer
+      → (filled draft (answer_contents answer)).packet.contents ≡ [] → Answers ask (suc more) e draft (answer ∷ [])
+  after_packet : (ask : Ask) (more : ℕ) (e : Endpoint) (draft : Emission) (answer : Answer) (answers : List Answer)
+      → Answered ask e draft answer
+      → ((filled draft (answer_contents answer)).packet.contents ≡ [] → ⊥)
+      → Answers later_ask more (asked e draft answer).after (next_draft e.core draft) answers
+      → Answers ask (suc more) e draft (answer ∷ answers)
+
+-- the answers that a flush whose first packet is this may get
+abbrev pub FlushAnswers : Endpoint → Emission → List Answer → Type 0
+FlushAnswers e draft answers = Answers first_ask (packets_allowed e.options.max_burst e.core) e draft answers
+
+-- ---- as a part of a turn
+
+-- What a turn takes for its flush: after these words and events, a flush whose first packet holds these chunks.
+abbrev pub FlushKind : Type 0
+FlushKind = Endpoint → List Word → List (Event Emission) → Bool → ℕ → List Content → Outcome
+
+-- by what its asks were answered
+abbrev pub flush_answered : List Answer → FlushKind
+flush_answered answers e words events with_checksum tag contents =
+    behind words events (flush_of e (record { with_checksum = with_checksum; packet = record { tag = tag; contents = contents } }) answers)
+
+-- Does this `max_burst` allow a packet?
+abbrev pub allows_packet : ℤ → Bool
+allows_packet (pos zero) = false
+allows_packet (pos (suc more)) = true
+allows_packet (negsuc below) = false
+
+-- If nothing waits its first packet is sent, if it holds a chunk and a packet is allowed.
+abbrev pub flush_outcome : FlushKind
+flush_outcome e words events with_checksum tag [] = quiet e words events
+flush_outcome e words events with_checksum tag (content ∷ contents) =
+    if allows_packet e.options.max_burst
+    then sends e words events (record { with_checksum = with_checksum; packet = record { tag = tag; contents = content ∷ contents } })
+    else quiet e words events
+
+-- ---- its limits
+
+-- a packet, or what the user may be told
+abbrev pub IsFlushEvent : Event Emission → Type 0
+IsFlushEvent (sent emission) = Unit {0}
+IsFlushEvent (buffered_amount_low stream) = Unit {0}
+IsFlushEvent total_buffered_amount_low = Unit {0}
+IsFlushEvent (lifecycle_message_fully_sent id) = Unit {0}
+IsFlushEvent (lifecycle_message_maybe_expired id) = Unit {0}
+IsFlushEvent (lifecycle_message_expired id) = Unit {0}
+IsFlushEvent (lifecycle_end id) = Unit {0}
+IsFlushEvent event = ⊥
+
+-- At most that many packets, none longer than `mtu`, and nothing else but what the user may be told.
+pub record KeepsLimits (e : Endpoint) (events : List (Event Emission)) : Type 0 where
+  pub packets : length (packets_in events) ≤ packets_allowed e.options.max_burst e.core
+  pub sizes : AllByRecursion (IsWithin e) (packets_in events)
+  pub others : AllByRecursion IsFlushEvent events
+
+-- ---- if nothing waits
+
+abbrev pub IdleBelow : SendQueueState → Option Transfer → Type 0
+IdleBelow queue None = Unit {0}
+IdleBelow queue (Some transfer) = is_idle queue transfer ≡ true
+
+-- Nothing waits, nothing is in flight, and nothing is to be acknowledged.
+abbrev pub IsIdle : Endpoint → Type 0
+IsIdle e = IdleBelow e.below.queue e.below.transfer

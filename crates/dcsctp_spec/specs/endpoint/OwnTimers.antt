@@ -1,0 +1,34 @@
+-- The timers of an association, except for T1, and the outcome of each.
+use Rattle.std.specs.Prelude.{◌≡◌}
+use Rattle.dcsctp_spec.specs.endpoint.Endpoint.{Endpoint, held_in}
+use Rattle.dcsctp_spec.specs.endpoint.Outcome.{Outcome}
+use Rattle.dcsctp_spec.specs.association.Acts.{Act, flushes, request_again}
+use Rattle.dcsctp_spec.specs.endpoint.HeartbeatOutcomes.{interval_outcome, timeout_outcome}
+use Rattle.dcsctp_spec.specs.endpoint.DataOutcomes.{delay_outcome, LossTurn}
+use Rattle.dcsctp_spec.specs.endpoint.ReconfigurationOutcomes.{reset_again, reconfiguration_outcome}
+
+pub data OwnTimer : Type 0 where
+  -- an acknowledgement is delayed no longer (RFC 9260, section 6.2)
+  acknowledgement_delay : OwnTimer
+  -- what is in flight isn't acknowledged (RFC 9260, section 6.3.3)
+  retransmission : OwnTimer
+  -- a HEARTBEAT is due, and its answer is awaited no longer (RFC 9260, section 8.3)
+  heartbeat_interval : OwnTimer
+  heartbeat_timeout : OwnTimer
+  -- its own request to reset streams is sent again (RFC 6525, section 5.1.1)
+  reconfiguration : OwnTimer
+
+abbrev pub TimerTurn : Endpoint → OwnTimer → Outcome → Type 0
+TimerTurn e acknowledgement_delay o = o ≡ delay_outcome e e.below.transfer
+TimerTurn e retransmission o = LossTurn e e.below.transfer o
+TimerTurn e heartbeat_interval o = o ≡ interval_outcome e e.core
+TimerTurn e heartbeat_timeout o = o ≡ timeout_outcome e
+TimerTurn e reconfiguration o = o ≡ reconfiguration_outcome e (held_in e.core) e.outstanding
+
+-- the act of the association that its turn is
+abbrev pub timer_act : Endpoint → OwnTimer → Act
+timer_act e acknowledgement_delay = flushes
+timer_act e retransmission = flushes
+timer_act e heartbeat_interval = flushes
+timer_act e heartbeat_timeout = flushes
+timer_act e reconfiguration = request_again (reset_again e.outstanding)

@@ -1,0 +1,120 @@
+-- The turns of chunks that don't concern the association: one line for each kind.
+use Rattle.std.specs.Prelude.{◌≡◌, ◌==◌, ℕ, ◌+◌, ◌-◌, ◌/◌, ◌%◌, Bool, true, false, Option, None, Some, List, [], ◌∷◌, ◌++◌, length, take, nat_le, codes, if◌then◌else◌}
+use Rattle.std.specs.Int.{w16, to_be_bytes}
+use Rattle.std.specs.Fmt.{decimal}
+use Rattle.dcsctp_types.specs.wire.Content.{data_chunk, i_data_chunk, sack_chunk, error_chunk, forward_tsn_chunk, i_forward_tsn_chunk, unrecognized_chunk_type}
+use Rattle.dcsctp_types.specs.wire.Texts.{causes_text}
+use Rattle.dcsctp_types.specs.declared.association.Held.{Held}
+use Rattle.dcsctp_types.specs.declared.capabilities.Capabilities.{Capabilities}
+use Rattle.dcsctp_types.specs.declared.ends.Violation.{Violation}
+use Rattle.dcsctp_types.specs.declared.ends.Violation.TheVariants.{DataWithInterleaving, InterleavedDataWithout, ForwardTsnWithout}
+use Rattle.dcsctp_types.specs.declared.ends.AbortReason.TheVariants as reasons
+use Rattle.dcsctp_types.specs.declared.kinds.ErrorKind.TheVariants.{ParseFailed, PeerReported}
+use Rattle.dcsctp_types.specs.Settings.{packet_size_limit}
+use Rattle.dcsctp_spec.specs.endpoint.Cause.{Cause}
+use Rattle.dcsctp_spec.specs.endpoint.Event.{error}
+use Rattle.dcsctp_spec.specs.Packet.{Plain, unknown, heartbeat, heartbeat_ack, unworked, plain, error_of, Emission}
+use Rattle.dcsctp_spec.specs.endpoint.Endpoint.{Endpoint, Core, cookie_echoed, open_in}
+use Rattle.dcsctp_spec.specs.endpoint.Following.{Following, next_chunk, packet_end}
+use Rattle.dcsctp_spec.specs.endpoint.Outcome.{Outcome, still, reports, sends, to_peer}
+use Rattle.dcsctp_spec.specs.endpoint.EndOutcomes.{aborting_outcome}
+use Rattle.dcsctp_spec.specs.queues.Arrivals.{data_arrival, i_data_arrival, skipped_in, messages_skipped_in}
+use Rattle.dcsctp_spec.specs.endpoint.DataOutcomes.{DataTurn, ForwardTurn, SackTurn}
+use Rattle.dcsctp_spec.specs.endpoint.HeartbeatOutcomes.{heartbeat_outcome, info_in, counter_of, heartbeat_ack_outcome}
+
+-- ---- what breaks the protocol that was negotiated
+
+-- DATA; the flag says whether message interleaving is negotiated (RFC 8260, section 2.2.1)
+abbrev pub data_violation : Bool → Option Violation
+data_violation true = Some DataWithInterleaving
+data_violation false = None
+
+abbrev pub i_data_violation : Bool → Option Violation
+i_data_violation true = None
+i_data_violation false = Some InterleavedDataWithout
+
+-- FORWARD-TSN, and whether partial reliability is negotiated too (RFC 3758, section 3.3.1)
+abbrev pub forward_tsn_violation : Bool → Bool → Option Violation
+forward_tsn_violation true is_partial = Some DataWithInterleaving
+forward_tsn_violation false true = None
+forward_tsn_violation false false = Some ForwardTsnWithout
+
+abbrev pub i_forward_tsn_violation : Bool → Bool → Option Violation
+i_forward_tsn_violation false is_partial = Some InterleavedDataWithout
+i_forward_tsn_violation true true = None
+i_forward_tsn_violation true false = Some ForwardTsnWithout
+
+abbrev pub violation_by : Capabilities → Plain → Option Violation
+violation_by capabilities (unworked (data_chunk chunk)) = data_violation capabilities.message_interleaving
+violation_by capabilities (unworked (i_data_chunk chunk)) = i_data_violation capabilities.message_interleaving
+violation_by capabilities (unworked (forward_tsn_chunk tsn streams)) = forward_tsn_violation capabilities.message_interleaving capabilities.partial_reliability
+violation_by capabilities (unworked (i_forward_tsn_chunk tsn streams)) = i_forward_tsn_violation capabilities.message_interleaving capabilities.partial_reliability
+violation_by capabilities chunk = None
+
+-- A violation counts if the peer is known.
+abbrev pub violation_at : Core → Plain → Option Violation
+violation_at (cookie_echoed my held cookie) chunk = violation_by held.capabilities chunk
+violation_at (open_in phase my held) chunk = violation_by held.capabilities chunk
+violation_at core chunk = None
+
+-- ---- a chunk of a type that isn't known (RFC 9260, section 3.2)
+
+-- Its second bit asks that it is reported,
+abbrev pub is_reported : ℕ → Bool
+is_reported type = type / 64 % 2 == 1
+
+-- and its first one that the chunks after it are handled.
+abbrev pub after_unknown : ℕ → Following
+after_unknown type = if nat_le 128 type then next_chunk else packet_end
+
+abbrev pub unknown_text : ℕ → List ℕ
+unknown_text type = codes "Received chunk type " ++ decimal type ++ codes ", "
+
+-- the chunk as it was read, without padding
+abbrev pub unknown_bytes : ℕ → ℕ → List ℕ → List ℕ
+unknown_bytes type flags value = type ∷ flags ∷ to_be_bytes w16 (4 + length value) ++ value
+
+-- an ERROR of the cause Unrecognized Chunk Type, with as much of the chunk as fits in `mtu` (RFC 9260, section 3.3.10.6)
+abbrev pub unknown_error : Endpoint → List ℕ → Plain
+unknown_error e chunk = error_of (unrecognized_chunk_type (take (packet_size_limit e.options - 20) chunk) ∷ [])
+
+abbrev pub unknown_report : Endpoint → Held → List ℕ → Emission
+unknown_report e held chunk = to_peer held (plain (unknown_error e chunk))
+
+-- The user is told, and so is the peer, if it is known.
+abbrev pub unknown_told : Endpoint → Core → ℕ → List ℕ → Outcome
+unknown_told e (cookie_echoed my held cookie) type chunk = sends e [] (error ParseFailed (unknown_text type) ∷ []) (unknown_report e held chunk)
+unknown_told e (open_in phase my held) type chunk = sends e [] (error ParseFailed (unknown_text type) ∷ []) (unknown_report e held chunk)
+unknown_told e core type chunk = reports e ParseFailed (unknown_text type)
+
+abbrev pub unknown_outcome : Endpoint → Core → ℕ → ℕ → List ℕ → Outcome
+unknown_outcome e core type flags value =
+    record (if is_reported type then unknown_told e core type (unknown_bytes type flags value) else still e) { following = after_unknown type }
+
+-- ---- an ERROR (RFC 9260, section 3.3.10)
+
+-- The user is told the texts of its causes, if the peer is known.
+abbrev pub error_outcome : Endpoint → Core → List Cause → Outcome
+error_outcome e (cookie_echoed my held cookie) causes = reports e PeerReported (causes_text causes)
+error_outcome e (open_in phase my held) causes = reports e PeerReported (causes_text causes)
+error_outcome e core causes = still e
+
+-- ---- every kind
+
+-- A chunk that breaks the protocol ends the association. Data and ERROR have their own outcomes, and a chunk without a handler
+-- changes nothing.
+abbrev pub PlainTurnBy : Endpoint → Plain → Option Violation → Outcome → Type 0
+PlainTurnBy e chunk (Some violation) o = o ≡ aborting_outcome e e.core (reasons.Violation violation)
+PlainTurnBy e (unknown type flags value) None o = o ≡ unknown_outcome e e.core type flags value
+PlainTurnBy e (heartbeat parameters) None o = o ≡ heartbeat_outcome e e.core parameters
+PlainTurnBy e (heartbeat_ack parameters) None o = o ≡ heartbeat_ack_outcome e (counter_of (info_in parameters))
+PlainTurnBy e (unworked (data_chunk chunk)) None o = DataTurn e (data_arrival chunk) o
+PlainTurnBy e (unworked (i_data_chunk chunk)) None o = DataTurn e (i_data_arrival chunk) o
+PlainTurnBy e (unworked (sack_chunk chunk)) None o = SackTurn e e.below.transfer chunk o
+PlainTurnBy e (unworked (forward_tsn_chunk tsn streams)) None o = ForwardTurn e e.below.transfer tsn (skipped_in streams) o
+PlainTurnBy e (unworked (i_forward_tsn_chunk tsn streams)) None o = ForwardTurn e e.below.transfer tsn (messages_skipped_in streams) o
+PlainTurnBy e (unworked (error_chunk causes)) None o = o ≡ error_outcome e e.core causes
+PlainTurnBy e (unworked chunk) None o = o ≡ still e
+
+abbrev pub PlainTurn : Endpoint → Plain → Outcome → Type 0
+PlainTurn e chunk o = PlainTurnBy e chunk (violation_at e.core chunk) o

@@ -1,0 +1,46 @@
+-- Its own streams that the user resets: what a socket refuses, what leaves the send queue, and what is sent (RFC 6525, section
+-- 5.1.2).
+use Rattle.std.specs.Prelude.{◌≡◌, ℕ, Option, None, Some, List, [], if◌then◌else◌}
+use Rattle.dcsctp_types.specs.declared.association.Held.{Held}
+use Rattle.dcsctp_spec.specs.queues.OwnResets.{prepared_all, prepare_all_events}
+use Rattle.dcsctp_spec.specs.queues.SendQueue.{SendQueueState}
+use Rattle.dcsctp_spec.specs.endpoint.Endpoint.{Endpoint, held_in}
+use Rattle.dcsctp_spec.specs.endpoint.Outcome.{Outcome, still, behind}
+use Rattle.dcsctp_spec.specs.endpoint.DataOutcomes.{FlushTurn}
+
+-- ---- what is refused
+
+pub data ResetRefusal : Type 0 where
+  -- The peer isn't known.
+  not_connected : ResetRefusal
+  -- Resets of streams weren't negotiated.
+  not_supported : ResetRefusal
+
+abbrev pub refusal_by : Option Held → Option ResetRefusal
+refusal_by None = Some not_connected
+refusal_by (Some held) = if held.capabilities.reconfig then None else Some not_supported
+
+-- why no stream can be reset
+abbrev pub reset_refusal : Endpoint → Option ResetRefusal
+reset_refusal e = refusal_by (held_in e.core)
+
+-- ---- the turn
+
+-- with this queue below
+abbrev pub with_queue : Endpoint → SendQueueState → Endpoint
+with_queue e queue = record e { below = record e.below { queue = queue } }
+
+-- The streams are prepared, and then what waits is sent.
+pub record PreparesResets (e : Endpoint) (ids : List ℕ) (o : Outcome) : Type 0 where
+  pub flushed : Outcome
+  pub flushes : FlushTurn (with_queue e (prepared_all ids e.below.queue)) flushed
+  pub is : o ≡ behind [] (prepare_all_events ids e.below.queue) flushed
+
+-- If it is refused, nothing happens.
+abbrev pub OwnResetsWhere : Option ResetRefusal → Endpoint → List ℕ → Outcome → Type 0
+OwnResetsWhere (Some refusal) e ids o = o ≡ still e
+OwnResetsWhere None e ids o = PreparesResets e ids o
+
+-- The user resets the streams of these numbers.
+abbrev pub OwnResetsTurn : Endpoint → List ℕ → Outcome → Type 0
+OwnResetsTurn e ids o = OwnResetsWhere (reset_refusal e) e ids o

@@ -1,0 +1,217 @@
+-- The turn of RE-CONFIG: what the peer asks to be reset, how it is answered, and what it answers (RFC 6525, section 5.2). Which
+-- numbers are accepted, and with which answer, is in association/ResetChanges (`work_chunk`); the rest is here.
+use Rattle.std.specs.Prelude.{◌≡◌, ◌==◌, ℕ, Bool, true, false, not, Option, None, Some, List, [], ◌∷◌, ◌++◌, codes}
+use Rattle.std.specs.List.{list_any}
+use Rattle.std.specs.Option.{option_map}
+use Rattle.dcsctp_types.specs.wire.declared.reconfiguration.ReconfigurationResponseResult.TheVariants.{InProgress}
+use Rattle.dcsctp_types.specs.declared.association.Pair.{Pair}
+use Rattle.dcsctp_types.specs.declared.association.Held.{Held}
+use Rattle.dcsctp_types.specs.declared.kinds.ErrorKind.TheVariants.{ProtocolViolation}
+use Rattle.dcsctp_spec.specs.endpoint.Event.{Event, error, incoming_stream_reset, streams_reset_failed, streams_reset_performed}
+use Rattle.dcsctp_spec.specs.Packet.{re_config, Emission}
+use Rattle.dcsctp_spec.specs.Reconfiguration.{RequestedReset, ResetParameter, outgoing_reset_request, incoming_reset_request, reconfiguration_response, other_reset_parameter}
+use Rattle.dcsctp_spec.specs.queues.Reassembly.{deferring, Leaves}
+use Rattle.dcsctp_spec.specs.queues.Tracker.{cumulative_tsn}
+use Rattle.dcsctp_spec.specs.queues.OwnResets.{queue_committed, queue_rolled_back}
+use Rattle.dcsctp_spec.specs.queues.SendQueue.{SendQueueState}
+use Rattle.dcsctp_spec.specs.queues.Transfer.{Transfer}
+use Rattle.dcsctp_spec.specs.endpoint.Endpoint.{Endpoint, Core, cookie_echoed, open_in, OutstandingRequest}
+use Rattle.dcsctp_spec.specs.endpoint.Timers.{started}
+use Rattle.dcsctp_spec.specs.endpoint.Outcome.{Outcome, still, quiet, emits, behind, noting, to_peer}
+use Rattle.dcsctp_spec.specs.association.Effect.{Effect, completes, fails, performs}
+use Rattle.dcsctp_spec.specs.association.ResetChanges.{WorkedParameters, work_chunk}
+use Rattle.dcsctp_spec.specs.endpoint.FlushOutcomes.{Answer, draft_to, flush_of, FlushAnswers}
+use Rattle.dcsctp_spec.specs.queues.Numbers.{is_tsn_beyond}
+use Rattle.dcsctp_spec.specs.endpoint.BegunResets.{reconfiguration_settings, rto_of}
+
+-- ---- when a reset is due
+
+-- what the first Outgoing SSN Reset Request of a chunk wants: no other is handled
+abbrev pub requested_in : List ResetParameter → Option RequestedReset
+requested_in [] = None
+requested_in (outgoing_reset_request number answered reset ∷ parameters) = Some reset
+requested_in (incoming_reset_request number streams ∷ parameters) = requested_in parameters
+requested_in (reconfiguration_response number result ∷ parameters) = requested_in parameters
+requested_in (other_reset_parameter parameter ∷ parameters) = requested_in parameters
+
+-- Was everything received that was sent before the reset was requested? Else it is in progress (RFC 6525, section 5.2.2, E2).
+abbrev pub is_reached : Option Transfer → Option RequestedReset → Bool
+is_reached (Some transfer) (Some reset) = not (is_tsn_beyond reset.last_tsn (cumulative_tsn transfer.tracker))
+is_reached transfer reset = true
+
+-- what the parameters of a chunk make of the numbers, and how they are answered
+abbrev pub worked_in : Endpoint → Pair → Held → List ResetParameter → WorkedParameters
+worked_in e my held parameters = work_chunk my (is_reached e.below.transfer (requested_in parameters)) held parameters
+
+-- ---- the peer's request
+
+-- were streams reset?
+abbrev pub has_reset : List Effect → Bool
+has_reset [] = false
+has_reset (performs peer number ∷ effects) = true
+has_reset (effect ∷ effects) = has_reset effects
+
+-- is the peer's request answered as in progress?
+abbrev pub answers_in_progress : List ResetParameter → Bool
+answers_in_progress [] = false
+answers_in_progress (reconfiguration_response number InProgress ∷ answers) = true
+answers_in_progress (answer ∷ answers) = answers_in_progress answers
+
+-- These streams were reset: messages that waited for that may be ready (RFC 6525, section 5.2.2, E4).
+pub record ResetsStreams (streams : List ℕ) (old new : Transfer) : Type 0 where
+  pub reassembly : Leaves streams old.reassembly new.reassembly
+  pub rest : new ≡ record old { reassembly = new.reassembly }
+
+-- What comes on them beyond the peer's last TSN waits from now on (RFC 6525, section 5.2.2, E2).
+abbrev pub defers_reset : RequestedReset → Transfer → Transfer
+defers_reset reset transfer = record transfer { reassembly = deferring reset.last_tsn reset.streams transfer.reassembly }
+
+-- by the request, and whether it is performed, or in progress
+abbrev pub ResetsBelow : Bool → Bool → Option RequestedReset → Option Transfer → Option Transfer → Type 0
+ResetsBelow true in_progress (Some reset) (Some old) new = (left : Transfer) × (new ≡ Some left) × ResetsStreams reset.streams old left
+ResetsBelow false true (Some reset) (Some old) new = new ≡ Some (defers_reset reset old)
+ResetsBelow is_performed in_progress reset old new = new ≡ old
+
+-- ---- its own request
+
+-- the parameters that are handled: those in front of a second Outgoing SSN Reset Request
+abbrev pub worked_part : Bool → List ResetParameter → List ResetParameter
+worked_part has_worked [] = []
+worked_part true (outgoing_reset_request number answered reset ∷ parameters) = []
+worked_part false (outgoing_reset_request number answered reset ∷ parameters) = outgoing_reset_request number answered reset ∷ worked_part true parameters
+worked_part has_worked (parameter ∷ parameters) = parameter ∷ worked_part has_worked parameters
+
+-- does it answer that the request of this number is in progress?
+abbrev pub is_in_progress : ℕ → ResetParameter → Bool
+is_in_progress own (reconfiguration_response number InProgress) = number == own
+is_in_progress own parameter = false
+
+-- what becomes of it
+pub data OwnAnswer : Type 0 where
+  -- It isn't answered, or there is none.
+  unanswered : OwnAnswer
+  -- It is in progress, and is sent again later.
+  retried : OwnAnswer
+  -- Its streams were reset.
+  was_performed : OwnAnswer
+  -- They weren't, and won't be.
+  has_failed : OwnAnswer
+
+-- by its number before the chunk and after it, and whether it was answered as in progress, or was performed
+abbrev pub own_answer : Option ℕ → Option ℕ → Bool → Bool → OwnAnswer
+own_answer None after in_progress is_performed = unanswered
+own_answer (Some number) None in_progress true = was_performed
+own_answer (Some number) None in_progress false = has_failed
+own_answer (Some number) (Some still_out) true is_performed = retried
+own_answer (Some number) (Some still_out) false is_performed = unanswered
+
+abbrev pub in_progress_among : Option ℕ → List ResetParameter → Bool
+in_progress_among None parameters = false
+in_progress_among (Some number) parameters = list_any (is_in_progress number) parameters
+
+-- was it performed?
+abbrev pub has_completed : List Effect → Bool
+has_completed [] = false
+has_completed (completes my number ∷ effects) = true
+has_completed (effect ∷ effects) = has_completed effects
+
+abbrev pub answered_in : Held → WorkedParameters → List ResetParameter → OwnAnswer
+answered_in held worked parameters =
+    own_answer held.own_outstanding worked.held.own_outstanding (in_progress_among held.own_outstanding (worked_part false parameters)) (has_completed worked.effects)
+
+-- the streams that its own request resets
+abbrev pub own_streams : Option OutstandingRequest → List ℕ
+own_streams None = []
+own_streams (Some request) = request.streams
+
+-- it waits to be sent again
+abbrev pub waiting : OutstandingRequest → OutstandingRequest
+waiting request = record request { waits_for_retry = true }
+
+-- Its own request has ended, and this waits to be sent.
+abbrev pub own_ended : SendQueueState → Endpoint → Endpoint
+own_ended queue e =
+    record e { outstanding = None; timers = record e.timers { reconfiguration = None }; below = record e.below { queue = queue } }
+
+-- the endpoint once its own request got this answer
+abbrev pub own_moved : OwnAnswer → Endpoint → Endpoint
+own_moved unanswered e = e
+own_moved retried e =
+    record e {
+      outstanding = option_map waiting e.outstanding;
+      timers = record e.timers { reconfiguration = started e.moment (reconfiguration_settings (rto_of e.below.transfer)) };
+    }
+own_moved was_performed e = own_ended (queue_committed e.below.queue) e
+own_moved has_failed e = own_ended (queue_rolled_back e.below.queue) e
+
+-- ---- its outcome
+
+-- the events for the user, if the peer resets these streams and its own request resets those
+abbrev pub reset_events : List ℕ → List ℕ → List Effect → List (Event Emission)
+reset_events theirs own [] = []
+reset_events theirs own (performs peer number ∷ effects) = incoming_stream_reset theirs ∷ reset_events theirs own effects
+reset_events theirs own (completes my number ∷ effects) = streams_reset_performed own ∷ reset_events theirs own effects
+reset_events theirs own (fails number ∷ effects) = streams_reset_failed own ∷ reset_events theirs own effects
+reset_events theirs own (effect ∷ effects) = reset_events theirs own effects
+
+abbrev pub their_streams : Option RequestedReset → List ℕ
+their_streams None = []
+their_streams (Some reset) = reset.streams
+
+abbrev pub told_of : Endpoint → List ResetParameter → List Effect → List (Event Emission)
+told_of e parameters effects = reset_events (their_streams (requested_in parameters)) (own_streams e.outstanding) effects
+
+-- the association with this known of its peer
+abbrev pub core_with : Core → Held → Core
+core_with (cookie_echoed my old cookie) held = cookie_echoed my held cookie
+core_with (open_in phase my old) held = open_in phase my held
+core_with core held = core
+
+-- the endpoint once the parameters were handled, with this below its association
+abbrev pub resets_worked : Endpoint → OwnAnswer → Held → Option Transfer → Endpoint
+resets_worked e answer held left =
+    let moved : Endpoint = own_moved answer e in
+    record moved { core = core_with e.core held; below = record moved.below { transfer = left } }
+
+-- why a chunk is an error: it has no parameter, or a second Outgoing SSN Reset Request
+abbrev pub reset_refusal_text : List ResetParameter → List ℕ
+reset_refusal_text [] = codes "RE-CONFIG chunk must have at least one parameter"
+reset_refusal_text (parameter ∷ parameters) = codes "RE-CONFIG chunk must not have multiple Outgoing SSN Reset Request parameters"
+
+-- The answers are sent in a packet of one RE-CONFIG, if there are some and they fit.
+abbrev pub responses_outcome : Endpoint → Held → List ResetParameter → Outcome
+responses_outcome e held [] = still e
+responses_outcome e held (response ∷ responses) = emits e [] (to_peer held (re_config (response ∷ responses)))
+
+-- After the events come the answers, and then a flush; if the chunk is an error, neither does.
+abbrev pub responses_by : Bool → Endpoint → List (Event Emission) → Held → List ResetParameter → List ResetParameter → List Answer → Outcome
+responses_by true e told held parameters responses answers = quiet e [] (told ++ error ProtocolViolation (reset_refusal_text parameters) ∷ [])
+responses_by false e told held parameters responses answers =
+    let sent : Outcome = responses_outcome e held responses in
+    behind [] (told ++ sent.events) (flush_of sent.after (draft_to held) answers)
+
+abbrev pub ResponseAnswers : Bool → Endpoint → Held → List ResetParameter → List Answer → Type 0
+ResponseAnswers true e held responses answers = answers ≡ []
+ResponseAnswers false e held responses answers = FlushAnswers (responses_outcome e held responses).after (draft_to held) answers
+
+-- by what the parameters make of the numbers, and with this below the association
+abbrev pub resets_by : Endpoint → Held → WorkedParameters → List ResetParameter → Option Transfer → List Answer → Outcome
+resets_by e held worked parameters left answers =
+    noting worked.effects (responses_by worked.is_refused (resets_worked e (answered_in held worked parameters) worked.held left) (told_of e parameters worked.effects) worked.held parameters worked.answers answers)
+
+-- Its change is `re_config_change`.
+pub record WorksResets (e : Endpoint) (my : Pair) (held : Held) (parameters : List ResetParameter) (o : Outcome) : Type 0 where
+  pub left : Option Transfer
+  pub below : ResetsBelow (has_reset (worked_in e my held parameters).effects) (answers_in_progress (worked_in e my held parameters).answers)
+      (requested_in parameters) e.below.transfer left
+  pub answers : List Answer
+  pub allowed : ResponseAnswers (worked_in e my held parameters).is_refused
+      (resets_worked e (answered_in held (worked_in e my held parameters) parameters) (worked_in e my held parameters).held left) (worked_in e my held parameters).held
+      (worked_in e my held parameters).answers answers
+  pub is : o ≡ resets_by e held (worked_in e my held parameters) parameters left answers
+
+-- A RE-CONFIG with these parameters is received; without a peer nothing happens.
+abbrev pub ResetTurn : Endpoint → Core → List ResetParameter → Outcome → Type 0
+ResetTurn e (cookie_echoed my held cookie) parameters o = WorksResets e my held parameters o
+ResetTurn e (open_in phase my held) parameters o = WorksResets e my held parameters o
+ResetTurn e core parameters o = o ≡ still e

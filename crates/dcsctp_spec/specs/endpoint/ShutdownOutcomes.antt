@@ -1,0 +1,153 @@
+-- How an association is shut down, from either end (RFC 9260, section 9.2).
+use Rattle.std.specs.Prelude.{◌==◌, ℕ, Bool, true, false, Option, None, Some, []}
+use Rattle.std.specs.Option.{option_map}
+use Rattle.dcsctp_types.specs.declared.association.Pair.{Pair}
+use Rattle.dcsctp_types.specs.declared.association.Held.{Held}
+use Rattle.dcsctp_types.specs.declared.kinds.BackoffAlgorithm.TheVariants.{Exponential}
+use Rattle.dcsctp_types.specs.declared.options.Options.{Options}
+use Rattle.dcsctp_spec.specs.endpoint.Event as events
+use Rattle.dcsctp_spec.specs.Packet.{shutdown, shutdown_ack, shutdown_complete}
+use Rattle.dcsctp_spec.specs.queues.Tracker.{cumulative_tsn}
+use Rattle.dcsctp_spec.specs.queues.Transfer.{Transfer}
+use Rattle.dcsctp_spec.specs.queues.Items.{unacknowledged_items}
+use Rattle.dcsctp_spec.specs.endpoint.Endpoint.{Endpoint, Core, closed, cookie_wait, cookie_echoed, open_in, OpenPhase, established, shutdown_pending, shutdown_sent, shutdown_received, shutdown_ack_sent}
+use Rattle.dcsctp_spec.specs.endpoint.Timers.{TimerSettings, started, going_on}
+use Rattle.dcsctp_spec.specs.endpoint.Outcome.{Outcome, still, quiet, sends, to_peer}
+use Rattle.dcsctp_spec.specs.endpoint.BegunResets.{rto_of}
+use Rattle.dcsctp_spec.specs.endpoint.EndOutcomes.{ended_outcome, reflected_outcome}
+
+-- ---- T2-shutdown
+
+-- Each wait is twice the last one, without a limit, and the options say how often a packet is sent again.
+abbrev pub t2_settings : Options → ℕ → TimerSettings
+t2_settings options rto = record { duration = rto; terms = record { backoff = Exponential; max_restarts = options.max_retransmissions; max_backoff = None } }
+
+-- It starts anew, with the present retransmission timeout.
+abbrev pub t2_begun : Endpoint → Endpoint
+t2_begun e = record e { timers = record e.timers { t2 = started e.moment (t2_settings e.options (rto_of e.below.transfer)) } }
+
+-- It goes on from the present moment.
+abbrev pub t2_goes_on : Endpoint → Endpoint
+t2_goes_on e = record e { timers = record e.timers { t2 = option_map (going_on e.moment) e.timers.t2 } }
+
+-- ---- what is sent
+
+-- the cumulative TSN of what was received, as its field holds it
+abbrev pub received_tsn : Option Transfer → ℕ
+received_tsn None = 0
+received_tsn (Some transfer) = cumulative_tsn transfer.tracker
+
+-- SHUTDOWN tells it (RFC 9260, section 3.3.8).
+abbrev pub sends_shutdown : Endpoint → Held → Outcome
+sends_shutdown e held = sends e [] [] (to_peer held (shutdown (received_tsn e.below.transfer)))
+
+abbrev pub sends_shutdown_ack : Endpoint → Held → Outcome
+sends_shutdown_ack e held = sends e [] [] (to_peer held shutdown_ack)
+
+-- ---- a step of it
+
+-- the association in this phase
+abbrev pub phase_at : Endpoint → OpenPhase → Pair → Held → Endpoint
+phase_at e phase my held = record e { core = open_in phase my held }
+
+-- A SHUTDOWN waits for its answer, or a SHUTDOWN ACK does.
+abbrev pub shutdown_is_sent : Endpoint → Pair → Held → Outcome
+shutdown_is_sent e my held = sends_shutdown (t2_begun (phase_at e shutdown_sent my held)) held
+
+abbrev pub shutdown_ack_is_sent : Endpoint → Pair → Held → Outcome
+shutdown_ack_is_sent e my held = sends_shutdown_ack (t2_begun (phase_at e shutdown_ack_sent my held)) held
+
+-- Is nothing that was sent still to be acknowledged? What was abandoned isn't, and what waits to be sent doesn't count.
+abbrev pub is_all_acknowledged : Option Transfer → Bool
+is_all_acknowledged None = true
+is_all_acknowledged (Some transfer) = unacknowledged_items transfer.retransmission.outstanding.items == 0
+
+abbrev pub step_by : Bool → Endpoint → OpenPhase → Pair → Held → Outcome
+step_by true e shutdown_pending my held = shutdown_is_sent e my held
+step_by true e shutdown_received my held = shutdown_ack_is_sent e my held
+step_by is_acknowledged e phase my held = still e
+
+-- A shutdown under way goes on once all is acknowledged. Its change is `shutdown_step_change`.
+abbrev pub step_outcome : Endpoint → Core → Outcome
+step_outcome e (open_in phase my held) = step_by (is_all_acknowledged e.below.transfer) e phase my held
+step_outcome e core = still e
+
+-- The association enters this phase, and may go on from there.
+abbrev pub step_from : Endpoint → OpenPhase → Pair → Held → Outcome
+step_from e phase my held = step_by (is_all_acknowledged e.below.transfer) (phase_at e phase my held) phase my held
+
+-- ---- the user's call
+
+-- no T1: its COOKIE ACK is awaited no longer
+abbrev pub t1_stopped : Endpoint → Endpoint
+t1_stopped e = record e { timers = record e.timers { t1 = None } }
+
+abbrev pub shut_down_open : Endpoint → OpenPhase → Pair → Held → Outcome
+shut_down_open e established my held = step_from e shutdown_pending my held
+shut_down_open e phase my held = still e
+
+-- The user shuts the association down. One that has no peer yet ends; one whose COOKIE ACK is awaited will never connect. Its
+-- change is `shutdown_call_change`.
+abbrev pub shut_down_outcome : Endpoint → Core → Outcome
+shut_down_outcome e closed = still e
+shut_down_outcome e (cookie_wait my) = ended_outcome (quiet e [] []) events.closed
+shut_down_outcome e (cookie_echoed my held cookie) = step_from (t1_stopped e) shutdown_pending my held
+shut_down_outcome e (open_in phase my held) = shut_down_open e phase my held
+
+-- ---- chunks
+
+abbrev pub shutdown_outcome_in : Endpoint → OpenPhase → Pair → Held → Outcome
+shutdown_outcome_in e established my held = step_from e shutdown_received my held
+shutdown_outcome_in e shutdown_pending my held = step_from e shutdown_received my held
+shutdown_outcome_in e shutdown_sent my held = shutdown_ack_is_sent e my held
+shutdown_outcome_in e shutdown_received my held = still e
+shutdown_outcome_in e shutdown_ack_sent my held = shutdown_ack_is_sent e my held
+
+-- A SHUTDOWN is received, from a peer whose COOKIE ACK isn't awaited. Its cumulative TSN ack isn't used. Its change is
+-- `shutdown_change`.
+abbrev pub shutdown_outcome : Endpoint → Core → Outcome
+shutdown_outcome e (open_in phase my held) = shutdown_outcome_in e phase my held
+shutdown_outcome e core = still e
+
+-- A SHUTDOWN ACK that is awaited ends the association, and is answered by SHUTDOWN COMPLETE.
+abbrev pub completed_outcome : Endpoint → Held → Outcome
+completed_outcome e held = ended_outcome (sends e [] [] (to_peer held (shutdown_complete false))) events.closed
+
+abbrev pub shutdown_ack_outcome_in : Endpoint → OpenPhase → Held → ℕ → Outcome
+shutdown_ack_outcome_in e shutdown_sent held header = completed_outcome e held
+shutdown_ack_outcome_in e shutdown_ack_sent held header = completed_outcome e held
+shutdown_ack_outcome_in e phase held header = reflected_outcome e header
+
+-- A SHUTDOWN ACK is received, in a packet of this tag. Its change is `shutdown_ack_change`.
+abbrev pub shutdown_ack_outcome : Endpoint → Core → ℕ → Outcome
+shutdown_ack_outcome e (open_in phase my held) header = shutdown_ack_outcome_in e phase held header
+shutdown_ack_outcome e core header = reflected_outcome e header
+
+abbrev pub shutdown_complete_outcome_in : Endpoint → OpenPhase → Outcome
+shutdown_complete_outcome_in e shutdown_ack_sent = ended_outcome (quiet e [] []) events.closed
+shutdown_complete_outcome_in e phase = still e
+
+-- SHUTDOWN COMPLETE counts while a SHUTDOWN ACK waits for it (RFC 9260, section 8.5.1, C). Its change is
+-- `shutdown_complete_change`.
+abbrev pub shutdown_complete_outcome : Endpoint → Core → Outcome
+shutdown_complete_outcome e (open_in phase my held) = shutdown_complete_outcome_in e phase
+shutdown_complete_outcome e core = still e
+
+-- ---- T2, and data while a SHUTDOWN waits for its answer
+
+abbrev pub sent_again_in : Endpoint → OpenPhase → Held → Outcome
+sent_again_in e shutdown_sent held = sends_shutdown e held
+sent_again_in e shutdown_ack_sent held = sends_shutdown_ack e held
+sent_again_in e phase held = still e
+
+abbrev pub sent_again : Endpoint → Core → Outcome
+sent_again e (open_in phase my held) = sent_again_in e phase held
+sent_again e core = still e
+
+-- T2 has expired with a restart left: SHUTDOWN or SHUTDOWN ACK is sent again. Its change is `shutdown_again_change`.
+abbrev pub t2_again_outcome : Endpoint → Outcome
+t2_again_outcome e = sent_again (t2_goes_on e) e.core
+
+-- Data comes while a SHUTDOWN waits for its answer: another one is sent, and T2 starts anew.
+abbrev pub shutdown_repeated : Endpoint → Held → Outcome
+shutdown_repeated e held = sends_shutdown (t2_begun e) held

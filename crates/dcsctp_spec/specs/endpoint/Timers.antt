@@ -1,0 +1,97 @@
+-- Timers (RFC 9260, section 6.3). Moments and durations are nanoseconds.
+use Rattle.std.specs.Prelude.{ℕ, ◌+◌, ◌*◌, ◌-◌, ◌^◌, min, nat_le, Bool, true, false, if◌then◌else◌, Option, None, Some}
+use Rattle.std.specs.Duration.{max_nanos}
+use Rattle.dcsctp_types.specs.declared.kinds.BackoffAlgorithm.{BackoffAlgorithm}
+use Rattle.dcsctp_types.specs.declared.kinds.BackoffAlgorithm.TheVariants.{Fixed, Exponential}
+
+-- How a timer goes on once it has expired (RFC 9260, section 6.3.3). Durations are nanoseconds.
+pub record BackoffTerms : Type 0 where
+  pub backoff : BackoffAlgorithm
+  -- how often it goes on after it has expired; None: no limit
+  pub max_restarts : Option ℕ
+  -- the longest that it runs after it has expired; None: no limit
+  pub max_backoff : Option ℕ
+
+-- How a timer runs, once it is started.
+pub record TimerSettings : Type 0 where
+  -- how long before it expires first
+  pub duration : ℕ
+  pub terms : BackoffTerms
+
+-- A timer of this layer that runs (RFC 9260, sections 5.1, 8.3 and 9.2; RFC 6525, section 5.1).
+pub record RunningTimer : Type 0 where
+  -- the moment at which it expires next, in nanoseconds
+  pub deadline : ℕ
+  -- how long it runs this time, before the limit is applied
+  pub wait : ℕ
+  pub expiries : ℕ
+  pub terms : BackoffTerms
+
+-- the moment that comes that much later, or the last one that there is
+abbrev pub moment_after : ℕ → ℕ → ℕ
+moment_after moment duration = min (moment + duration) max_nanos
+
+-- A timer that is started at this moment. The bound doesn't cut its first deadline.
+abbrev pub started : ℕ → TimerSettings → Option RunningTimer
+started moment settings =
+    Some (record { deadline = moment_after moment settings.duration; wait = settings.duration; expiries = 0; terms = settings.terms })
+
+-- how long a timer runs after it has expired, before the limit is applied: as long as before, or twice as long
+abbrev pub next_wait : BackoffAlgorithm → ℕ → ℕ
+next_wait Fixed wait = wait
+next_wait Exponential wait = min (wait * 2) max_nanos
+
+-- no longer than the bound, if there is one
+abbrev pub bounded : Option ℕ → ℕ → ℕ
+bounded None wait = wait
+bounded (Some bound) wait = min wait bound
+
+-- May a timer go on that has expired that often?
+abbrev pub goes_on : Option ℕ → ℕ → Bool
+goes_on None expiries = true
+goes_on (Some restarts) expiries = nat_le expiries restarts
+
+-- how often it has expired, with this time; the count stops at the greatest number of 64 bits
+abbrev pub next_expiries : ℕ → ℕ
+next_expiries expiries = min (expiries + 1) (2 ^ 64 - 1)
+
+-- A timer that has expired at this moment, and goes on. It backs off from the duration that it started with.
+abbrev pub going_on : ℕ → RunningTimer → RunningTimer
+going_on moment timer =
+    let wait = next_wait timer.terms.backoff timer.wait in
+    record timer { deadline = moment_after moment (bounded timer.terms.max_backoff wait); wait = wait; expiries = next_expiries timer.expiries }
+
+-- Its deadline has come: a timer expires at no earlier moment.
+abbrev pub is_due : ℕ → RunningTimer → Bool
+is_due moment timer = nat_le timer.deadline moment
+
+-- Does it go on once it expires?
+abbrev pub is_restarted : RunningTimer → Bool
+is_restarted timer = goes_on timer.terms.max_restarts (next_expiries timer.expiries)
+
+-- What is left of a timer that expires at this moment: it goes on, or, if its restarts are used up, it stops.
+abbrev pub expired : ℕ → RunningTimer → Option RunningTimer
+expired moment timer = if is_restarted timer then Some (going_on moment timer) else None
+
+-- ---- a timer between two calls
+
+pub record TimerModel : Type 0 where
+  -- None: it doesn't run
+  pub running : Option RunningTimer
+  -- how it runs once it is started next
+  pub settings : TimerSettings
+
+-- when it expires next, if it runs
+abbrev pub running_deadline : Option RunningTimer → Option ℕ
+running_deadline None = None
+running_deadline (Some timer) = Some timer.deadline
+
+-- Does it expire at this moment?
+abbrev pub expires_at : ℕ → Option RunningTimer → Bool
+expires_at moment None = false
+expires_at moment (Some timer) = is_due moment timer
+
+-- what is left of it once this moment has come
+abbrev pub running_after : ℕ → Option RunningTimer → Option RunningTimer
+running_after moment None = None
+running_after moment (Some timer) = if is_due moment timer then expired moment timer else Some timer

@@ -1,0 +1,43 @@
+-- What is outstanding: the items of consecutive TSNs (RFC 9260, section 6.1).
+use Rattle.std.specs.Prelude.{ℕ, ◌+◌, ◌-◌, ◌%◌, ◌^◌, Bool, List, [], ◌∷◌, length, if◌then◌else◌}
+use Rattle.dcsctp_types.specs.wire.declared.chunk.sack.GapAckBlock.{GapAckBlock}
+use Rattle.dcsctp_types.specs.declared.progress.Change.TheVariants.{Acknowledge}
+use Rattle.dcsctp_spec.specs.queues.Items.{Item, changed_between}
+
+pub record OutstandingState : Type 0 where
+  -- the TSN of the first item; the one before is the last that was acknowledged cumulatively
+  pub first_tsn : ℕ
+  -- Are they sent as I-DATA (RFC 8260)?
+  pub is_interleaved : Bool
+  pub items : List Item
+
+-- the header of a DATA chunk (RFC 9260, section 3.3.1), or of an I-DATA chunk (RFC 8260, section 2.1)
+abbrev pub header_of : Bool → ℕ
+header_of is_interleaved = if is_interleaved then 20 else 16
+
+-- the size of a chunk's header
+abbrev pub header : OutstandingState → ℕ
+header outstanding = header_of outstanding.is_interleaved
+
+-- the TSN that many places after the first
+abbrev pub tsn_at : OutstandingState → ℕ → ℕ
+tsn_at outstanding place = (outstanding.first_tsn + place) % 2 ^ 32
+
+-- the TSN of the next item
+abbrev pub next_tsn : OutstandingState → ℕ
+next_tsn outstanding = tsn_at outstanding (length outstanding.items)
+
+-- how far a TSN is after the first
+abbrev pub distance_to : OutstandingState → ℕ → ℕ
+distance_to outstanding tsn = (tsn + (2 ^ 32 - outstanding.first_tsn)) % 2 ^ 32
+
+-- how many items the cumulative TSN acknowledges: 0 for the one before the first
+abbrev pub acknowledged_by : OutstandingState → ℕ → ℕ
+acknowledged_by outstanding cumulative = distance_to outstanding ((cumulative + 1) % 2 ^ 32)
+
+-- the items with those acknowledged that the blocks name, from the place `count` on, which is the first TSN after the cumulative
+-- one
+abbrev pub reported : ℕ → List GapAckBlock → List Item → List Item
+reported count [] items = items
+reported count (block ∷ blocks) items =
+    reported count blocks (changed_between Acknowledge (count + block.start - 1) (count + block.end) items)

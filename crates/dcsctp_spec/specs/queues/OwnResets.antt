@@ -1,0 +1,101 @@
+-- Own streams that are to be reset: what leaves the send queue, which are ready, and what becomes of them (RFC 6525, section
+-- 5.1.2).
+use Rattle.std.specs.Prelude.{ℕ, ◌-◌, ◌^◌, ◌==◌, min, Bool, true, false, Option, None, Some, List, [], ◌∷◌, ◌++◌, take, drop, map, filter, if◌then◌else◌}
+use Rattle.dcsctp_spec.specs.endpoint.Event.{Event}
+use Rattle.dcsctp_types.specs.declared.sending.UnderWay.{UnderWay}
+use Rattle.dcsctp_types.specs.declared.sending.Pause.{Pause}
+use Rattle.dcsctp_types.specs.declared.sending.Pause.TheVariants.{Open, Pausing, HandedOut}
+use Rattle.dcsctp_types.specs.queues.SendStreams.{Waiting, Stream, size_of, is_pausing, paused, handed_out, committed, rolled_back}
+use Rattle.dcsctp_spec.specs.queues.SendEvents.{low_events, expiries}
+use Rattle.dcsctp_spec.specs.queues.SendQueue.{SendQueueState, changed, used, stream_of}
+
+-- ---- a stream that is prepared
+
+abbrev pub is_open : Pause → Bool
+is_open Open = true
+is_open Pausing = false
+is_open HandedOut = false
+
+-- is the message under way one of this stream?
+abbrev pub is_under_way : ℕ → Option UnderWay → Bool
+is_under_way id None = false
+is_under_way id (Some message) = message.stream_id.0 == id
+
+-- how many messages of the stream are under way
+abbrev pub count_under_way : ℕ → Option UnderWay → ℕ
+count_under_way id under_way = if is_under_way id under_way then 1 else 0
+
+-- what leaves a stream that is to be reset
+abbrev pub dropped_of : ℕ → SendQueueState → List Waiting
+dropped_of id queue = drop (count_under_way id queue.under_way) (stream_of queue id).messages
+
+abbrev pub dropped_size : ℕ → SendQueueState → ℕ
+dropped_size id queue = min (size_of (dropped_of id queue)) (2 ^ 64 - 1)
+
+-- a stream that is to be reset, without that many payload bytes and with that many messages
+abbrev pub prepared_stream : ℕ → ℕ → Stream → Stream
+prepared_stream size kept stream = paused kept (record stream { amount = stream.amount - size })
+
+-- the queue, with this stream in any case
+abbrev pub with_used : ℕ → SendQueueState → SendQueueState
+with_used id queue = record queue { streams = used queue id }
+
+-- Messages that haven't been started are dropped, and the stream is paused.
+abbrev pub prepared_open : ℕ → SendQueueState → SendQueueState
+prepared_open id queue =
+    record queue {
+      streams = changed id (prepared_stream (dropped_size id queue) (count_under_way id queue.under_way)) queue.streams;
+      total_amount = queue.total_amount - dropped_size id queue;
+    }
+
+abbrev pub prepared_in : ℕ → SendQueueState → SendQueueState
+prepared_in id queue = if is_open (stream_of queue id).pause then prepared_open id queue else queue
+
+-- A stream that isn't paused is prepared to be reset; it counts as used from now on.
+abbrev pub prepared : ℕ → SendQueueState → SendQueueState
+prepared id queue = prepared_in id (with_used id queue)
+
+abbrev pub prepare_events_in : {P : Type 0} → ℕ → SendQueueState → List (Event P)
+prepare_events_in id queue =
+    if is_open (stream_of queue id).pause
+    then low_events (stream_of queue id) queue.total_threshold queue.total_amount (dropped_size id queue) ++ expiries (dropped_of id queue)
+    else []
+
+abbrev pub prepare_events : {P : Type 0} → ℕ → SendQueueState → List (Event P)
+prepare_events id queue = prepare_events_in id (with_used id queue)
+
+-- the streams of these numbers, one after another
+abbrev pub prepared_all : List ℕ → SendQueueState → SendQueueState
+prepared_all [] queue = queue
+prepared_all (id ∷ ids) queue = prepared_all ids (prepared id queue)
+
+abbrev pub prepare_all_events : {P : Type 0} → List ℕ → SendQueueState → List (Event P)
+prepare_all_events [] queue = []
+prepare_all_events (id ∷ ids) queue = prepare_events id queue ++ prepare_all_events ids (prepared id queue)
+
+-- ---- streams that are ready
+
+-- can the stream be handed out to be reset?
+abbrev pub is_ready : Option UnderWay → Stream → Bool
+is_ready under_way stream = if is_pausing stream.pause then (if is_under_way stream.id under_way then false else true) else false
+
+-- the streams that can be handed out, ascending
+abbrev pub ready_streams : SendQueueState → List ℕ
+ready_streams queue = map (λ stream. stream.id) (filter (is_ready queue.under_way) queue.streams)
+
+-- each of these streams is handed out
+abbrev pub handing_out : List ℕ → List Stream → List Stream
+handing_out [] streams = streams
+handing_out (id ∷ ids) streams = handing_out ids (changed id handed_out streams)
+
+-- That many of the streams that are ready, the first ones, are handed out. They stay paused, and are no longer ready.
+abbrev pub queue_handing_out : ℕ → SendQueueState → SendQueueState
+queue_handing_out count queue = record queue { streams = handing_out (take count (ready_streams queue)) queue.streams }
+
+-- The streams that are handed out were reset: they are paused no longer, and number their messages from 0.
+abbrev pub queue_committed : SendQueueState → SendQueueState
+queue_committed queue = record queue { streams = map committed queue.streams }
+
+-- The streams that are handed out weren't reset: they are paused no longer.
+abbrev pub queue_rolled_back : SendQueueState → SendQueueState
+queue_rolled_back queue = record queue { streams = map rolled_back queue.streams }

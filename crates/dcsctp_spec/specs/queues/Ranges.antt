@@ -1,0 +1,70 @@
+-- Sets of TSNs as a socket keeps them: all up to a cumulative number, and ranges beyond it. The numbers don't wrap.
+use Rattle.std.specs.Prelude.{◌==◌, ℕ, ◌+◌, ◌<◌, ◌≤◌, nat_le, nat_lt, Bool, false, cond, ◌&&◌, ◌||◌, List, [], ◌∷◌}
+use Rattle.dcsctp_types.specs.declared.tracking.TsnRange.{TsnRange}
+
+-- Do the ranges ascend, with a number missing between each two, and one between this number and the first of them?
+abbrev pub IsBeyond : ℕ → List TsnRange → Type 0
+IsBeyond number [] = Unit {0}
+IsBeyond number (range ∷ ranges) = (number + 1 < range.first) × (range.first ≤ range.last) × IsBeyond range.last ranges
+
+-- Is the number in one of the ranges?
+abbrev pub is_in : ℕ → List TsnRange → Bool
+is_in number [] = false
+is_in number (range ∷ ranges) = (nat_le range.first number && nat_le number range.last) || is_in number ranges
+
+-- Are all up to this number received, or is it in one of the ranges?
+abbrev pub is_received : ℕ → ℕ → List TsnRange → Bool
+is_received cumulative number ranges = nat_le number cumulative || is_in number ranges
+
+-- What is received: all up to the cumulative number, and the ranges beyond it.
+pub record Received : Type 0 where
+  pub cumulative : ℕ
+  pub ranges : List TsnRange
+
+abbrev pub all_to : ℕ → List TsnRange → Received
+all_to cumulative ranges = record { cumulative = cumulative; ranges = ranges }
+
+abbrev pub run_of : ℕ → ℕ → TsnRange
+run_of first last = record { first = first; last = last }
+
+-- A range is put in front of ranges that lie behind it.
+abbrev pub put_before : TsnRange → List TsnRange → List TsnRange
+-- No other range is there.
+put_before range [] = range ∷ []
+-- If the next range begins right after it, the two become one. Else it stands alone.
+put_before range (next ∷ ranges) = cond (next.first == range.last + 1) (run_of range.first next.last ∷ ranges) (range ∷ (next ∷ ranges))
+
+-- A number that is in none of the ranges is put among them.
+abbrev pub put_among : ℕ → List TsnRange → List TsnRange
+-- Behind all of them, it is a range of its own.
+put_among number [] = run_of number number ∷ []
+-- If it lies before the first range, it is put in front. If it lies right after that range, it extends it. Else it lies
+-- farther behind.
+put_among number (range ∷ ranges) =
+    cond (nat_lt number range.first) (put_before (run_of number number) (range ∷ ranges))
+    (cond (number == range.last + 1) (put_before (run_of range.first number) ranges)
+    (range ∷ put_among number ranges))
+
+-- All up to the number are received, and what is in the ranges.
+abbrev pub reaching : ℕ → List TsnRange → Received
+-- There are no ranges: nothing is received beyond it.
+reaching number [] = all_to number []
+-- If a number is missing before the first range, that one stays. If the first range holds the number or begins right
+-- after it, all up to its end are received. Else the first range ends before the number, and is gone.
+reaching number (range ∷ ranges) =
+    cond (nat_lt (number + 1) range.first) (all_to number (range ∷ ranges))
+    (cond (nat_le number range.last) (all_to range.last ranges)
+    (reaching number ranges))
+
+-- The number is received too. If it was received before, nothing changes. If it is the next one, the cumulative number
+-- moves to it, or to the end of the range that begins right after it. Else it is put among the ranges.
+abbrev pub received : ℕ → ℕ → List TsnRange → Received
+received number cumulative ranges =
+    cond (is_received cumulative number ranges) (all_to cumulative ranges)
+    (cond (number == cumulative + 1) (reaching number ranges)
+    (all_to cumulative (put_among number ranges)))
+
+-- All up to the number count as received. If they were received before, nothing changes. Else the cumulative number
+-- moves to it, or to the end of the range that holds it or begins right after it.
+abbrev pub forwarded : ℕ → ℕ → List TsnRange → Received
+forwarded number cumulative ranges = cond (nat_le number cumulative) (all_to cumulative ranges) (reaching number ranges)

@@ -1,0 +1,167 @@
+-- The reassembly queue as callers see it: what was received, and the receive window. Also a reset of streams that waits for data
+-- that was sent before it (RFC 6525, section 5.2.2).
+use Rattle.std.specs.Prelude.{◌≡◌, ◌==◌, ℕ, ◌+◌, ◌-◌, ◌*◌, ◌^◌, nat_le, nat_lt, Bool, true, false, ◌&&◌, Option, None, Some, List, [], ◌∷◌, ◌++◌, length}
+use Rattle.std.specs.List.{list_any, sum_by}
+use Rattle.dcsctp_types.specs.declared.arrivals.SkippedTo.{SkippedTo}
+use Rattle.dcsctp_types.specs.queues.Messages.{MessageContent}
+use Rattle.dcsctp_spec.specs.queues.Numbers.{is_tsn_beyond}
+use Rattle.dcsctp_spec.specs.queues.IncomingStreams.{ChunkModel}
+use Rattle.dcsctp_spec.specs.queues.Incoming.{MovesOn, ResetsStreams, IncomingModel, SameIncoming, TakesData, nothing, held_bytes}
+
+-- what waits for the end of a deferred reset, with its TSN
+pub data WaitingModel : Type 0 where
+  -- a chunk of a message
+  arrived : ℕ → ChunkModel → WaitingModel
+  -- a FORWARD TSN or I-FORWARD-TSN
+  skipping : ℕ → List SkippedTo → WaitingModel
+
+pub record DeferralModel : Type 0 where
+  -- the last TSN that was sent before the reset
+  pub last_tsn : ℕ
+  -- an empty list: all streams
+  pub streams : List ℕ
+  -- in the order in which it came
+  pub waiting : List WaitingModel
+
+pub record ReassemblyState : Type 0 where
+  pub incoming : IncomingModel
+  pub max_size : ℕ
+  pub deferral : Option DeferralModel
+
+-- how many bytes wait for the end of a deferred reset
+abbrev pub waiting_bytes : WaitingModel → ℕ
+waiting_bytes (arrived tsn chunk) = length chunk.payload
+waiting_bytes (skipping tsn entries) = 0
+
+abbrev pub deferred_bytes : Option DeferralModel → ℕ
+deferred_bytes None = 0
+deferred_bytes (Some deferral) = sum_by waiting_bytes deferral.waiting
+
+-- how many bytes are held: of messages and parts that were received, and of what waits for the end of a deferred reset
+abbrev pub queued_bytes : ReassemblyState → ℕ
+queued_bytes queue = held_bytes queue.incoming + deferred_bytes queue.deferral
+
+-- Can the bytes be counted with that many more?
+abbrev pub can_count : ℕ → ReassemblyState → Bool
+can_count size queue = nat_lt (queued_bytes queue + size) (2 ^ 64)
+
+-- the bytes that are left of the receive window
+abbrev pub remaining_bytes : ReassemblyState → ℕ
+remaining_bytes queue = queue.max_size - queued_bytes queue
+
+-- Is nine tenths of the receive window in use, or more? Then data is dropped.
+abbrev pub is_above_watermark : ReassemblyState → Bool
+is_above_watermark queue = nat_le (9 * queue.max_size) (10 * queued_bytes queue)
+
+-- nothing was received yet
+abbrev pub new_reassembly : ℕ → ReassemblyState
+new_reassembly max_size = record { incoming = nothing; max_size = max_size; deferral = None }
+
+-- the queue with these messages ready
+abbrev pub with_ready : List MessageContent → ReassemblyState → ReassemblyState
+with_ready messages queue = record queue { incoming = record queue.incoming { ready = messages } }
+
+-- Does the list name the stream? An empty one names all.
+abbrev pub names_stream : List ℕ → ℕ → Bool
+names_stream [] id = true
+names_stream (first ∷ streams) id = list_any (λ stream. stream == id) (first ∷ streams)
+
+-- Does what comes with this TSN on this stream wait for the end of a deferred reset?
+abbrev pub is_deferred : ℕ → ℕ → Option DeferralModel → Bool
+is_deferred tsn id None = false
+is_deferred tsn id (Some deferral) = is_tsn_beyond tsn deferral.last_tsn && names_stream deferral.streams id
+
+abbrev pub is_forward_deferred : ℕ → Option DeferralModel → Bool
+is_forward_deferred tsn None = false
+is_forward_deferred tsn (Some deferral) = is_tsn_beyond tsn deferral.last_tsn
+
+-- the deferral with one more that waits
+abbrev pub with_waiting : WaitingModel → Option DeferralModel → Option DeferralModel
+with_waiting last None = None
+with_waiting last (Some deferral) = Some (record deferral { waiting = deferral.waiting ++ last ∷ [] })
+
+-- data waits for the end of a deferred reset
+abbrev pub with_deferred : ℕ → ChunkModel → ReassemblyState → ReassemblyState
+with_deferred tsn chunk queue = record queue { deferral = with_waiting (arrived tsn chunk) queue.deferral }
+
+-- Data was handled.
+pub record Takes (tsn : ℕ) (chunk : ChunkModel) (old new : ReassemblyState) : Type 0 where
+  pub incoming : TakesData tsn chunk old.incoming new.incoming
+  pub window : new.max_size ≡ old.max_size
+  pub deferral : new.deferral ≡ old.deferral
+
+-- Data whose TSN is new is added: it is handled, or it waits for the end of a deferred reset. If its bytes can't be counted it is
+-- dropped.
+pub record AddsData (tsn : ℕ) (chunk : ChunkModel) (old new : ReassemblyState) : Type 0 where
+  pub taken : can_count (length chunk.payload) old ≡ true → is_deferred tsn chunk.stream old.deferral ≡ false → Takes tsn chunk old new
+  pub deferred : can_count (length chunk.payload) old ≡ true → is_deferred tsn chunk.stream old.deferral ≡ true → new ≡ with_deferred tsn chunk old
+  pub too_much : can_count (length chunk.payload) old ≡ false → new ≡ old
+
+-- A FORWARD TSN or I-FORWARD-TSN was handled.
+pub record Forwards (tsn : ℕ) (entries : List SkippedTo) (old new : ReassemblyState) : Type 0 where
+  pub incoming : MovesOn tsn entries old.incoming new.incoming
+  pub window : new.max_size ≡ old.max_size
+  pub deferral : new.deferral ≡ old.deferral
+
+-- a FORWARD TSN waits for the end of a deferred reset
+abbrev pub with_deferred_forward : ℕ → List SkippedTo → ReassemblyState → ReassemblyState
+with_deferred_forward tsn entries queue = record queue { deferral = with_waiting (skipping tsn entries) queue.deferral }
+
+-- A FORWARD TSN or I-FORWARD-TSN is handled, or it waits.
+pub record SkipsData (tsn : ℕ) (entries : List SkippedTo) (old new : ReassemblyState) : Type 0 where
+  pub moved : is_forward_deferred tsn old.deferral ≡ false → Forwards tsn entries old new
+  pub deferred : is_forward_deferred tsn old.deferral ≡ true → new ≡ with_deferred_forward tsn entries old
+
+-- the deferral that begins, if there is none
+abbrev pub entered : ℕ → List ℕ → Option DeferralModel → Option DeferralModel
+entered last_tsn streams None = Some (record { last_tsn = last_tsn; streams = streams; waiting = [] })
+entered last_tsn streams (Some deferral) = Some deferral
+
+-- A reset of these streams is deferred until all up to this TSN is received. If another one waits, nothing changes.
+abbrev pub deferring : ℕ → List ℕ → ReassemblyState → ReassemblyState
+deferring last_tsn streams queue = record queue { deferral = entered last_tsn streams queue.deferral }
+
+-- ---- the end of a deferred reset
+
+-- What waited is handled, one or all of it in turn.
+abbrev pub Handles : WaitingModel → IncomingModel → IncomingModel → Type 0
+Handles (arrived tsn chunk) old new = TakesData tsn chunk old new
+Handles (skipping tsn entries) old new = MovesOn tsn entries old new
+
+abbrev pub HandlesAll : List WaitingModel → IncomingModel → IncomingModel → Type 0
+HandlesAll [] old new = new ≡ old
+HandlesAll (action ∷ actions) old new = (between : IncomingModel) × Handles action old between × HandlesAll actions between new
+
+-- Some of it is handled, and the rest waits on.
+pub record HandlesFront (actions : List WaitingModel) (old new : IncomingModel) (left : List WaitingModel) : Type 0 where
+  pub done : List WaitingModel
+  pub between : IncomingModel
+  pub all : actions ≡ done ++ left
+  pub works : HandlesAll done old between
+  pub same : SameIncoming between new
+
+abbrev pub actions_of : Option DeferralModel → List WaitingModel
+actions_of None = []
+actions_of (Some deferral) = deferral.waiting
+
+-- The streams are reset, and then all is handled that waited for this.
+pub record Leaves (streams : List ℕ) (old new : ReassemblyState) : Type 0 where
+  pub between : IncomingModel
+  pub resets : ResetsStreams streams old.incoming between
+  pub works : HandlesAll (actions_of old.deferral) between new.incoming
+  pub window : new.max_size ≡ old.max_size
+  pub deferral : new.deferral ≡ None
+
+-- the deferral with what still waits
+abbrev pub with_left : List WaitingModel → Option DeferralModel → Option DeferralModel
+with_left left None = None
+with_left left (Some deferral) = Some (record deferral { waiting = left })
+
+-- The streams are reset, and some of it is handled.
+pub record StaysDeferred (streams : List ℕ) (old new : ReassemblyState) : Type 0 where
+  pub between : IncomingModel
+  pub left : List WaitingModel
+  pub resets : ResetsStreams streams old.incoming between
+  pub works : HandlesFront (actions_of old.deferral) between new.incoming left
+  pub window : new.max_size ≡ old.max_size
+  pub deferral : new.deferral ≡ with_left left old.deferral

@@ -1,0 +1,198 @@
+-- What leaves the send queue: fragments of messages, and messages that are dropped (RFC 9260, section 6.9; RFC 3758, section 3.5).
+use Rattle.std.specs.Prelude.{◌≡◌, ◌<◌, ℕ, ◌+◌, ◌-◌, ◌^◌, ◌%◌, ◌==◌, min, nat_le, Bool, true, false, Option, None, Some, List, [], ◌++◌, length, take, drop, slice_set, if◌then◌else◌}
+use Rattle.dcsctp_spec.specs.endpoint.Event.{Event}
+use Rattle.dcsctp_types.specs.declared.sending.UnderWay.{UnderWay}
+use Rattle.dcsctp_types.specs.queues.SendStreams.{Waiting, Stream, front_of, is_expired, without_front, next_numbers, counted, stream_at, turns_of, IsNext}
+use Rattle.dcsctp_spec.specs.queues.SendEvents.{low_events, expiry_events, sent_events}
+use Rattle.dcsctp_spec.specs.queues.SendQueue.{SendQueueState}
+
+-- ---- a fragment
+
+-- a fragment, apart from where in memory its bytes lie
+pub record Fragment : Type 0 where
+  pub message_id : ℕ
+  pub stream : ℕ
+  pub ssn : ℕ
+  pub mid : ℕ
+  pub fsn : ℕ
+  pub ppid : ℕ
+  pub is_unordered : Bool
+  pub is_beginning : Bool
+  pub is_end : Bool
+  pub payload : List ℕ
+  pub max_retransmissions : Option ℕ
+  pub expires_at : Option ℕ
+  pub lifecycle : Option ℕ
+
+-- a message of the stream as it is begun
+abbrev pub begun : Waiting → Stream → UnderWay
+begun message stream =
+    record {
+      stream_id = record { 0 = stream.id };
+      ssn = (next_numbers message.is_unordered stream).0;
+      mid = (next_numbers message.is_unordered stream).1;
+      next_fsn = 0;
+      sent = 0;
+    }
+
+-- the next fragment of a message that has come so far, with that many of its bytes
+abbrev pub fragment : UnderWay → Waiting → ℕ → Fragment
+fragment under_way message size =
+    record {
+      message_id = message.message_id;
+      stream = under_way.stream_id.0;
+      ssn = under_way.ssn;
+      mid = under_way.mid;
+      fsn = under_way.next_fsn;
+      ppid = message.ppid;
+      is_unordered = message.is_unordered;
+      is_beginning = under_way.sent == 0;
+      is_end = under_way.sent + size == length message.payload;
+      payload = take size (drop under_way.sent message.payload);
+      max_retransmissions = message.max_retransmissions;
+      expires_at = message.expires_at;
+      lifecycle = message.lifecycle;
+    }
+
+-- how much of the message leaves if at most `max` bytes are asked for
+abbrev pub size_produced : ℕ → Waiting → UnderWay → ℕ
+size_produced max message under_way = min max (length message.payload - under_way.sent)
+
+abbrev pub is_last : ℕ → Waiting → UnderWay → Bool
+is_last max message under_way = nat_le (length message.payload - under_way.sent) max
+
+-- ---- what leaves with it
+
+-- that much leaves the stream at the place
+abbrev pub reduced : ℕ → ℕ → SendQueueState → SendQueueState
+reduced place size queue =
+    record queue {
+      streams = slice_set queue.streams place (record (stream_at queue.streams place) { amount = (stream_at queue.streams place).amount - size });
+      total_amount = queue.total_amount - size;
+    }
+
+-- the oldest message of the stream at the place is gone
+abbrev pub without_oldest : ℕ → SendQueueState → SendQueueState
+without_oldest place queue = record queue { streams = slice_set queue.streams place (without_front (stream_at queue.streams place)) }
+
+-- its numbers are used up, if it is begun
+abbrev pub numbered : ℕ → Waiting → UnderWay → SendQueueState → SendQueueState
+numbered place message under_way queue =
+    if under_way.sent == 0
+    then record queue { streams = slice_set queue.streams place (counted queue.is_interleaved message.is_unordered (stream_at queue.streams place)) }
+    else queue
+
+-- after a fragment of that many bytes that isn't the last
+abbrev pub after_part : ℕ → ℕ → Waiting → UnderWay → SendQueueState → SendQueueState
+after_part place size message under_way queue =
+    record (numbered place message under_way (reduced place size queue)) {
+      under_way = Some (record under_way { next_fsn = (under_way.next_fsn + 1) % 2 ^ 32; sent = under_way.sent + size });
+    }
+
+abbrev pub part_events : {P : Type 0} → ℕ → ℕ → SendQueueState → List (Event P)
+part_events place size queue = low_events (stream_at queue.streams place) queue.total_threshold queue.total_amount size
+
+-- after the last fragment
+abbrev pub after_last : ℕ → Waiting → UnderWay → SendQueueState → SendQueueState
+after_last place message under_way queue =
+    record (without_oldest place (numbered place message under_way (reduced place (length message.payload - under_way.sent) queue))) {
+      under_way = None;
+    }
+
+abbrev pub last_events : {P : Type 0} → ℕ → Waiting → UnderWay → SendQueueState → List (Event P)
+last_events place message under_way queue = part_events place (length message.payload - under_way.sent) queue ++ sent_events message
+
+abbrev pub produced : ℕ → ℕ → Waiting → UnderWay → SendQueueState → SendQueueState
+produced place max message under_way queue =
+    if is_last max message under_way then after_last place message under_way queue else after_part place max message under_way queue
+
+abbrev pub produced_events : {P : Type 0} → ℕ → ℕ → Waiting → UnderWay → SendQueueState → List (Event P)
+produced_events place max message under_way queue =
+    if is_last max message under_way then last_events place message under_way queue else part_events place max queue
+
+-- ---- messages that are dropped
+
+-- A message of which that much was sent is dropped.
+abbrev pub without_rest : ℕ → ℕ → Waiting → SendQueueState → SendQueueState
+without_rest place sent message queue = without_oldest place (reduced place (length message.payload - sent) queue)
+
+abbrev pub drop_events : {P : Type 0} → ℕ → ℕ → Waiting → SendQueueState → List (Event P)
+drop_events place sent message queue =
+    low_events (stream_at queue.streams place) queue.total_threshold queue.total_amount (length message.payload - sent)
+    ++ expiry_events message
+
+-- Messages that are too old to be started are dropped, each the oldest of the stream whose turn it is.
+pub data Drops {P : Type 0} (now : ℕ) (old : SendQueueState) : List (Event P) → SendQueueState → Type 0 where
+  none : Drops now old [] old
+  more : (events : List (Event P)) (queue : SendQueueState) (place : ℕ) (message : Waiting)
+      → Drops now old events queue
+      → IsNext queue.streams place
+      → front_of (stream_at queue.streams place).messages ≡ Some message
+      → is_expired now message ≡ true
+      → Drops now old (events ++ drop_events place 0 message queue) (without_rest place 0 message queue)
+
+-- Such messages are dropped, and their events are added.
+pub record DropsAll {P : Type 0} (now : ℕ) (old : SendQueueState) (told_before : List (Event P)) (new : SendQueueState) (told_after : List (Event P)) : Type 0 where
+  pub events : List (Event P)
+  pub drops : Drops now old events new
+  pub told : told_after ≡ told_before ++ events
+
+-- ---- which fragment is taken
+
+-- Which message a fragment is taken of: the one under way, or else the oldest of the stream whose turn it is. Before that,
+-- messages that are too old to be started are dropped.
+abbrev pub Chooses : ℕ → SendQueueState → Option UnderWay → SendQueueState → ℕ → Waiting → UnderWay → Type 0
+Chooses now old None queue place message under_way =
+    IsNext queue.streams place × (is_expired now message ≡ false) × (under_way ≡ begun message (stream_at queue.streams place))
+Chooses now old (Some going) queue place message under_way =
+    (queue ≡ old) × (under_way ≡ going) × ((stream_at queue.streams place).id ≡ going.stream_id.0)
+
+-- A fragment is taken.
+pub record Takes {P : Type 0} (now max : ℕ) (old : SendQueueState) (told_before : List (Event P)) (part : Fragment) (new : SendQueueState) (told_after : List (Event P)) : Type 0 where
+  -- what is left once messages were dropped
+  pub queue : SendQueueState
+  pub told : List (Event P)
+  pub drops : DropsAll now old told_before queue told
+  pub place : ℕ
+  pub message : Waiting
+  pub under_way : UnderWay
+  pub front : front_of (stream_at queue.streams place).messages ≡ Some message
+  pub chosen : Chooses now old old.under_way queue place message under_way
+  pub is : part ≡ fragment under_way message (size_produced max message under_way)
+  pub left : new ≡ produced place max message under_way queue
+  pub events : told_after ≡ told ++ produced_events place max message under_way queue
+
+-- No message is under way, and none is left that can be started.
+pub record TakesNone {P : Type 0} (now : ℕ) (old : SendQueueState) (told_before : List (Event P)) (new : SendQueueState) (told_after : List (Event P)) : Type 0 where
+  pub idle : old.under_way ≡ None
+  pub drops : DropsAll now old told_before new told_after
+  pub none_left : turns_of new.streams ≡ []
+
+abbrev pub TakesNext : {P : Type 0} → ℕ → ℕ → SendQueueState → List (Event P) → Option Fragment → SendQueueState → List (Event P) → Type 0
+TakesNext now max old told_before None new told_after = TakesNone now old told_before new told_after
+TakesNext now max old told_before (Some part) new told_after = Takes now max old told_before part new told_after
+
+-- ---- a message that is given up
+
+-- The message under way is this one of this stream.
+pub record IsNamed (queue : SendQueueState) (stream message_id : ℕ) : Type 0 where
+  pub under_way : UnderWay
+  pub goes_on : queue.under_way ≡ Some under_way
+  pub place : ℕ
+  pub within : place < length queue.streams
+  pub is : (stream_at queue.streams place).id ≡ stream
+  pub same : under_way.stream_id.0 ≡ stream
+  pub message : Waiting
+  pub front : front_of (stream_at queue.streams place).messages ≡ Some message
+  pub named : message.message_id ≡ message_id
+
+-- What is left of the message under way is dropped.
+pub record Discards {P : Type 0} (old : SendQueueState) (stream message_id : ℕ) (told_before : List (Event P)) (new : SendQueueState) (told_after : List (Event P)) : Type 0 where
+  pub named : IsNamed old stream message_id
+  pub left : new ≡ record (without_rest named.place named.under_way.sent named.message old) { under_way = None }
+  pub events : told_after ≡ told_before ++ drop_events named.place named.under_way.sent named.message old
+
+abbrev pub DiscardsNamed : {P : Type 0} → SendQueueState → ℕ → ℕ → List (Event P) → Bool → SendQueueState → List (Event P) → Type 0
+DiscardsNamed old stream message_id told_before true new told_after = Discards old stream message_id told_before new told_after
+DiscardsNamed old stream message_id told_before false new told_after =
+    (IsNamed old stream message_id → ⊥) × (new ≡ old) × (told_after ≡ told_before)

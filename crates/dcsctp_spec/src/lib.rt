@@ -1,0 +1,7 @@
+//! What an endpoint is, and what each input does to it: the definitions in `specs/`, and outside facts about them
+//! in `proofs/`.
+#![tactic(auto)]
+
+// What stands below, for the crates above.
+pub use dcsctp_types as types;
+pub use dcsctp_types::wire;

@@ -1,0 +1,83 @@
+-- RE-CONFIG keeps tags and the method.
+use Rattle.std.proofs.Common.{ℕ, Bool, true, false, List, [], ◌∷◌}
+use Rattle.dcsctp_spec_lemmas.specs.wire.declared.reconfiguration.ReconfigurationResponseResult.{ReconfigurationResponseResult}
+use Rattle.dcsctp_spec_lemmas.specs.wire.declared.reconfiguration.ReconfigurationResponseResult.TheVariants.{SuccessNothingToDo, SuccessPerformed, Denied, ErrorWrongSSN, ErrorRequestAlreadyInProgress, ErrorBadSequenceNumber, InProgress}
+use Rattle.dcsctp_spec_lemmas.specs.types.declared.association.Pair.{Pair}
+use Rattle.dcsctp_spec_lemmas.specs.types.declared.association.Held.{Held}
+use Rattle.dcsctp_spec_lemmas.specs.types.declared.options.Options.{Options}
+use Rattle.dcsctp_spec_lemmas.specs.spec.endpoint.Endpoint.{Core, closed, cookie_wait, cookie_echoed, open_in}
+use Rattle.dcsctp_spec_lemmas.specs.spec.Reconfiguration.{ResetParameter, outgoing_reset_request, incoming_reset_request, reconfiguration_response, other_reset_parameter}
+use Rattle.dcsctp_spec_lemmas.specs.spec.Soundness.{IsSoundHeld, IsSoundCore}
+use Rattle.dcsctp_spec_lemmas.specs.spec.association.Choices.{Choices}
+use Rattle.dcsctp_spec_lemmas.specs.spec.association.ResetChanges.{Place, again, next, astray, place_of, worked, repeated, outgoing_by, incoming_by, informed_by, informed_where, is_outstanding, WorkedParameters, work_parameters, work_chunk, reset_sent, re_config_change}
+use Rattle.dcsctp_spec_laws.proofs.SoundHandshakes.{flush_sound}
+
+module _ (p : Options) where
+  worked_sound : (held : Held) (number : ℕ) (is_reached : Bool) → IsSoundHeld p held → IsSoundHeld p (worked held number is_reached).held
+  worked_sound held number true h = record { tag_is_not_zero = h.tag_is_not_zero; method = h.method }
+  worked_sound held number false h = record { tag_is_not_zero = h.tag_is_not_zero; method = h.method }
+
+  repeated_sound : (held : Held) (result : ReconfigurationResponseResult) (is_reached : Bool) → IsSoundHeld p held → IsSoundHeld p (repeated held result is_reached).held
+  repeated_sound held SuccessNothingToDo is_reached h = h
+  repeated_sound held SuccessPerformed is_reached h = h
+  repeated_sound held Denied is_reached h = h
+  repeated_sound held ErrorWrongSSN is_reached h = h
+  repeated_sound held ErrorRequestAlreadyInProgress is_reached h = h
+  repeated_sound held ErrorBadSequenceNumber is_reached h = h
+  repeated_sound held InProgress is_reached h = worked_sound held held.peer_last is_reached h
+
+  outgoing_sound : (held : Held) (number : ℕ) (is_reached : Bool) (place : Place) → IsSoundHeld p held → IsSoundHeld p (outgoing_by held number is_reached place).held
+  outgoing_sound held number is_reached again h = repeated_sound held held.peer_result is_reached h
+  outgoing_sound held number is_reached next h = worked_sound held number is_reached h
+  outgoing_sound held number is_reached astray h = h
+
+  incoming_sound : (held : Held) (number : ℕ) (place : Place) → IsSoundHeld p held → IsSoundHeld p (incoming_by held number place).held
+  incoming_sound held number again h = record { tag_is_not_zero = h.tag_is_not_zero; method = h.method }
+  incoming_sound held number next h = record { tag_is_not_zero = h.tag_is_not_zero; method = h.method }
+  incoming_sound held number astray h = h
+
+  informed_by_sound : (my : Pair) (held : Held) (number : ℕ) (result : ReconfigurationResponseResult) → IsSoundHeld p held → IsSoundHeld p (informed_by my held number result).held
+  informed_by_sound my held number SuccessNothingToDo h = record { tag_is_not_zero = h.tag_is_not_zero; method = h.method }
+  informed_by_sound my held number SuccessPerformed h = record { tag_is_not_zero = h.tag_is_not_zero; method = h.method }
+  informed_by_sound my held number Denied h = record { tag_is_not_zero = h.tag_is_not_zero; method = h.method }
+  informed_by_sound my held number ErrorWrongSSN h = record { tag_is_not_zero = h.tag_is_not_zero; method = h.method }
+  informed_by_sound my held number ErrorRequestAlreadyInProgress h = record { tag_is_not_zero = h.tag_is_not_zero; method = h.method }
+  informed_by_sound my held number ErrorBadSequenceNumber h = record { tag_is_not_zero = h.tag_is_not_zero; method = h.method }
+  informed_by_sound my held number InProgress h = h
+
+  informed_sound : (is_own : Bool) (my : Pair) (held : Held) (number : ℕ) (result : ReconfigurationResponseResult) → IsSoundHeld p held
+      → IsSoundHeld p (informed_where my held number result is_own).held
+  informed_sound true my held number result h = informed_by_sound my held number result h
+  informed_sound false my held number result h = h
+
+  parameters_sound : (my : Pair) (is_reached has_worked : Bool) (held : Held) (parameters : List ResetParameter) → IsSoundHeld p held
+      → IsSoundHeld p (work_parameters my is_reached has_worked held parameters).held
+  parameters_sound my is_reached has_worked held [] h = h
+  parameters_sound my is_reached true held (outgoing_reset_request number answered reset ∷ parameters) h = h
+  parameters_sound my is_reached false held (outgoing_reset_request number answered reset ∷ parameters) h =
+      parameters_sound my is_reached true _ parameters (outgoing_sound held number is_reached (place_of held.peer_last number) h)
+  parameters_sound my is_reached has_worked held (incoming_reset_request number streams ∷ parameters) h =
+      parameters_sound my is_reached has_worked _ parameters (incoming_sound held number (place_of held.peer_last number) h)
+  parameters_sound my is_reached has_worked held (reconfiguration_response number result ∷ parameters) h =
+      parameters_sound my is_reached has_worked _ parameters (informed_sound (is_outstanding number held.own_outstanding) my held number result h)
+  parameters_sound my is_reached has_worked held (other_reset_parameter parameter ∷ parameters) h = parameters_sound my is_reached has_worked held parameters h
+
+  chunk_worked_sound : (my : Pair) (is_reached : Bool) (held : Held) (parameters : List ResetParameter) → IsSoundHeld p held → IsSoundHeld p (work_chunk my is_reached held parameters).held
+  chunk_worked_sound my is_reached held [] h = h
+  chunk_worked_sound my is_reached held (parameter ∷ parameters) h = parameters_sound my is_reached false held (parameter ∷ parameters) h
+
+  reset_sent_sound : (is_refused : Bool) (held : Held) (answers : List ResetParameter) (choices : Choices) → IsSoundHeld p held → IsSoundHeld p (reset_sent is_refused held answers choices).held
+  reset_sent_sound true held answers choices h = h
+  reset_sent_sound false held answers choices h = flush_sound p held.peer.tag held [] choices.filling h
+
+  reset_worked_sound : (my : Pair) (held : Held) (parameters : List ResetParameter) (choices : Choices) → IsSoundHeld p held
+      → IsSoundHeld p (reset_sent (work_chunk my choices.is_reached held parameters).is_refused (work_chunk my choices.is_reached held parameters).held (work_chunk my choices.is_reached held parameters).answers choices).held
+  reset_worked_sound my held parameters choices h =
+      let after : WorkedParameters = work_chunk my choices.is_reached held parameters in
+      reset_sent_sound after.is_refused after.held after.answers choices (chunk_worked_sound my choices.is_reached held parameters h)
+
+  pub re_config_sound : (core : Core) (parameters : List ResetParameter) (choices : Choices) → IsSoundCore p core → IsSoundCore p (re_config_change core parameters choices).core
+  re_config_sound closed parameters choices h = h
+  re_config_sound (cookie_wait my) parameters choices h = h
+  re_config_sound (cookie_echoed my held cookie) parameters choices h = (h.0, reset_worked_sound my held parameters choices h.1)
+  re_config_sound (open_in phase my held) parameters choices h = (h.0, reset_worked_sound my held parameters choices h.1)

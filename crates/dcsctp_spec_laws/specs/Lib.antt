@@ -1,0 +1,2 @@
+pub mod SoundnessLaws
+pub mod TurnLaws

@@ -1,0 +1,36 @@
+pub use Rattle.dcsctp_spec.proofs.wire_lemmas as wire_lemmas
+pub use Rattle.dcsctp_spec.proofs.types_lemmas as types_lemmas
+pub mod AnswerLemmas
+pub mod AnswerParts
+pub mod ChunkOutcomes
+pub mod CleanedBlockLemmas
+pub mod ControlEcho
+pub mod ControlHandshake
+pub mod DueItemLemmas
+pub mod FilledAnswers
+pub mod FilledOutcomes
+pub mod FlushKeeps
+pub mod ForwardEntries
+pub mod ForwardOutcomes
+pub mod GivingUpOutcomes
+pub mod ItemMessageLemmas
+pub mod LostOutcomes
+pub mod MarkedItemLemmas
+pub mod PackedLemmas
+pub mod PacketLengths
+pub mod PackingLemmas
+pub mod RangesLemmas
+pub mod ReassemblyLemmas
+pub mod ReportLemmas
+pub mod ResendingOutcomes
+pub mod SackOutcomeLemmas
+pub mod SendEventLemmas
+pub mod SendQueueLemmas
+pub mod SendingOutcomes
+pub mod TakingOutcomes
+pub mod TellingLemmas
+pub mod ToldLeavingLemmas
+pub mod ToldLemmas
+pub mod TurnOutcomes
+pub mod CookieLemmas
+pub mod TurnLists

@@ -1,0 +1,16 @@
+pub mod RunsAlong
+pub mod ControlInit
+pub mod DeliveryLemmas
+pub mod FlushLemmas
+pub mod HandoverFacts
+pub mod InitPacketLemmas
+pub mod KindLemmas
+pub mod LawLemmas
+pub mod LimitLemmas
+pub mod MayBeWorkedLemmas
+pub mod ReadBackLemmas
+pub mod ReceivedPartLemmas
+pub mod RestoreFacts
+pub mod SocketLemmas
+pub mod TrackerLemmas
+pub mod SoundRuns

@@ -1,0 +1,209 @@
+-- What is held stands in the past of a side as the association has it: RE-CONFIG keeps that.
+use Rattle.std.proofs.Common.{◌≡◌, ◌==◌, ℕ, Bool, true, false, cond, Option, None, Some, List, [], ◌∷◌, refl, sym, ap, ◌∙◌}
+use Rattle.std.proofs.lemmas.Bool.Decides.{Decides-eqb}
+use Rattle.dcsctp_spec_lemmas.specs.types.declared.association.Held.{Held}
+use Rattle.dcsctp_spec_lemmas.specs.wire.declared.reconfiguration.ReconfigurationResponseResult.{ReconfigurationResponseResult}
+use Rattle.dcsctp_spec_lemmas.specs.wire.declared.reconfiguration.ReconfigurationResponseResult.TheVariants.{SuccessNothingToDo, SuccessPerformed, InProgress}
+use Rattle.dcsctp_spec_lemmas.specs.spec.Reconfiguration.{ResetParameter, outgoing_reset_request, incoming_reset_request, reconfiguration_response, other_reset_parameter}
+use Rattle.dcsctp_spec_lemmas.specs.spec.association.Effect.{Link, Effect, completes, fails, accepts, performs}
+use Rattle.dcsctp_spec_lemmas.specs.spec.association.Choices.{Choices}
+use Rattle.dcsctp_spec_lemmas.specs.spec.association.FlushChanges.{Flushed, next_number, flush}
+use Rattle.dcsctp_spec_lemmas.specs.spec.association.ResetChanges.{Place, again, next, astray, place_of, Answered, with_last, worked, repeated, outgoing_by, incoming_by, without_outstanding, informed_by, informed_where, is_outstanding, Informed, WorkedParameters, work_parameters, work_chunk, answers_emitted, reset_sent, reset_worked}
+use Rattle.dcsctp_spec_runs.specs.Past.{my_of, peer_of}
+use Rattle.dcsctp_theorem_association.proofs.OneSideLemmas.{Stands, Leads, stands-sends, leads-append, flush_leads}
+
+-- ---- which number
+
+-- what a place says of the last number and this one
+abbrev Placed : Place → ℕ → ℕ → Type 0
+Placed again last number = number ≡ last
+Placed next last number = number ≡ next_number last
+Placed astray last number = Unit {0}
+
+placed_by : (last number : ℕ) (is_last is_next : Bool) → (number == last) ≡ is_last → (number == next_number last) ≡ is_next
+    → Placed (cond is_last again (cond is_next next astray)) last number
+placed_by last number true is_next a b = (Decides-eqb number last).0 a
+placed_by last number false true a b = (Decides-eqb number (next_number last)).0 b
+placed_by last number false false a b = tt
+
+placed : (last number : ℕ) → Placed (place_of last number) last number
+placed last number = placed_by last number (number == last) (number == next_number last) refl refl
+
+-- ---- one effect
+
+-- The next request is accepted.
+stands-accepts : {link : Link} {waiting : Option Link} {held : Held} {past : List Effect} (number : ℕ) (result : ReconfigurationResponseResult) → number ≡ next_number held.peer_last
+    → Stands link waiting held past → Stands link waiting (with_last held number result) (accepts number ∷ past)
+stands-accepts number result e s = record {
+  same_peer = s.same_peer;
+  same_capabilities = s.same_capabilities;
+  is_current = s.is_current;
+  is_waiting = s.is_waiting;
+  begins_next = s.begins_next;
+  is_outstanding = s.is_outstanding;
+  accepts_next = refl;
+  performs_last = λ i. refl;
+  in_place = (cc (s.accepts_next, e), s.in_place);
+}
+
+-- The last request is performed, if it is in progress.
+stands-performs : {link : Link} {waiting : Option Link} {held : Held} {past : List Effect} → held.peer_result ≡ InProgress
+    → Stands link waiting held past → Stands link waiting (with_last held held.peer_last SuccessPerformed) (performs held.peer held.peer_last ∷ past)
+stands-performs {held = held} e s = record {
+  same_peer = s.same_peer;
+  same_capabilities = s.same_capabilities;
+  is_current = s.is_current;
+  is_waiting = s.is_waiting;
+  begins_next = s.begins_next;
+  is_outstanding = s.is_outstanding;
+  accepts_next = s.accepts_next;
+  performs_last = λ i. absurd (cc);
+  in_place = ((s.performs_last e, ap peer_of s.is_current ∙ ap (λ p. Some p) (sym s.same_peer)), s.in_place);
+}
+
+-- The last request is answered once more, as in progress only if it was.
+stands-answers : {link : Link} {waiting : Option Link} {held : Held} {past : List Effect} (number : ℕ) (result : ReconfigurationResponseResult) → number ≡ held.peer_last → (result ≡ InProgress → held.peer_result ≡ InProgress)
+    → Stands link waiting held past → Stands link waiting (with_last held number result) past
+stands-answers number result e f s = record {
+  same_peer = s.same_peer;
+  same_capabilities = s.same_capabilities;
+  is_current = s.is_current;
+  is_waiting = s.is_waiting;
+  begins_next = s.begins_next;
+  is_outstanding = s.is_outstanding;
+  accepts_next = s.accepts_next ∙ ap (λ (n : ℕ). Some (next_number n)) (sym e);
+  performs_last = λ i. s.performs_last (f i) ∙ ap (λ (n : ℕ). Some n) (sym e);
+  in_place = s.in_place;
+}
+
+-- The outstanding request ends.
+stands-completes : {link : Link} {waiting : Option Link} {held : Held} {past : List Effect} (number : ℕ) → held.own_outstanding ≡ Some number
+    → Stands link waiting held past → Stands link waiting (without_outstanding held) (completes link.my number ∷ past)
+stands-completes number e s = record {
+  same_peer = s.same_peer;
+  same_capabilities = s.same_capabilities;
+  is_current = s.is_current;
+  is_waiting = s.is_waiting;
+  begins_next = s.begins_next;
+  is_outstanding = refl;
+  accepts_next = s.accepts_next;
+  performs_last = s.performs_last;
+  in_place = ((s.is_outstanding ∙ e, ap my_of s.is_current), s.in_place);
+}
+
+stands-fails : {link : Link} {waiting : Option Link} {held : Held} {past : List Effect} (number : ℕ) → held.own_outstanding ≡ Some number
+    → Stands link waiting held past → Stands link waiting (without_outstanding held) (fails number ∷ past)
+stands-fails number e s = record {
+  same_peer = s.same_peer;
+  same_capabilities = s.same_capabilities;
+  is_current = s.is_current;
+  is_waiting = s.is_waiting;
+  begins_next = s.begins_next;
+  is_outstanding = refl;
+  accepts_next = s.accepts_next;
+  performs_last = s.performs_last;
+  in_place = (s.is_outstanding ∙ e, s.in_place);
+}
+
+-- It is the outstanding one.
+is_outstanding_means : (number : ℕ) (request : Option ℕ) → is_outstanding number request ≡ true → request ≡ Some number
+is_outstanding_means number None e = absurd (cc)
+is_outstanding_means number (Some other) e = ap (λ (n : ℕ). Some n) (sym ((Decides-eqb number other).0 e))
+
+module _ (link : Link) (waiting : Option Link) where
+  -- ---- a request of the peer
+
+  worked_leads : (held : Held) (is_reached : Bool) → held.peer_result ≡ InProgress → Leads link waiting held (worked held held.peer_last is_reached).effects (worked held held.peer_last is_reached).held
+  worked_leads held true e past s = stands-performs e s
+  worked_leads held false e past s = stands-answers held.peer_last InProgress refl (λ i. e) s
+
+  repeated_leads : (held : Held) (result : ReconfigurationResponseResult) (is_reached : Bool) → held.peer_result ≡ result → Leads link waiting held (repeated held result is_reached).effects (repeated held result is_reached).held
+  repeated_leads held InProgress is_reached e past s = worked_leads held is_reached e past s
+  repeated_leads held result is_reached e past s = s
+
+  accepted_leads : (held : Held) (number : ℕ) (is_reached : Bool) → number ≡ next_number held.peer_last
+      → Leads link waiting held (accepts number ∷ (worked held number is_reached).effects) (worked held number is_reached).held
+  accepted_leads held number true e past s = stands-performs refl (stands-accepts number InProgress e s)
+  accepted_leads held number false e past s = stands-accepts number InProgress e s
+
+  outgoing_leads : (held : Held) (number : ℕ) (is_reached : Bool) (place : Place) → Placed place held.peer_last number
+      → Leads link waiting held (outgoing_by held number is_reached place).effects (outgoing_by held number is_reached place).held
+  outgoing_leads held number is_reached again e past s = repeated_leads held held.peer_result is_reached refl past s
+  outgoing_leads held number is_reached next e past s = accepted_leads held number is_reached e past s
+  outgoing_leads held number is_reached astray e past s = s
+
+  incoming_leads : (held : Held) (number : ℕ) (place : Place) → Placed place held.peer_last number
+      → Leads link waiting held (incoming_by held number place).effects (incoming_by held number place).held
+  incoming_leads held number again e past s = stands-answers number SuccessNothingToDo e (λ i. absurd (cc)) s
+  incoming_leads held number next e past s = stands-accepts number SuccessNothingToDo e s
+  incoming_leads held number astray e past s = s
+
+  -- ---- an answer of the peer
+
+  informed_leads : (held : Held) (number : ℕ) (result : ReconfigurationResponseResult) → held.own_outstanding ≡ Some number
+      → Leads link waiting held (informed_by link.my held number result).effects (informed_by link.my held number result).held
+  informed_leads held number SuccessNothingToDo e past s = stands-completes number e s
+  informed_leads held number SuccessPerformed e past s = stands-completes number e s
+  informed_leads held number InProgress e past s = s
+  informed_leads held number result e past s = stands-fails number e s
+
+  informed_leads_where : (held : Held) (number : ℕ) (result : ReconfigurationResponseResult) (is_it : Bool) → (is_it ≡ true → held.own_outstanding ≡ Some number)
+      → Leads link waiting held (informed_where link.my held number result is_it).effects (informed_where link.my held number result is_it).held
+  informed_leads_where held number result true e past s = informed_leads held number result (e refl) past s
+  informed_leads_where held number result false e past s = s
+
+  -- ---- the parameters
+
+  parameters_lead : (is_reached has_worked : Bool) (held : Held) (parameters : List ResetParameter)
+      → Leads link waiting held (work_parameters link.my is_reached has_worked held parameters).effects (work_parameters link.my is_reached has_worked held parameters).held
+  parameters_lead is_reached has_worked held [] past s = s
+  parameters_lead is_reached true held (outgoing_reset_request number answered reset ∷ parameters) past s = s
+  parameters_lead is_reached false held (outgoing_reset_request number answered reset ∷ parameters) past s =
+      let first : Answered = outgoing_by held number is_reached (place_of held.peer_last number) in
+      let rest : WorkedParameters = work_parameters link.my is_reached true first.held parameters in
+      leads-append link waiting held first.held rest.held first.effects rest.effects
+      (outgoing_leads held number is_reached (place_of held.peer_last number) (placed held.peer_last number))
+      (parameters_lead is_reached true first.held parameters) past s
+  parameters_lead is_reached has_worked held (incoming_reset_request number streams ∷ parameters) past s =
+      let first : Answered = incoming_by held number (place_of held.peer_last number) in
+      let rest : WorkedParameters = work_parameters link.my is_reached has_worked first.held parameters in
+      leads-append link waiting held first.held rest.held first.effects rest.effects
+      (incoming_leads held number (place_of held.peer_last number) (placed held.peer_last number))
+      (parameters_lead is_reached has_worked first.held parameters) past s
+  parameters_lead is_reached has_worked held (reconfiguration_response number result ∷ parameters) past s =
+      let first : Informed = informed_where link.my held number result (is_outstanding number held.own_outstanding) in
+      let rest : WorkedParameters = work_parameters link.my is_reached has_worked first.held parameters in
+      leads-append link waiting held first.held rest.held first.effects rest.effects
+      (informed_leads_where held number result (is_outstanding number held.own_outstanding) (is_outstanding_means number held.own_outstanding))
+      (parameters_lead is_reached has_worked first.held parameters) past s
+  parameters_lead is_reached has_worked held (other_reset_parameter parameter ∷ parameters) past s = parameters_lead is_reached has_worked held parameters past s
+
+  -- ---- the chunk
+
+  chunk_leads : (is_reached : Bool) (held : Held) (parameters : List ResetParameter)
+      → Leads link waiting held (work_chunk link.my is_reached held parameters).effects (work_chunk link.my is_reached held parameters).held
+  chunk_leads is_reached held [] past s = s
+  chunk_leads is_reached held (parameter ∷ parameters) past s = parameters_lead is_reached false held (parameter ∷ parameters) past s
+
+  answers_lead : (held : Held) (fits : Bool) (tag : ℕ) (answers : List ResetParameter) → Leads link waiting held (answers_emitted fits tag answers) held
+  answers_lead held fits tag [] past s = s
+  answers_lead held true tag (answer ∷ answers) past s = stands-sends _ s
+  answers_lead held false tag (answer ∷ answers) past s = s
+
+  sent_lead : (is_refused : Bool) (held : Held) (answers : List ResetParameter) (choices : Choices)
+      → Leads link waiting held (reset_sent is_refused held answers choices).effects (reset_sent is_refused held answers choices).held
+  sent_lead true held answers choices past s = s
+  sent_lead false held answers choices past s =
+      let after : Flushed = flush held.peer.tag held [] choices.filling in
+      leads-append link waiting held held after.held (answers_emitted choices.fits held.peer.tag answers) after.effects
+      (answers_lead held choices.fits held.peer.tag answers)
+      (flush_leads link waiting held.peer.tag held [] choices.filling) past s
+
+  pub reset_leads : (held : Held) (parameters : List ResetParameter) (choices : Choices)
+      → Leads link waiting held (reset_worked link.my held parameters choices).effects (reset_worked link.my held parameters choices).held
+  reset_leads held parameters choices =
+      let worked : WorkedParameters = work_chunk link.my choices.is_reached held parameters in
+      let after : Flushed = reset_sent worked.is_refused worked.held worked.answers choices in
+      leads-append link waiting held worked.held after.held worked.effects after.effects
+      (chunk_leads choices.is_reached held parameters)
+      (sent_lead worked.is_refused worked.held worked.answers choices)

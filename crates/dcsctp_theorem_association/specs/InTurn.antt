@@ -1,0 +1,97 @@
+-- The four packets of the handshake, delivered in turn between two fresh sides (RFC 9260, section 5.1).
+use Rattle.std.specs.Prelude.{◌≡◌, ℕ, ◌+◌, List, [], ◌∷◌}
+use Rattle.dcsctp_spec_lemmas.specs.types.declared.options.Options.{Options}
+use Rattle.dcsctp_spec_lemmas.specs.types.declared.association.Pair.{Pair}
+use Rattle.dcsctp_spec_lemmas.specs.types.Offer.{offer_of, negotiated}
+use Rattle.dcsctp_spec_lemmas.specs.spec.Packet.{Content, Packet}
+use Rattle.dcsctp_spec_lemmas.specs.spec.endpoint.Endpoint.{Core, closed, open_in, established}
+use Rattle.dcsctp_spec_lemmas.specs.spec.association.Effect.{Effect, sends, connects, Change, unchanged}
+use Rattle.dcsctp_spec_lemmas.specs.spec.association.Choices.{Choices, idle_choices}
+use Rattle.dcsctp_spec_lemmas.specs.spec.association.HandshakeChanges.{introduction_of, new_held, IsCookieOf}
+use Rattle.dcsctp_spec_lemmas.specs.spec.association.Acts.{connect, act_change, chunk_change}
+use Rattle.dcsctp_spec_runs.specs.World.{does, receives, Which, at_a, at_b, Step, World, world_after, Run}
+
+-- what is free in the handshake: each side's pair, the bytes of the cookie, and the tie tags that are drawn
+pub record Handshake : Type 0 where
+  pub a : Pair
+  pub b : Pair
+  pub cookie : List ℕ
+  pub tie : ℕ
+
+-- each packet fits, and nothing else is to send
+abbrev pub choices_for : Handshake → Pair → Choices
+choices_for handshake drawn = record (idle_choices drawn) { cookie = handshake.cookie; tie = handshake.tie }
+
+-- The cookie reads back as one that the second side makes for the INIT of the first.
+abbrev pub CookieReads : Options → Handshake → Type 0
+CookieReads options_a handshake = IsCookieOf (introduction_of options_a handshake.a) handshake.b handshake.cookie
+
+-- the first packet that these effects send
+abbrev pub sent_first : List Effect → Packet
+sent_first [] = record { tag = 0; contents = [] }
+sent_first (sends packet ∷ effects) = packet
+sent_first (effect ∷ effects) = sent_first effects
+
+-- its first chunk is handled
+abbrev pub works_first : Options → Core → ℕ → List Content → Choices → Change
+works_first options core header [] choices = unchanged core
+works_first options core header (content ∷ contents) choices = chunk_change options core header content choices
+
+abbrev pub works : Options → Core → Packet → Choices → Change
+works options core packet choices = works_first options core packet.tag packet.contents choices
+
+-- connect, and what INIT, INIT ACK, COOKIE ECHO and COOKIE ACK bring in turn
+abbrev pub connecting : Options → Options → Handshake → Change
+connecting options_a options_b handshake = act_change options_a closed connect (choices_for handshake handshake.a)
+
+abbrev pub init_worked : Options → Options → Handshake → Change
+init_worked options_a options_b handshake =
+    works options_b closed (sent_first (connecting options_a options_b handshake).effects) (choices_for handshake handshake.b)
+
+abbrev pub init_ack_worked : Options → Options → Handshake → Change
+init_ack_worked options_a options_b handshake =
+    works options_a (connecting options_a options_b handshake).core (sent_first (init_worked options_a options_b handshake).effects)
+    (choices_for handshake handshake.a)
+
+abbrev pub cookie_echo_worked : Options → Options → Handshake → Change
+cookie_echo_worked options_a options_b handshake =
+    works options_b (init_worked options_a options_b handshake).core (sent_first (init_ack_worked options_a options_b handshake).effects)
+    (choices_for handshake handshake.b)
+
+abbrev pub cookie_ack_worked : Options → Options → Handshake → Change
+cookie_ack_worked options_a options_b handshake =
+    works options_a (init_ack_worked options_a options_b handshake).core (sent_first (cookie_echo_worked options_a options_b handshake).effects)
+    (choices_for handshake handshake.a)
+
+abbrev pub delivered : Which → Change → Change → Step
+delivered side sent change = record { side = side; move = receives (sent_first sent.effects); changes = change ∷ [] }
+
+-- the steps, newest first
+abbrev pub handshake_steps : Options → Options → Handshake → List Step
+handshake_steps options_a options_b handshake =
+    delivered at_a (cookie_echo_worked options_a options_b handshake) (cookie_ack_worked options_a options_b handshake)
+    ∷ delivered at_b (init_ack_worked options_a options_b handshake) (cookie_echo_worked options_a options_b handshake)
+    ∷ delivered at_a (init_worked options_a options_b handshake) (init_ack_worked options_a options_b handshake)
+    ∷ delivered at_b (connecting options_a options_b handshake) (init_worked options_a options_b handshake)
+    ∷ record { side = at_a; move = does connect; changes = connecting options_a options_b handshake ∷ [] }
+    ∷ []
+
+-- how often a side connected
+abbrev pub connections : List Effect → ℕ
+connections [] = 0
+connections (connects link ∷ earlier) = connections earlier + 1
+connections (effect ∷ earlier) = connections earlier
+
+-- Both are Established and crossed, and each has connected once.
+pub record Connected (options_a options_b : Options) (handshake : Handshake) (world : World) : Type 0 where
+  pub a : world.a.core ≡ open_in established handshake.a (new_held handshake.a handshake.b (negotiated (offer_of options_a) (offer_of options_b)))
+  pub b : world.b.core ≡ open_in established handshake.b (new_held handshake.b handshake.a (negotiated (offer_of options_b) (offer_of options_a)))
+  pub a_once : connections world.a.past ≡ 1
+  pub b_once : connections world.b.past ≡ 1
+
+pub record HandshakeRuns (options_a options_b : Options) (handshake : Handshake) : Type 0 where
+  pub run : Run options_a options_b (handshake_steps options_a options_b handshake)
+  pub connected : Connected options_a options_b handshake (world_after options_a options_b (handshake_steps options_a options_b handshake))
+
+abbrev pub HandshakeConnects : Type 0
+HandshakeConnects = (options_a options_b : Options) (handshake : Handshake) → CookieReads options_a handshake → HandshakeRuns options_a options_b handshake

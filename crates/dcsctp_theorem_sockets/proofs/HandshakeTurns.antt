@@ -1,0 +1,231 @@
+-- The five calls of a handshake between two fitting sockets, one after another. The one that connects has the options
+-- a and the pair p, the other the options b and the pair q.
+use Rattle.std.proofs.Common.{◌≡◌, ◌≢◌, ◌≤◌, ℕ, Bool, true, false, cond, not, eqb, None, Some, List, [], ◌∷◌, ◌⊎◌, inl, inr, refl, sym, subst, ap, ◌∙◌, arith}
+use Rattle.std.specs.Prelude.{nat_le}
+use Rattle.std.specs.Duration.{as_nanos}
+use Rattle.std.proofs.lemmas.Bool.Decides.{nat_tests}
+use Rattle.dcsctp_spec_lemmas.specs.types.declared.association.Pair.{Pair}
+use Rattle.dcsctp_spec_lemmas.specs.types.declared.options.Options.{Options}
+use Rattle.dcsctp_spec_lemmas.specs.types.declared.word.Word.{Word}
+use Rattle.dcsctp_spec_lemmas.specs.types.declared.word.Word.TheVariants.{U32, U64}
+use Rattle.dcsctp_spec_lemmas.specs.types.Settings.{IsValid, FitsOptions, ports_of}
+use Rattle.dcsctp_spec_lemmas.specs.types.Offer.{offer_of, agreed_method}
+use Rattle.dcsctp_spec_lemmas.specs.spec.Cookie.{Cookie, cookie_bytes, is_stale}
+use Rattle.dcsctp_spec_lemmas.specs.spec.Packet.{Introduction, Content, init, init_ack, Packet, Emission, emission_bytes}
+use Rattle.dcsctp_spec_lemmas.specs.spec.endpoint.Endpoint.{Endpoint, Core, closed, cookie_wait, fresh_endpoint, own_tag}
+use Rattle.dcsctp_spec_lemmas.specs.spec.endpoint.Outcome.{Outcome, noting, quiet, sends, counted, drawing}
+use Rattle.dcsctp_spec_lemmas.specs.spec.endpoint.Turn.{act_input}
+use Rattle.dcsctp_spec_lemmas.specs.spec.endpoint.FlushOutcomes.{allows_packet}
+use Rattle.dcsctp_spec_lemmas.specs.spec.association.CookieEchoChanges.{establish_new, aged, case_without_peer}
+use Rattle.dcsctp_spec_lemmas.specs.spec.endpoint.CookieEchoOutcomes.{resolved_now}
+use Rattle.dcsctp_spec_lemmas.specs.spec.endpoint.HandshakeOutcomes.{pair_from, init_emission, awaits_init_ack, init_ack_emission, cookie_for, awaits_cookie_ack, echo_emission, init_outcome, init_ack_outcome, connect_outcome}
+use Rattle.dcsctp_spec_lemmas.specs.spec.association.HandshakeChanges.{introduction_of, answering_introduction, held_by_init_ack}
+use Rattle.dcsctp_spec_lemmas.specs.spec.association.Acts.{connect}
+use Rattle.dcsctp_spec_lemmas.specs.spec.endpoint.Following.{next_chunk}
+use Rattle.dcsctp_spec_lemmas.specs.spec.association.Effect.{Effect, holds, link_of}
+use Rattle.dcsctp_spec_lemmas.specs.spec.endpoint.CallTurns.{Turned, turned, Turns, HandleInput}
+use Rattle.dcsctp_spec_lemmas.specs.spec.Admission.{all_chunks, admits, admitted_where, admits_by, wrong_tag_text}
+use Rattle.dcsctp_spec_lemmas.specs.spec.CookieFits.{FitsPair, CookieReadsBack}
+use Rattle.dcsctp_spec_runs.specs.Laws.{AnswerKeepsAgreement, OfferReadsBack}
+use Rattle.dcsctp_spec_runs.proofs.FlushLemmas.{init_ack_turn_now}
+use Rattle.dcsctp_theorem_sockets.specs.Handshake.{AllowHandshake}
+use Rattle.dcsctp_theorem_sockets.proofs.HandshakeReads.{counted_at, delivered, turned_as, Wire, IsTaken, Taken, taken}
+use Rattle.dcsctp_theorem_sockets.proofs.Idle.{OwesNothing}
+use Rattle.dcsctp_theorem_sockets.proofs.HandshakeSizes.{init_fits, init_ack_fits, echo_fits}
+use Rattle.dcsctp_theorem_sockets.proofs.Sendable.{init_sendable, init_ack_sendable}
+
+-- the laws below that the handshake rests on
+pub record HandshakeLaws : Type 0 where
+  pub wire : Wire
+  pub offers : OfferReadsBack
+  pub answers : AnswerKeepsAgreement
+  pub cookies : CookieReadsBack
+
+-- options with which the handshake goes through
+pub record Good (options : Options) : Type 0 where
+  pub valid : IsValid options
+  pub fits : FitsOptions options
+  pub allow : AllowHandshake options
+
+-- ---- small facts
+
+pub same_tag : (n : ℕ) → eqb n n ≡ true
+same_tag n = grind (arith, nat_tests)
+
+pub not_zero : (n : ℕ) → 1 ≤ n → eqb n 0 ≡ false
+not_zero n some = grind (arith, nat_tests)
+
+-- where a packet is written without a checksum, its reader has a method
+no_method : (mine : ℕ) → eqb (cond (eqb mine 0) mine 0) 0 ≡ true
+no_method mine = grind (arith, nat_tests)
+
+checked_by : (mine theirs : ℕ) (zero_method : Bool) → eqb theirs 0 ≡ zero_method → (eqb (cond (eqb mine theirs) mine 0) 0 ≡ true) ⊎ (theirs ≢ 0)
+checked_by mine theirs true is = inl (grind (arith, nat_tests))
+checked_by mine theirs false is = inr (λ none. absurd (grind (arith, nat_tests)))
+
+pub method_checked : (mine theirs : ℕ) → (eqb (cond (eqb mine theirs) mine 0) 0 ≡ true) ⊎ (theirs ≢ 0)
+method_checked mine theirs = checked_by mine theirs (eqb theirs 0) refl
+
+-- ---- connect
+
+abbrev pub connecting : Options → ℕ → ℕ → Outcome
+connecting a word next =
+    drawing (pair_from word next)
+    (sends (awaits_init_ack (fresh_endpoint a) (pair_from word next)) (U32 word ∷ U32 next ∷ []) [] (init_emission (fresh_endpoint a) (pair_from word next)))
+
+-- The socket connects with a pair.
+pub record Begins (a : Options) (turns : List Turned) : Type 0 where
+  pub word : ℕ
+  pub next : ℕ
+  pub only : turns ≡ turned (act_input connect) (connecting a word next) ∷ []
+
+pub connect_sends : (a : Options) (word next : ℕ) → 112 ≤ a.mtu → connect_outcome (fresh_endpoint a) closed word next ≡ connecting a word next
+connect_sends a word next large =
+    let e : Endpoint = awaits_init_ack (fresh_endpoint a) (pair_from word next) in
+    let emission : Emission = init_emission (fresh_endpoint a) (pair_from word next) in
+    let words : List Word = U32 word ∷ U32 next ∷ [] in
+    ap (λ (b : Bool). drawing (pair_from word next) (cond b (sends e words [] emission) (quiet e words []))) (init_fits e (pair_from word next) large)
+
+pub begins : (a : Options) (turns : List Turned) → Good a → Turns (fresh_endpoint a) (act_input connect ∷ []) turns → Begins a turns
+begins a [] good turns = absurd turns
+begins a (t ∷ []) good turns =
+    record {
+      word = turns.0.comes.0;
+      next = turns.0.comes.1;
+      only = ap (λ (x : Turned). x ∷ []) (turned_as t (act_input connect) _ turns.0.is (turns.0.comes.2 ∙ connect_sends a turns.0.comes.0 turns.0.comes.1 good.allow.mtu));
+    }
+begins a (t ∷ other ∷ ts) good turns = absurd turns.1
+
+-- ---- INIT
+
+-- the closed socket once the INIT was counted
+abbrev pub asked : Options → Endpoint
+asked b = counted_at (fresh_endpoint b)
+
+abbrev pub answering : Options → Options → Pair → ℕ → ℕ → Outcome
+answering a b p word next =
+    drawing (pair_from word next)
+    (sends (asked b) (U32 word ∷ U32 next ∷ []) [] (init_ack_emission (asked b) (introduction_of a p) (pair_from word next) 0))
+
+-- The socket answers the INIT of this pair with a pair of its own.
+pub record Answers (a b : Options) (p : Pair) (turns : List Turned) : Type 0 where
+  pub word : ℕ
+  pub next : ℕ
+  pub only : turns ≡ delivered (fresh_endpoint b) 0 (init (introduction_of a p)) (answering a b p word next)
+
+pub answer_sends : (a b : Options) (p : Pair) (word next : ℕ) → 112 ≤ b.mtu → init_outcome (asked b) (introduction_of a p) closed word next ≡ answering a b p word next
+answer_sends a b p word next large =
+    let emission : Emission = init_ack_emission (asked b) (introduction_of a p) (pair_from word next) 0 in
+    let words : List Word = U32 word ∷ U32 next ∷ [] in
+    ap (λ (x : Bool). drawing (pair_from word next) (cond x (sends (asked b) words [] emission) (quiet (asked b) words []))) (init_ack_fits (asked b) (introduction_of a p) (pair_from word next) 0 large)
+
+-- where the chunk's outcome is known
+pub taken_as : (e : Endpoint) (tag : ℕ) (content : Content) (turns : List Turned) (h : Taken e tag content turns) (o : Outcome) → h.outcome ≡ o → o.following ≡ next_chunk
+    → OwesNothing o.after.below.transfer → turns ≡ delivered e tag content o
+taken_as e tag content turns h o is goes_on owes =
+    h.only (ap (λ (x : Outcome). x.following) is ∙ goes_on) (subst (λ (x : Outcome). OwesNothing x.after.below.transfer) (sym is) owes) ∙ ap (λ (x : Outcome). delivered e tag content x) is
+
+answers_by : (a b : Options) (p : Pair) (turns : List Turned) → Good b → Taken (fresh_endpoint b) 0 (init (introduction_of a p)) turns → Answers a b p turns
+answers_by a b p turns good h =
+    record {
+      word = h.comes.0;
+      next = h.comes.1;
+      only = taken_as (fresh_endpoint b) 0 (init (introduction_of a p)) turns h _ (h.comes.2 ∙ answer_sends a b p h.comes.0 h.comes.1 good.allow.mtu) refl tt;
+    }
+
+pub init_is_taken : HandshakeLaws → (a b : Options) (p : Pair) → Good a → FitsPair p → a.remote_port ≡ b.local_port → IsTaken b a true 0 (init (introduction_of a p))
+init_is_taken law a b p good own port =
+    record {
+      fits = good.fits;
+      sendable = record { tag = omega arith; contents = (init_sendable law.offers a p good.valid good.fits own, tt) };
+      minima = record { tag_is_not_zero = own.tag_is_not_zero; window_is_large_enough = good.allow.window; sends_on_a_stream = good.allow.outbound_streams; receives_on_a_stream = good.allow.inbound_streams };
+      to_this_port = sym port;
+      checked = inl refl;
+    }
+
+pub answers : HandshakeLaws → (a b : Options) (p : Pair) (turns : List Turned) → Good a → Good b → FitsPair p → a.remote_port ≡ b.local_port
+    → HandleInput (fresh_endpoint b) (emission_bytes (ports_of a) (init_emission (fresh_endpoint a) p)) turns → Answers a b p turns
+answers law a b p turns good_a good_b own port input =
+    answers_by a b p turns good_b (taken law.wire (fresh_endpoint b) a true 0 (init (introduction_of a p)) turns (init_is_taken law a b p good_a own port) refl (λ e o rests. rests) input)
+
+-- ---- INIT ACK
+
+-- the socket that connects, once its INIT went out, and once the INIT ACK was counted
+abbrev pub waiting : Options → Pair → Endpoint
+waiting a p = counted (awaits_init_ack (fresh_endpoint a) p)
+
+abbrev pub made_cookie : Options → Pair → Pair → Cookie
+made_cookie a p q = cookie_for 0 (introduction_of a p) q 0
+
+-- At the start of the clocks a cookie isn't stale, whatever its lifetime.
+zero_age : (lifetime : ℕ) → not (nat_le 0 lifetime) ≡ false
+zero_age lifetime = grind (arith, nat_tests)
+
+pub case_at_start : (e : Endpoint) (a : Options) (p q : Pair) → e.moment ≡ 0 → resolved_now e closed q.tag (made_cookie a p q) ≡ establish_new
+case_at_start e a p q at =
+    let lifetime : ℕ = as_nanos e.options.cookie_lifetime in
+    ap (λ (now : ℕ). aged (is_stale lifetime now (made_cookie a p q)) (case_without_peer (eqb q.tag q.tag))) at
+    ∙ ap (λ (old : Bool). aged old (case_without_peer (eqb q.tag q.tag))) (zero_age lifetime)
+    ∙ ap case_without_peer (same_tag q.tag)
+
+abbrev pub answer_to : Options → Options → Pair → Pair → Introduction
+answer_to a b p q = answering_introduction b (introduction_of a p) q
+
+abbrev pub awaiting : Options → Options → Pair → Pair → ℕ → Endpoint
+awaiting a b p q tie = awaits_cookie_ack (counted_at (waiting a p)) p (answer_to a b p q) (cookie_bytes (made_cookie a p q)) tie
+
+abbrev pub echoing : Options → Options → Pair → Pair → ℕ → Outcome
+echoing a b p q tie =
+    noting (holds (link_of p (held_by_init_ack a p (answer_to a b p q))) ∷ [])
+    (sends (awaiting a b p q tie) (U64 tie ∷ []) [] (echo_emission q.tag (cookie_bytes (made_cookie a p q))))
+
+-- The socket echoes the cookie.
+pub record Echoes (a b : Options) (p q : Pair) (turns : List Turned) : Type 0 where
+  pub tie : ℕ
+  pub only : turns ≡ delivered (waiting a p) p.tag (init_ack (answer_to a b p q) (Some (cookie_bytes (made_cookie a p q)))) (echoing a b p q tie)
+
+pub echo_sends : (a b : Options) (p q : Pair) (tie : ℕ) → Good a
+    → init_ack_outcome (counted_at (waiting a p)) (answer_to a b p q) (Some (cookie_bytes (made_cookie a p q))) (cookie_wait p) tie ≡ echoing a b p q tie
+echo_sends a b p q tie good =
+    let e : Endpoint = awaiting a b p q tie in
+    let emission : Emission = echo_emission q.tag (cookie_bytes (made_cookie a p q)) in
+    let words : List Word = U64 tie ∷ [] in
+    let holding : List Effect = holds (link_of p (held_by_init_ack a p (answer_to a b p q))) ∷ [] in
+    ap (λ (x : Bool). noting holding (cond x (cond (allows_packet a.max_burst) (sends e words [] emission) (quiet e words [])) (quiet e words []))) (echo_fits e q.tag (made_cookie a p q) good.allow.mtu)
+    ∙ ap (λ (x : Bool). noting holding (cond x (sends e words [] emission) (quiet e words []))) good.allow.burst
+
+echoes_by : (a b : Options) (p q : Pair) (turns : List Turned) → Good a
+    → Taken (waiting a p) p.tag (init_ack (answer_to a b p q) (Some (cookie_bytes (made_cookie a p q)))) turns → Echoes a b p q turns
+echoes_by a b p q turns good h =
+    let e : Endpoint = counted_at (waiting a p) in
+    let cookie : List ℕ = cookie_bytes (made_cookie a p q) in
+    let now : (word : ℕ) × (h.outcome ≡ init_ack_outcome e (answer_to a b p q) (Some cookie) (cookie_wait p) word) =
+    init_ack_turn_now e (answer_to a b p q) cookie p h.outcome refl (λ word. refl) h.comes in
+    record { tie = now.0; only = taken_as (waiting a p) p.tag (init_ack (answer_to a b p q) (Some cookie)) turns h _ (now.1 ∙ echo_sends a b p q now.0 good) refl (refl, refl) }
+
+pub answer_is_taken : HandshakeLaws → (a b : Options) (p q : Pair) → Good b → FitsPair p → FitsPair q → b.remote_port ≡ a.local_port
+    → IsTaken a b (eqb (agreed_method (offer_of b) (offer_of a)) 0) p.tag (init_ack (answer_to a b p q) (Some (cookie_bytes (made_cookie a p q))))
+answer_is_taken law a b p q good mine own port =
+    record {
+      fits = good.fits;
+      sendable = record { tag = mine.tag; contents = (init_ack_sendable law.offers b (introduction_of a p) q (made_cookie a p q) good.valid good.fits own, tt) };
+      minima = record { tag_is_not_zero = own.tag_is_not_zero; window_is_large_enough = good.allow.window; sends_on_a_stream = good.allow.outbound_streams; receives_on_a_stream = good.allow.inbound_streams };
+      to_this_port = sym port;
+      checked = method_checked b.zero_checksum_alternate_error_detection_method.0 a.zero_checksum_alternate_error_detection_method.0;
+    }
+
+-- a packet under the own tag is admitted
+pub ack_admitted : (core : Core) (theirs : Introduction) (cookie : List ℕ) (tag : ℕ) → own_tag core ≡ tag → 1 ≤ tag
+    → admits core (record { tag = tag; contents = init_ack theirs (Some cookie) ∷ [] }) ≡ all_chunks
+ack_admitted core theirs cookie tag own some =
+    let packet : Packet = record { tag = tag; contents = init_ack theirs (Some cookie) ∷ [] } in
+    ap (λ (zero_tag : Bool). admits_by core packet None None false false zero_tag) (not_zero tag some)
+    ∙ ap (λ (is_own : Bool). admitted_where is_own (wrong_tag_text tag (own_tag core))) (ap (eqb tag) own ∙ same_tag tag)
+
+pub echoes : HandshakeLaws → (a b : Options) (p q : Pair) (turns : List Turned) → Good a → Good b → FitsPair p → FitsPair q → b.remote_port ≡ a.local_port
+    → HandleInput (waiting a p) (emission_bytes (ports_of b) (init_ack_emission (asked b) (introduction_of a p) q 0)) turns → Echoes a b p q turns
+echoes law a b p q turns good_a good_b mine own port input =
+    let content : Content = init_ack (answer_to a b p q) (Some (cookie_bytes (made_cookie a p q))) in
+    echoes_by a b p q turns good_a
+    (taken law.wire (waiting a p) b (eqb (agreed_method (offer_of b) (offer_of a)) 0) p.tag content turns (answer_is_taken law a b p q good_b mine own port)
+    (ack_admitted (cookie_wait p) (answer_to a b p q) (cookie_bytes (made_cookie a p q)) p.tag refl mine.tag_is_not_zero) (λ e o rests. rests) input)

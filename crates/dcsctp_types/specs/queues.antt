@@ -1,0 +1,4 @@
+pub mod Congestion
+pub mod Messages
+pub mod Progress
+pub mod SendStreams

@@ -1,0 +1,95 @@
+-- How far an item is, and what changes that (RFC 9260, section 7.2.4; RFC 3758, section 3.5).
+use Rattle.std.specs.Prelude.{ℕ, ◌+◌, ◌-◌, ◌%◌, ◌^◌, ◌==◌, min, Bool, true, false, Option, None, Some, nat_lt, if◌then◌else◌}
+use Rattle.dcsctp_types.specs.declared.progress.ItemState.{ItemState}
+use Rattle.dcsctp_types.specs.declared.progress.ItemState.TheVariants.{InFlight, Marked, Acknowledged, Abandoned}
+use Rattle.dcsctp_types.specs.declared.progress.Progress.{Progress}
+use Rattle.dcsctp_types.specs.declared.progress.Change.{Change}
+use Rattle.dcsctp_types.specs.declared.progress.Change.TheVariants.{SendAgain, Miss, Mark, Acknowledge, Abandon}
+
+abbrev pub is_in_flight : ItemState → Bool
+is_in_flight InFlight = true
+is_in_flight Marked = false
+is_in_flight Acknowledged = false
+is_in_flight Abandoned = false
+
+-- It waits to be sent again.
+abbrev pub is_marked : ItemState → Bool
+is_marked InFlight = false
+is_marked Marked = true
+is_marked Acknowledged = false
+is_marked Abandoned = false
+
+-- It was neither acknowledged nor abandoned.
+abbrev pub is_unacknowledged : ItemState → Bool
+is_unacknowledged InFlight = true
+is_unacknowledged Marked = true
+is_unacknowledged Acknowledged = false
+is_unacknowledged Abandoned = false
+
+abbrev pub is_abandoned : ItemState → Bool
+is_abandoned InFlight = false
+is_abandoned Marked = false
+is_abandoned Acknowledged = false
+is_abandoned Abandoned = true
+
+-- in flight, once more, before the TSN that is sent next for the first time; its misses count anew
+abbrev pub sent_again : ℕ → Progress → Progress
+sent_again next progress =
+    record progress {
+      state = InFlight;
+      times_sent_again = min (progress.times_sent_again + 1) 65535;
+      sent_before = Some next;
+      misses = 0;
+    }
+
+-- Has the TSN reached the other one? It has if it is at most 2^31 - 1 ahead of it (RFC 9260, section 1.6).
+abbrev pub has_come_to : ℕ → ℕ → Bool
+has_come_to newest tsn = nat_lt ((newest + (2 ^ 32 - tsn)) % 2 ^ 32) (2 ^ 31)
+
+-- Does a SACK tell whether an item is missing? It depends on the TSN before which the item was sent again, and on the newest TSN
+-- that the SACK newly acknowledges. For an item that was sent once each SACK tells. For one that was sent again, only a SACK
+-- tells that acknowledges what was sent after it. Others may have left before it could arrive.
+abbrev pub tells_of : Option ℕ → Option ℕ → Bool
+tells_of None newest = true
+tells_of (Some next) None = false
+tells_of (Some next) (Some newest) = has_come_to newest next
+
+-- one more miss of an item in flight; the third marks it, and later ones don't count
+abbrev pub missed : ItemState → Progress → Progress
+missed InFlight progress =
+    if progress.misses == 2 then record progress { state = Marked; misses = 3 }
+    else if nat_lt progress.misses 2 then record progress { misses = progress.misses + 1 }
+    else progress
+missed Marked progress = progress
+missed Acknowledged progress = progress
+missed Abandoned progress = progress
+
+-- one more miss, if the SACK tells of the item
+abbrev pub missed_where : Bool → Progress → Progress
+missed_where true progress = missed progress.state progress
+missed_where false progress = progress
+
+-- what was in flight is lost
+abbrev pub marked : ItemState → Progress → Progress
+marked InFlight progress = record progress { state = Marked }
+marked Marked progress = progress
+marked Acknowledged progress = progress
+marked Abandoned progress = progress
+
+-- A SACK has acknowledged it. What was abandoned stays so.
+abbrev pub acknowledged : ItemState → Progress → Progress
+acknowledged InFlight progress = record progress { state = Acknowledged; was_acknowledged = true }
+acknowledged Marked progress = record progress { state = Acknowledged; was_acknowledged = true }
+acknowledged Acknowledged progress = record progress { was_acknowledged = true }
+acknowledged Abandoned progress = record progress { was_acknowledged = true }
+
+abbrev pub changed : Change → Progress → Progress
+changed (SendAgain next) progress = sent_again next progress
+changed (Miss newest) progress = missed_where (tells_of progress.sent_before newest) progress
+changed Mark progress = marked progress.state progress
+changed Acknowledge progress = acknowledged progress.state progress
+changed Abandon progress = record progress { state = Abandoned }
+
+-- that of an item that was just sent
+abbrev pub just_sent : Progress
+just_sent = record { state = InFlight; was_acknowledged = false; times_sent_again = 0; sent_before = None; misses = 0 }

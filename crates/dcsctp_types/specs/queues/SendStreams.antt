@@ -1,0 +1,176 @@
+-- Streams that messages are sent by: what waits on them, and whose turn it is. Moments are nanoseconds.
+use Rattle.std.specs.Prelude.{◌≡◌, ◌<◌, ℕ, ◌+◌, ◌-◌, ◌^◌, ◌%◌, ◌==◌, ◌&&◌, ◌||◌, min, nat_lt, Bool, true, false, Option, None, Some, List, [], ◌∷◌, ◌++◌, length, take, drop, slice_index_or, if◌then◌else◌}
+use Rattle.dcsctp_types.specs.declared.sending.Pause.{Pause}
+use Rattle.dcsctp_types.specs.declared.sending.Pause.TheVariants.{Open, Pausing, HandedOut}
+use Rattle.dcsctp_types.specs.declared.sending.Turn.{Turn}
+
+-- A message that waits whole, or of which some fragments were sent.
+pub record Waiting : Type 0 where
+  pub message_id : ℕ
+  pub ppid : ℕ
+  pub is_unordered : Bool
+  pub payload : List ℕ
+  pub max_retransmissions : Option ℕ
+  -- the last moment at which it may be started
+  pub expires_at : Option ℕ
+  -- the number under which events name it
+  pub lifecycle : Option ℕ
+
+pub record Stream : Type 0 where
+  pub id : ℕ
+  pub priority : ℕ
+  pub threshold : ℕ
+  -- the payload bytes that were neither produced nor dropped
+  pub amount : ℕ
+  pub next_ssn : ℕ
+  pub next_mid : ℕ
+  pub next_unordered_mid : ℕ
+  pub pause : Pause
+  -- the oldest first, and among them the one that is under way
+  pub messages : List Waiting
+
+-- is the stream to be reset, and its reset not requested yet?
+abbrev pub is_pausing : Pause → Bool
+is_pausing Open = false
+is_pausing Pausing = true
+is_pausing HandedOut = false
+
+-- is a message too old to be started at this moment?
+abbrev pub is_expired : ℕ → Waiting → Bool
+is_expired now message = expired_by now message.expires_at
+  where
+    expired_by : ℕ → Option ℕ → Bool
+    expired_by now None = false
+    expired_by now (Some moment) = nat_lt moment now
+
+-- a stream that was never used
+abbrev pub unused : ℕ → ℕ → ℕ → Stream
+unused id priority threshold =
+    record { id = id; priority = priority; threshold = threshold; amount = 0; next_ssn = 0; next_mid = 0; next_unordered_mid = 0; pause = Open; messages = [] }
+
+-- the oldest message
+abbrev pub front_of : List Waiting → Option Waiting
+front_of [] = None
+front_of (message ∷ messages) = Some message
+
+-- with one more message after the others; the amount stops at the greatest `usize`
+abbrev pub with_message : Waiting → Stream → Stream
+with_message message stream =
+    record stream {
+      amount = min (stream.amount + length message.payload) (2 ^ 64 - 1);
+      messages = stream.messages ++ message ∷ [];
+    }
+
+-- without its oldest message
+abbrev pub without_front : Stream → Stream
+without_front stream = record stream { messages = drop 1 stream.messages }
+
+-- paused, with only that many of its messages
+abbrev pub paused : ℕ → Stream → Stream
+paused kept stream = record stream { pause = Pausing; messages = take kept stream.messages }
+
+abbrev pub handed_out : Stream → Stream
+handed_out stream = record stream { pause = HandedOut }
+
+abbrev pub resumed : Stream → Stream
+resumed stream = record stream { pause = Open }
+
+-- with that much more; the amount stops at the greatest `usize`
+abbrev pub raised : ℕ → Stream → Stream
+raised size stream = record stream { amount = min (stream.amount + size) (2 ^ 64 - 1) }
+
+-- the SSN and the MID of the message that is started next, by whether it is unordered
+abbrev pub next_numbers : Bool → Stream → ℕ × ℕ
+next_numbers true stream = (0, stream.next_unordered_mid)
+next_numbers false stream = (stream.next_ssn, stream.next_mid)
+
+-- its messages are numbered from 0 again
+abbrev pub begun_anew : Stream → Stream
+begun_anew stream = record stream { next_ssn = 0; next_mid = 0; next_unordered_mid = 0; pause = Open }
+
+-- The numbers after a message was started, by whether messages are interleaved and whether it is unordered. Without interleaving
+-- SSNs count, which unordered messages don't have (RFC 9260, section 3.3.1). With it MIDs count, of ordered and of unordered
+-- messages apart (RFC 8260, section 2.1). Running numbers wrap.
+abbrev pub counted : Bool → Bool → Stream → Stream
+counted false false stream = record stream { next_ssn = (stream.next_ssn + 1) % 2 ^ 16 }
+counted false true stream = stream
+counted true false stream = record stream { next_mid = (stream.next_mid + 1) % 2 ^ 32 }
+counted true true stream = record stream { next_unordered_mid = (stream.next_unordered_mid + 1) % 2 ^ 32 }
+
+-- it was reset, if it was handed out
+abbrev pub committed : Stream → Stream
+committed stream = committed_if stream.pause stream
+  where
+    committed_if : Pause → Stream → Stream
+    committed_if Open stream = stream
+    committed_if Pausing stream = stream
+    committed_if HandedOut stream = begun_anew stream
+
+-- it was not reset, if it was handed out
+abbrev pub rolled_back : Stream → Stream
+rolled_back stream = rolled_back_if stream.pause stream
+  where
+    rolled_back_if : Pause → Stream → Stream
+    rolled_back_if Open stream = stream
+    rolled_back_if Pausing stream = stream
+    rolled_back_if HandedOut stream = resumed stream
+
+-- the payload bytes of messages together
+abbrev pub size_of : List Waiting → ℕ
+size_of [] = 0
+size_of (message ∷ messages) = length message.payload + size_of messages
+
+-- ---- streams in order
+
+-- this number is less than those of all the streams
+abbrev pub IsBelow : ℕ → List Stream → Type 0
+IsBelow id [] = Unit {0}
+IsBelow id (stream ∷ streams) = (id < stream.id) × IsBelow id streams
+
+-- The streams ascend by their numbers, so each stands once.
+abbrev pub IsAscending : List Stream → Type 0
+IsAscending [] = Unit {0}
+IsAscending (stream ∷ streams) = IsBelow stream.id streams × IsAscending streams
+
+-- ---- whose turn it is: streams are asked by priority, the greatest first, then by number, the least first
+
+-- Is the first asked after the other?
+abbrev pub comes_after : Turn → Turn → Bool
+comes_after first other =
+    nat_lt first.priority other.priority || (first.priority == other.priority && nat_lt other.stream_id.0 first.stream_id.0)
+
+-- the turns with one more; the last is the first to be asked
+abbrev pub with_turn : Turn → List Turn → List Turn
+with_turn turn [] = turn ∷ []
+with_turn turn (first ∷ turns) = if comes_after first turn then first ∷ with_turn turn turns else turn ∷ first ∷ turns
+
+abbrev pub with_turns : Option Turn → List Turn → List Turn
+with_turns None turns = turns
+with_turns (Some turn) turns = with_turn turn turns
+
+-- the stream at the place
+abbrev pub stream_at : List Stream → ℕ → Stream
+stream_at streams place = slice_index_or streams place (unused 0 0 0)
+
+-- the turn of an open stream with a message
+abbrev pub turn_if : ℕ → ℕ → Pause → List Waiting → Option Turn
+turn_if priority id Open [] = None
+turn_if priority id Open (message ∷ messages) = Some (record { priority = priority; stream_id = record { 0 = id } })
+turn_if priority id Pausing messages = None
+turn_if priority id HandedOut messages = None
+
+-- a stream's turn, if it may begin a message
+abbrev pub turn_of : Stream → Option Turn
+turn_of stream = turn_if stream.priority stream.id stream.pause stream.messages
+
+-- the turns of all streams
+abbrev pub turns_of : List Stream → List Turn
+turns_of [] = []
+turns_of (stream ∷ streams) = with_turns (turn_of stream) (turns_of streams)
+
+-- It is this stream's turn: it may begin a message, and none that may is asked before it.
+pub record IsNext (streams : List Stream) (place : ℕ) : Type 0 where
+  pub turn : Turn
+  pub within : place < length streams
+  pub is : turn_of (stream_at streams place) ≡ Some turn
+  pub first : (k : ℕ) (other : Turn) → k < length streams → turn_of (stream_at streams k) ≡ Some other → comes_after turn other ≡ false
