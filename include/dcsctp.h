@@ -171,7 +171,14 @@ typedef struct dcsctp_socket {
 
 /* What can be set. Sizes are bytes, times nanoseconds. Each comment ends with the default. A switch
  * is off at 0, and on at any other number. The options are valid if `mtu` is 32 to 65,535, and
- * `max_receiver_window_buffer_size` and `max_send_buffer_size` are at most 4,294,967,295. */
+ * `max_receiver_window_buffer_size` and `max_send_buffer_size` are at most 4,294,967,295.
+ *
+ * `max_receiver_window_buffer_size`: once nine tenths of it are held, data is dropped without an
+ *   answer. If that much waits for data that was lost, that is dropped too when it is sent again:
+ *   nothing is delivered any more, though both ends stay connected. So let it be far more than a
+ *   peer has in flight, and than the longest message that it sends.
+ * `rto_initial`: let it be longer than any round trip. Else the first flight is sent twice, and at
+ *   twice the value all data is, as long as the association lasts. */
 typedef struct dcsctp_options {
     size_t mtu;                                          /* longest packet that is sent: 1,191 */
     size_t max_message_size;                             /* longest message to send: 262,144 */
@@ -235,7 +242,9 @@ int32_t dcsctp_connect(dcsctp_socket *socket) DCSCTP_CALL;
  * message is taken, and those that still wait may be lost. DCSCTP_EVENT_CLOSED follows when the
  * peer has answered. If it hasn't answered the first INIT, the association ends at once, and while
  * the handshake isn't over it never connects. On a closed socket it changes nothing. To lose
- * nothing, first wait until dcsctp_buffered_amount is 0.
+ * nothing, first wait until dcsctp_buffered_amount is 0. A peer's SHUTDOWN acknowledges nothing
+ * here: where it sends no SACK, both ends wait for minutes, until one gives up. dcsctp_close ends
+ * that.
  * Errors: NO_SOCKET, FAILED, OUT_OF_MEMORY. */
 int32_t dcsctp_shutdown(dcsctp_socket *socket) DCSCTP_CALL;
 
@@ -247,7 +256,9 @@ int32_t dcsctp_close(dcsctp_socket *socket) DCSCTP_CALL;
 /* ---- Packets and time ----------------------------------------------------------------------- */
 
 /* Handles a packet from the peer, of any bytes. One that can't be read, or has a wrong verification
- * tag, adds a DCSCTP_EVENT_ERROR. It is counted, and changes nothing else.
+ * tag, adds a DCSCTP_EVENT_ERROR. It is counted, and changes nothing else. Each chunk may bring a
+ * packet: 290 SHUTDOWN ACK in one of 1,172 bytes bring 290, even from a closed socket, whatever the
+ * tag. So hand in only what your peer has sent, as DTLS tells.
  * Errors: NO_SOCKET, FAILED, OUT_OF_MEMORY. */
 int32_t dcsctp_handle_input(dcsctp_socket *socket, const uint8_t *packet, size_t length)
     DCSCTP_CALL;
@@ -364,6 +375,9 @@ typedef struct dcsctp_send_options {
  * after a DCSCTP_EVENT_LIFECYCLE_END where the message has a name. If there is no memory for the
  * copy, it is OUT_OF_MEMORY, nothing has changed, and the call may be tried again.
  *
+ * A message that is longer than nine tenths of the peer's receive window may never arrive. Nothing
+ * tells, and those after it wait.
+ *
  * Errors: NO_SOCKET, EMPTY_PAYLOAD, MESSAGE_TOO_LARGE, SHUTTING_DOWN, RESOURCE_EXHAUSTION, FAILED,
  * OUT_OF_MEMORY. */
 int32_t dcsctp_send(dcsctp_socket *socket, uint16_t stream_id, uint32_t ppid,
@@ -375,7 +389,12 @@ int32_t dcsctp_send(dcsctp_socket *socket, uint16_t stream_id, uint32_t ppid,
 /* Resets streams of this end (RFC 6525), which closes data channels. A `count` of 0 names none.
  * Messages on them that weren't begun are dropped. None is begun until
  * DCSCTP_EVENT_STREAMS_RESET_PERFORMED or .._FAILED. The peer gets
- * DCSCTP_EVENT_INCOMING_STREAM_RESET.
+ * DCSCTP_EVENT_INCOMING_STREAM_RESET, and drops what waits there for an earlier message.
+ *
+ * First wait until `unack_data_count` of dcsctp_get_metrics is 0. A peer that misses data when the
+ * request comes doesn't perform it yet, and some peers never do: then neither event comes. If it
+ * misses data because its user takes no messages, the request is sent again and again, and each one
+ * that is lost counts as an error. That can abort a live association within a minute.
  *
  * Errors: NO_SOCKET, NOT_CONNECTED, NOT_SUPPORTED, FAILED, OUT_OF_MEMORY. If there is no memory for
  * a copy of the numbers, nothing has changed, and the call may be tried again. */
@@ -394,7 +413,9 @@ int32_t dcsctp_buffered_amount_low_threshold(dcsctp_socket *socket, uint16_t str
 int32_t dcsctp_set_buffered_amount_low_threshold(dcsctp_socket *socket, uint16_t stream_id,
                                                  size_t bytes) DCSCTP_CALL;
 
-/* The priority of a stream: one of the greatest priority is sent first. It outlasts an association.
+/* The priority of a stream: one of the greatest priority is sent first, and of those with the same
+ * the one of the lowest number. They don't take turns: as long as it has messages, the others wait.
+ * So give a stream that must not wait a greater priority. It outlasts an association.
  * Errors: NO_SOCKET, and where it is set FAILED and OUT_OF_MEMORY, too. */
 int32_t dcsctp_get_stream_priority(dcsctp_socket *socket, uint16_t stream_id, uint16_t *priority)
     DCSCTP_CALL;
@@ -467,7 +488,9 @@ int32_t dcsctp_get_metrics(dcsctp_socket *socket, dcsctp_metrics *metrics) DCSCT
 
 /* Writes the reasons why the socket can't be handed over now, added up; 0: it can. A closed socket
  * can. With `enable_handover_with_outstanding_data`, data that is sent may be unfinished. Messages
- * that are ready are no reason, but a handover loses them: take them first. Error: NO_SOCKET. */
+ * that are ready are no reason, but a handover loses them: take them first. While a peer sends long
+ * messages and some packets are lost, it is 0 only now and then: ask after each packet.
+ * Error: NO_SOCKET. */
 int32_t dcsctp_get_handover_readiness(dcsctp_socket *socket, uint32_t *reasons) DCSCTP_CALL;
 
 /* Takes a snapshot of the socket, from which dcsctp_restore_from_state goes on in another process,
