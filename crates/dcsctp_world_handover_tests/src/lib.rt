@@ -7,8 +7,6 @@
 #[cfg(test)]
 mod checks;
 #[cfg(test)]
-mod handover_resets;
-#[cfg(test)]
 mod handovers;
 #[cfg(test)]
 mod invalid_snapshots;

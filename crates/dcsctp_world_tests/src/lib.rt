@@ -1,5 +1,5 @@
-//! Tests of `dcsctp_world` by its public calls: two sockets that find each other, the words that they draw,
-//! messages, and bytes from outside.
+//! Tests of `dcsctp_world` by its public calls, where no script can say them: what a world keeps of acts, associations,
+//! words and messages, what a step answers, and whether all acts were honest.
 //!
 //! A helper asserts and returns no error, and a world is dropped by a call. Otherwise each early end of a
 //! function that owns a world, and each end of a block, would be proved to drop all of it.
@@ -7,8 +7,6 @@
 
 #[cfg(test)]
 mod checks;
-#[cfg(test)]
-mod messages;
 #[cfg(test)]
 mod outside;
 #[cfg(test)]

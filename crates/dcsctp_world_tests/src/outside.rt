@@ -31,7 +31,7 @@ fn is_kept(rt: &impl Abort, world: &World<TwoWords>) {
 
 #[test]
 fn a_world_is_honest_until_bytes_come_from_outside(rt: HostRuntime) {
-    let mut world = new_world(&rt, rt.alloc(), 0);
+    let mut world = new_world(&rt, rt.alloc());
     holds(&rt, "honest at first", world.is_honest());
     let connect = Step::Call(Side::A, Call::Connect);
     world.apply(&connect).expect(&rt, "no call");

@@ -89,7 +89,7 @@ fn are(rt: &impl Abort, name: &str, messages: &[Message], payloads: &[&[u8]]) {
 
 // A may send four bytes at most.
 fn world_of_short_messages(rt: &impl Abort, alloc: Global) -> World<TwoWords> {
-    let mut world = world_behind_handshake(rt, alloc, 0);
+    let mut world = world_behind_handshake(rt, alloc);
     let reply = calls(rt, &mut world, Side::A, Call::SetMaxMessageSize(4));
     same(rt, "a limit", reply, Reply::Done);
     world
@@ -145,7 +145,7 @@ fn a_world_shows_what_send_many_accepted(rt: HostRuntime) {
 #[test]
 fn a_world_shows_what_was_read_in_order(rt: HostRuntime) {
     let alloc = rt.alloc();
-    let mut world = world_behind_handshake(&rt, alloc, 0);
+    let mut world = world_behind_handshake(&rt, alloc);
     reads(&rt, alloc, (&mut world, Side::B), None);
     sends(&rt, alloc, (&mut world, Side::A), &[1, 2], Ok(()));
     sends(&rt, alloc, (&mut world, Side::A), &[3], Ok(()));

@@ -1,8 +1,8 @@
-//! Two sockets that find each other, whatever the schedule.
+//! What a world keeps of two sockets that find each other, and what a step answers.
 
 use crate::checks::{holds, same};
 use dcsctp_testing::TwoWords;
-use dcsctp_world::socket::{DcSctpSocket, Options, SocketEvent, SocketState, StreamId};
+use dcsctp_world::socket::{DcSctpSocket, Options, SocketState};
 use dcsctp_world::{Act, Call, Reply, Side, Step, World};
 use rand_core::Rng;
 use std::alloc::Global;
@@ -26,11 +26,9 @@ const HANDSHAKE_ACTS: [Act; 5] = [
     Act::Step(Step::Deliver(Side::A, 2)),
 ];
 
-// Two sockets, of which A draws tag 7 and first TSN 100, and B tag 9 and first TSN 200. If the method isn't
-// 0, each offers to accept packets without a checksum.
-pub fn new_world(rt: &impl Abort, alloc: Global, method: u32) -> World<TwoWords> {
-    let mut options = Options::default();
-    options.zero_checksum_alternate_error_detection_method.0 = method;
+// Two sockets, of which A draws tag 7 and first TSN 100, and B tag 9 and first TSN 200.
+pub fn new_world(rt: &impl Abort, alloc: Global) -> World<TwoWords> {
+    let options = Options::default();
     assert!(rt; options.is_valid(), "the options are not valid");
     let rng_a = TwoWords {
         first: 100,
@@ -44,8 +42,8 @@ pub fn new_world(rt: &impl Abort, alloc: Global, method: u32) -> World<TwoWords>
 }
 
 // Such a world, after the handshake.
-pub fn world_behind_handshake(rt: &impl Abort, alloc: Global, method: u32) -> World<TwoWords> {
-    let mut world = new_world(rt, alloc, method);
+pub fn world_behind_handshake(rt: &impl Abort, alloc: Global) -> World<TwoWords> {
+    let mut world = new_world(rt, alloc);
     world.run(&HANDSHAKE).expect(rt, "the handshake failed");
     world
 }
@@ -71,55 +69,12 @@ fn drew(rt: &impl Abort, world: &World<TwoWords>, side: Side, tag: u32, first_ts
 
 #[test]
 fn four_packets_connect_two_sockets(rt: HostRuntime) {
-    let world = world_behind_handshake(&rt, rt.alloc(), 0);
+    let world = world_behind_handshake(&rt, rt.alloc());
     are_connected(&rt, &world, "the handshake");
     drew(&rt, &world, Side::A, 7, 100);
     drew(&rt, &world, Side::B, 9, 200);
     same(&rt, "acts", world.acts(), HANDSHAKE_ACTS.as_slice());
     holds(&rt, "no growth was refused", !world.has_failed());
-    drop(world);
-}
-
-// A side has to have sent these two packets.
-fn sent(rt: &impl Abort, world: &World<TwoWords>, side: Side, first: &[u8], second: &[u8]) {
-    let [first_kept, second_kept] = world.packets(side) else {
-        rt.panic("there are not two packets")
-    };
-    same(rt, "packet 1", first_kept.as_slice(), first);
-    same(rt, "packet 2", second_kept.as_slice(), second);
-}
-
-// A's events after the handshake have to come in order, and the packets among them to be kept.
-fn a_tells_in_order(rt: &impl Abort, world: &World<TwoWords>) {
-    let [
-        SocketEvent::SendPacket(init),
-        SocketEvent::SendPacket(cookie_echo),
-        SocketEvent::OnConnected(),
-    ] = world.events(Side::A)
-    else {
-        rt.panic("A: other events")
-    };
-    sent(rt, world, Side::A, init, cookie_echo);
-}
-
-// So have B's.
-fn b_tells_in_order(rt: &impl Abort, world: &World<TwoWords>) {
-    let [
-        SocketEvent::SendPacket(init_ack),
-        SocketEvent::OnConnected(),
-        SocketEvent::SendPacket(cookie_ack),
-    ] = world.events(Side::B)
-    else {
-        rt.panic("B: other events")
-    };
-    sent(rt, world, Side::B, init_ack, cookie_ack);
-}
-
-#[test]
-fn events_stand_in_order_and_packets_among_them(rt: HostRuntime) {
-    let world = world_behind_handshake(&rt, rt.alloc(), 0);
-    a_tells_in_order(&rt, &world);
-    b_tells_in_order(&rt, &world);
     drop(world);
 }
 
@@ -139,7 +94,7 @@ fn notes(rt: &impl Abort, world: &World<TwoWords>, side: Side, expected: [bool; 
 
 #[test]
 fn associations_are_noted_after_each_act(rt: HostRuntime) {
-    let world = world_behind_handshake(&rt, rt.alloc(), 0);
+    let world = world_behind_handshake(&rt, rt.alloc());
     notes(&rt, &world, Side::A, [false, true, true, true, true, true]);
     notes(
         &rt,
@@ -170,7 +125,7 @@ const CONNECT: Step = Step::Call(Side::A, Call::Connect);
 
 #[test]
 fn steps_answer_whether_a_call_was_made(rt: HostRuntime) {
-    let mut world = new_world(&rt, rt.alloc(), 0);
+    let mut world = new_world(&rt, rt.alloc());
     replies(
         &rt,
         &mut world,
@@ -210,123 +165,5 @@ fn steps_answer_whether_a_call_was_made(rt: HostRuntime) {
     replies(&rt, &mut world, "connect again", CONNECT, Reply::Done);
     same(&rt, "packets and pairs", counts(&world), [1, 1, 1]);
     same(&rt, "acts", world.associations(Side::B).len(), 8);
-    drop(world);
-}
-
-// Applies a step after the handshake: both sides have to stay connected.
-fn counts_after(rt: &impl Abort, alloc: Global, name: &str, step: Step, expected: [usize; 3]) {
-    let mut world = world_behind_handshake(rt, alloc, 0);
-    world.apply(&step).expect(rt, name);
-    same(rt, name, counts(&world), expected);
-    are_connected(rt, &world, name);
-    drop(world);
-}
-
-#[test]
-fn a_repeated_packet_adds_what_it_brings(rt: HostRuntime) {
-    let alloc = rt.alloc();
-    counts_after(
-        &rt,
-        alloc,
-        "INIT to B",
-        Step::Deliver(Side::B, 1),
-        [2, 3, 2],
-    );
-    counts_after(
-        &rt,
-        alloc,
-        "INIT ACK to A",
-        Step::Deliver(Side::A, 1),
-        [2, 2, 1],
-    );
-    counts_after(
-        &rt,
-        alloc,
-        "COOKIE ECHO to B",
-        Step::Deliver(Side::B, 2),
-        [2, 3, 1],
-    );
-    counts_after(
-        &rt,
-        alloc,
-        "COOKIE ACK to A",
-        Step::Deliver(Side::A, 2),
-        [2, 2, 1],
-    );
-}
-
-#[test]
-fn a_side_that_closes_holds_no_association(rt: HostRuntime) {
-    let mut world = world_behind_handshake(&rt, rt.alloc(), 0);
-    let close = Step::Call(Side::A, Call::Close);
-    replies(&rt, &mut world, "close", close, Reply::Done);
-    same(&rt, "packets and pairs", counts(&world), [3, 2, 1]);
-    let closed = matches!(world.events(Side::A).last(), Some(SocketEvent::OnClosed()));
-    holds(&rt, "A is closed", closed);
-    let noted = world
-        .associations(Side::A)
-        .last()
-        .expect(&rt, "none was noted");
-    holds(&rt, "A holds nothing", noted.is_none());
-    same(
-        &rt,
-        "B",
-        world.socket(Side::B).state(),
-        SocketState::Connected,
-    );
-    drop(world);
-}
-
-#[test]
-fn a_side_keeps_what_its_user_sets(rt: HostRuntime) {
-    let mut world = world_behind_handshake(&rt, rt.alloc(), 0);
-    let id = StreamId(1);
-    let calls = [
-        Step::Call(Side::A, Call::SetStreamPriority(id, 5)),
-        Step::Call(Side::A, Call::SetBufferedAmountLowThreshold(id, 7)),
-        Step::Call(Side::A, Call::SetMaxMessageSize(12)),
-    ];
-    world.run(&calls).expect(&rt, "the calls");
-    let a = world.socket(Side::A);
-    same(&rt, "priority", a.get_stream_priority(id), 5);
-    same(&rt, "threshold", a.buffered_amount_low_threshold(id), 7);
-    same(&rt, "longest message", a.options().max_message_size, 12);
-    let b = world.socket(Side::B);
-    same(&rt, "priority at B", b.get_stream_priority(id), 256);
-    are_connected(&rt, &world, "nothing else has changed");
-    same(&rt, "packets and pairs", counts(&world), [2, 2, 1]);
-    drop(world);
-}
-
-// Is the checksum of this packet of the side written as 0? It is in bytes 8 to 11.
-fn has_no_checksum(rt: &impl Abort, world: &World<TwoWords>, side: Side, at: usize) -> bool {
-    let packet = world.packets(side).get(at).expect(rt, "no such packet");
-    let field = packet.get(8..12).expect(rt, "no whole header");
-    field == [0; 4].as_slice()
-}
-
-#[test]
-fn init_and_cookie_echo_always_have_a_checksum(rt: HostRuntime) {
-    // Both sides offer the method.
-    let world = world_behind_handshake(&rt, rt.alloc(), 1);
-    same(&rt, "INIT", has_no_checksum(&rt, &world, Side::A, 0), false);
-    same(
-        &rt,
-        "COOKIE ECHO",
-        has_no_checksum(&rt, &world, Side::A, 1),
-        false,
-    );
-    same(
-        &rt,
-        "INIT ACK",
-        has_no_checksum(&rt, &world, Side::B, 0),
-        true,
-    );
-    same(
-        &rt,
-        "COOKIE ACK",
-        has_no_checksum(&rt, &world, Side::B, 1),
-        true,
-    );
     drop(world);
 }
