@@ -5,6 +5,7 @@
 set -euo pipefail
 shopt -s inherit_errexit
 cd "$(dirname "$0")/.."
+. scripts/table.bash
 
 # lines ENDING FOLDER: those of its files that are neither blank nor a comment.
 lines() {
@@ -54,22 +55,4 @@ table() {
     row "all, with $definitions attacks on definitions" "${all[@]}"
 }
 
-# The file with this table in place of its own, whose first line is the same.
-replaced() {
-    awk -v table="$1" '/^\| Crate \| Code \|/ { print table; skips = 1 } !/^\|/ { skips = 0 } !skips' "$file"
-}
-
-file=docs/MEASUREMENTS.md
-case ${1:-} in
-    --check)
-        replaced "$(table)" | diff "$file" - || {
-            echo "sizes: $file has another table; scripts/sizes.sh --write mends it" >&2
-            exit 1
-        }
-        ;;
-    --write)
-        text=$(replaced "$(table)")
-        printf '%s\n' "$text" >"$file"
-        ;;
-    *) table ;;
-esac
+keep_table sizes "$(table)" "$@"

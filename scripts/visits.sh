@@ -6,6 +6,7 @@
 set -euo pipefail
 shopt -s inherit_errexit
 cd "$(dirname "$0")/.."
+. scripts/table.bash
 
 # The table. A crate's line stands behind those of its libraries, so one pass counts the visits.
 table() {
@@ -43,22 +44,4 @@ table() {
     ' crates.txt
 }
 
-# The file with this table in place of its own, whose first line is the same.
-replaced() {
-    awk -v table="$1" '/^\| A change in \|/ { print table; skips = 1 } !/^\|/ { skips = 0 } !skips' "$file"
-}
-
-file=docs/MEASUREMENTS.md
-case ${1:-} in
-    --check)
-        replaced "$(table)" | diff "$file" - || {
-            echo "visits: $file has another table; scripts/visits.sh --write mends it" >&2
-            exit 1
-        }
-        ;;
-    --write)
-        text=$(replaced "$(table)")
-        printf '%s\n' "$text" >"$file"
-        ;;
-    *) table ;;
-esac
+keep_table visits "$(table)" "$@"
