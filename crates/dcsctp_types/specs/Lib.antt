@@ -9,3 +9,4 @@ pub mod Schedule
 pub mod Lifetimes
 pub mod Setting
 pub mod queues
+pub mod StreamTables

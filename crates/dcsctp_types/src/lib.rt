@@ -17,6 +17,7 @@ mod progress;
 mod schedule;
 mod sending;
 mod snapshot;
+mod stream_table;
 mod time;
 mod tracking;
 mod validity;
@@ -46,7 +47,8 @@ pub use snapshot::{
     HandoverReceive, HandoverSocketState, HandoverStreamMessage, HandoverTransmission,
     HandoverUnorderedStream, SocketHandoverState,
 };
-pub use time::SocketTime;
+pub use stream_table::StreamTable;
+pub use time::{SocketTime, duration_of};
 pub use tracking::{AckState, TsnRange};
 pub use word::Word;
 

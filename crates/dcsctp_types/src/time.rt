@@ -53,11 +53,16 @@ impl SocketTime {
     {
         self.nanos
     }
+}
 
-    fn since_start(self) -> Duration
-        ensures { as_nanos result ≡ self }
-    {
-        Duration::from_nanos_u128(self.nanos)
+/// The duration of that many nanoseconds. A division of 64 bits is cheaper than one of 128.
+pub fn duration_of(nanos: u128) -> Duration
+    requires { nanos ≤ max_nanos }
+    ensures { as_nanos result ≡ nanos }
+{
+    match u64::try_from(nanos) {
+        Ok(nanos) => Duration::from_nanos(nanos),
+        Err(_) => Duration::from_nanos_u128(nanos),
     }
 }
 
@@ -69,7 +74,7 @@ impl Add<Duration> for SocketTime {
 
     fn add(self, duration: Duration) -> SocketTime {
         SocketTime {
-            nanos: self.since_start().saturating_add(duration).as_nanos(),
+            nanos: (self.nanos + duration.as_nanos()).min(Duration::MAX.as_nanos()),
         }
     }
 }
@@ -82,7 +87,7 @@ impl Sub<Duration> for SocketTime {
 
     fn sub(self, duration: Duration) -> SocketTime {
         SocketTime {
-            nanos: self.since_start().saturating_sub(duration).as_nanos(),
+            nanos: self.nanos.saturating_sub(duration.as_nanos()),
         }
     }
 }
@@ -94,6 +99,6 @@ impl Sub<SocketTime> for SocketTime {
     ghost sub_gives = { λ later earlier duration. as_nanos duration ≡ later - earlier };
 
     fn sub(self, earlier: SocketTime) -> Duration {
-        self.since_start().saturating_sub(earlier.since_start())
+        duration_of(self.nanos.saturating_sub(earlier.nanos))
     }
 }

@@ -2,7 +2,7 @@
 
 ghost use Rattle.std.specs.Prelude.{◌≡◌, ◌==◌, ℕ, false, map};
 ghost use Rattle.std.specs.Bool.{OnTrue};
-ghost use Rattle.std.specs.List.{list_any, list_all};
+ghost use Rattle.std.specs.List.{list_all};
 ghost use Rattle.dcsctp_types.specs.SnapshotItems.{queued_part, outstanding_part};
 ghost use Rattle.dcsctp_types.specs.Snapshot.{snapshot, send_part, received_part, names_twice, is_valid_queued};
 ghost use Rattle.dcsctp_types.specs.Snapshot.{has_bytes_or_is_abandoned, is_valid_connected, is_valid_snapshot};
@@ -13,6 +13,7 @@ use crate::snapshot::{
     HandoverSocketState, HandoverStreamMessage, HandoverTransmission, HandoverUnorderedStream,
     SocketHandoverState,
 };
+use crate::stream_table::StreamTable;
 
 // A stream in a list of streams.
 trait Listed {
@@ -62,26 +63,17 @@ fn ascend<T: Listed>(streams: &[T]) -> bool
     true
 }
 
-// Is one of the streams that of this identifier?
-fn has_stream<T: Listed>(streams: &[T], id: u16) -> bool
-    ensures { result ≡ list_any (λ other. other == id) (map T.id_of streams.now) }
-{
-    for stream in streams {
-        if stream.identifier() == id {
-            return true;
-        }
-    }
-    false
-}
-
-// Does an identifier stand twice? Compares each pair.
-fn has_equal_pair<T: Listed>(streams: &[T]) -> bool
+// Does an identifier stand twice? One pass, with a bit for each identifier that came.
+fn has_repeat<T: Listed>(streams: &[T]) -> bool
     ensures { result ≡ names_twice (map T.id_of streams.now) }
 {
-    for (i, stream) in streams.iter().enumerate() {
-        if has_stream(&streams[i + 1..], stream.identifier()) {
+    let mut seen = StreamTable::new();
+    for stream in streams {
+        let id = stream.identifier();
+        if seen.has(u64::from(id)) {
             return true;
         }
+        seen.mark(id);
     }
     false
 }
@@ -90,7 +82,7 @@ fn has_equal_pair<T: Listed>(streams: &[T]) -> bool
 fn has_twice<T: Listed>(streams: &[T]) -> bool
     ensures { result ≡ names_twice (map T.id_of streams.now) }
 {
-    !ascend(streams) && has_equal_pair(streams)
+    !ascend(streams) && has_repeat(streams)
 }
 
 // Does each message have bytes that weren't sent?
