@@ -5,7 +5,7 @@ ghost use Rattle.std.specs.Duration.{as_nanos};
 ghost use Rattle.std.specs.Option.{option_map};
 ghost use Rattle.dcsctp_spec.specs.queues.Timeout.{smoothed, variance_with};
 
-use dcsctp_spec::types::Options;
+use dcsctp_spec::types::{Options, duration_of};
 use std::marker::Model;
 use std::time::Duration;
 
@@ -15,7 +15,7 @@ fn smoothed(variance: Option<Duration>, srtt: Duration, rtt: Duration) -> Durati
 {
     match variance {
         None => rtt,
-        Some(_) => Duration::from_nanos_u128((7 * srtt.as_nanos() + rtt.as_nanos()) / 8),
+        Some(_) => duration_of((7 * srtt.as_nanos() + rtt.as_nanos()) / 8),
     }
 }
 
@@ -24,10 +24,10 @@ fn variance_with(variance: Option<Duration>, srtt: Duration, rtt: Duration) -> D
     ensures { as_nanos result ≡ variance_with (option_map as_nanos variance) (as_nanos srtt) (as_nanos rtt) }
 {
     match variance {
-        None => Duration::from_nanos_u128(rtt.as_nanos() / 2),
+        None => duration_of(rtt.as_nanos() / 2),
         Some(variance) => {
             let distance = srtt.abs_diff(rtt).as_nanos();
-            Duration::from_nanos_u128((3 * variance.as_nanos() + distance) / 4)
+            duration_of((3 * variance.as_nanos() + distance) / 4)
         }
     }
 }
@@ -63,7 +63,7 @@ impl Bounds {
     {
         let margin = (4 * variance.as_nanos()).max(self.min_rtt_variance.as_nanos());
         let wanted = (srtt.as_nanos() + margin).max(self.rto_min.as_nanos());
-        Duration::from_nanos_u128(wanted.min(self.rto_max.as_nanos()))
+        duration_of(wanted.min(self.rto_max.as_nanos()))
     }
 }
 
