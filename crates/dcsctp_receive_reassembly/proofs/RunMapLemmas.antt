@@ -4,8 +4,8 @@ use Rattle.std.specs.Prelude.{slice_get, IsSome, nat_le}
 use Rattle.std.specs.Option.{option_map}
 use Rattle.std.specs.Ordering.{nat_cmp, is_eq}
 use Rattle.std.specs.BTreeMap.{BTreeMap, get, is_at, WritesThrough, UpdatesBy}
-use Rattle.std.specs.Option.{option_copied, option_copied_mut}
-use denote.Ref.{Bor, MutBor}
+use Rattle.std.specs.Option.{option_copied_mut}
+use denote.Ref.{MutBor}
 use Rattle.std.specs.VecDeque.{deque_capacity}
 use Rattle.std.proofs.Common.{Vec, Global}
 use Rattle.std.specs.Map.{lookup, set_value, remove_entry}
@@ -15,7 +15,7 @@ use Rattle.dcsctp_receive_ordered_map.specs.Entries.{Ascends, count_up_to, HasKe
 use Rattle.dcsctp_api.specs.spec.queues.Runs.{entry_before, RunModel, PartModel, holds, holds_some, is_held_before, single_run, merged, with_part, without_runs, IsPlace, StartsUpTo, StartsBehind}
 use Rattle.dcsctp_receive_ordered_map.proofs.EntryLemmas.{remove_at, set_at, lookup_at, find_key, lookup_split, get-map, entry_before-map, count_places, key_from_some, cmp_less, cmp_greater, get_behind_put, put_over_next, put_again, get_before_taken, link_next, ordered_at}
 use Rattle.dcsctp_receive_reassembly.specs.declared.runs.Run.{Run}
-use Rattle.dcsctp_receive_reassembly.specs.Runs.{run_of, BeginsAt, RoomIn, HasRoom}
+use Rattle.dcsctp_receive_reassembly.specs.Runs.{run_of, BeginsAt, RoomIn, HasRoom, CanLink, CanLinkAt}
 
 pub found : (first i : ℕ) (es : List (ℕ × Run)) → BeginsAt first (slice_get (map run_of es) i) → (value : Run) × (slice_get es i ≡ Some (first, value))
 found first i [] begins = absurd begins
@@ -244,9 +244,12 @@ kept_between (suc i) first next part before behind after runs es old new taken i
     ∙ ap (λ place. take place runs ++ merged (slice_get runs i) part (slice_get runs (suc i)) ∷ drop (suc (suc i)) runs) (less i)
 
 -- two runs that read alike have as many parts
-pub as_long : (first at : ℕ) (run other : Run) (es fs : List (ℕ × Run)) → Ascends es → Ascends fs → map run_of fs ≡ map run_of es → BeginsAt first (slice_get (map run_of es) at) → lookup (is_at (nat_cmp first)) es ≡ Some run → lookup (is_at (nat_cmp first)) fs ≡ Some other → length run.others.items ≡ length other.others.items
-as_long first at run other es fs ascends ascends' same begins is is' =
-    let models : Some (run_of (first, run)) ≡ Some (run_of (first, other)) = sym (lookup_shows first at run es ascends begins is) ∙ ap (λ all. slice_get all at) (sym same) ∙ lookup_shows first at other fs ascends' (subst (λ all. BeginsAt first (slice_get all at)) (sym same) begins) is' in
+as_long : (first : ℕ) (run other : Run) (es fs : List (ℕ × Run)) → Ascends es → Ascends fs → map run_of fs ≡ map run_of es → lookup (is_at (nat_cmp first)) es ≡ Some run → lookup (is_at (nat_cmp first)) fs ≡ Some other → length run.others.items ≡ length other.others.items
+as_long first run other es fs ascends ascends' same is is' =
+    let key = key_from_some first run es ascends is in
+    let here : slice_get (map run_of es) key.0 ≡ Some (run_of (first, run)) = get-map run_of key.0 es ∙ ap (λ o. option_map run_of o) key.1 in
+    let begins : BeginsAt first (slice_get (map run_of fs) key.0) = subst (λ o. BeginsAt first o) (sym here ∙ ap (λ all. slice_get all key.0) (sym same)) refl in
+    let models : Some (run_of (first, run)) ≡ Some (run_of (first, other)) = sym here ∙ ap (λ all. slice_get all key.0) (sym same) ∙ lookup_shows first key.0 other fs ascends' begins is' in
     let lengths : suc (length (map (λ (payload : Vec ℕ Global). payload.items) run.others.items)) ≡ suc (length (map (λ (payload : Vec ℕ Global). payload.items) other.others.items)) = ap (λ o. parts_of o) models in
     omega (arith, lengths, length-map run.others.items (λ (payload : Vec ℕ Global). payload.items), length-map other.others.items (λ (payload : Vec ℕ Global). payload.items))
   where
@@ -254,8 +257,23 @@ as_long first at run other es fs ascends ascends' same begins is is' =
     parts_of None = 0
     parts_of (Some run) = length run.payloads
 
-pub room_in : (count : ℕ) (o : Option Run) (run : Run) → RoomIn count o → o ≡ Some run → length run.others.items + count ≤ deque_capacity run.others
+room_in : (count : ℕ) (o : Option Run) (run : Run) → RoomIn count o → o ≡ Some run → length run.others.items + count ≤ deque_capacity run.others
 room_in count o run room is = subst (λ o. RoomIn count o) is room
+
+-- there is room in the longer of two runs, the one in front or the one behind
+pub room_in_front : (first next : ℕ) (front back : Run) (old new : BTreeMap ℕ Run) → Ascends old.entries → Ascends new.entries → map run_of new.entries ≡ map run_of old.entries → get nat_cmp old first ≡ Some front → get nat_cmp old next ≡ Some back → length back.others.items ≤ length front.others.items → HasRoom first (length back.others.items + 2) new → CanLinkAt first next new
+room_in_front first next front back old new ascends ascends' same is is' shorter room = λ front' back' there there'.
+    let fronts = as_long first front front' old.entries new.entries ascends ascends' same is there in
+    let backs = as_long next back back' old.entries new.entries ascends ascends' same is' there' in
+    let here = room_in (length back.others.items + 2) (get nat_cmp new first) front' room there in
+    (λ (fits : length back'.others.items ≤ length front'.others.items). omega (arith, fronts, backs, here), λ (more : length front'.others.items < length back'.others.items). absurd (omega (arith, fronts, backs, shorter, more)))
+
+pub room_in_back : (first next : ℕ) (front back : Run) (old new : BTreeMap ℕ Run) → Ascends old.entries → Ascends new.entries → map run_of new.entries ≡ map run_of old.entries → get nat_cmp old first ≡ Some front → get nat_cmp old next ≡ Some back → length front.others.items < length back.others.items → HasRoom next (length front.others.items + 2) new → CanLinkAt first next new
+room_in_back first next front back old new ascends ascends' same is is' shorter room = λ front' back' there there'.
+    let fronts = as_long first front front' old.entries new.entries ascends ascends' same is there in
+    let backs = as_long next back back' old.entries new.entries ascends ascends' same is' there' in
+    let here = room_in (length front.others.items + 2) (get nat_cmp new next) back' room there' in
+    (λ (fits : length back'.others.items ≤ length front'.others.items). absurd (omega (arith, fronts, backs, shorter, fits)), λ (more : length front'.others.items < length back'.others.items). omega (arith, fronts, backs, here))
 
 -- ---- runs that are taken out
 
@@ -291,10 +309,6 @@ pub before_looked_up : (at first : ℕ) (es : List (ℕ × Run)) → Ascends es 
 before_looked_up zero first es ascends begins = absurd begins
 before_looked_up (suc i) first es ascends begins = looked_up first i es ascends begins
 
-pub shared_some : (lent : Option (Bor Run)) → IsSome (option_copied lent) → IsSome lent
-shared_some None is = is
-shared_some (Some run) is = is
-
 -- the places of the runs on both sides differ
 pub sides_apart : (place at first next : ℕ) (es : List (ℕ × Run)) → Ascends es → at ≡ count_up_to place es → BeginsAt first (entry_before at (map run_of es)) → BeginsAt next (slice_get (map run_of es) at) → first < next
 sides_apart place zero first next es ascends is before behind = absurd before
@@ -303,7 +317,7 @@ sides_apart place (suc i) first next es ascends is before behind =
     let back = found next (suc i) es behind in
     ordered_at es ascends i (first, front.0) (next, back.0) front.1 back.1
 
--- the run before has room still once the next one was taken out
-pub room_after : (count first next : ℕ) (old new : BTreeMap ℕ Run) (run : Run) → first < next → HasRoom first count old → UpdatesBy nat_cmp (nat_cmp next) old new None → get nat_cmp new first ≡ Some run → length run.others.items + count ≤ deque_capacity run.others
-room_after count first next old new run less room updates is =
-    room_in count (get nat_cmp old first) run room (sym (updates.2 first (cmp_above next first less)) ∙ is)
+-- the two runs can be linked still once the next one was taken out
+pub links_after : (first next : ℕ) (old new : BTreeMap ℕ Run) (front back : Run) → first < next → CanLinkAt first next old → UpdatesBy nat_cmp (nat_cmp next) old new None → get nat_cmp old next ≡ Some back → get nat_cmp new first ≡ Some front → CanLink front back
+links_after first next old new front back less room updates is is' =
+    room front back (sym (updates.2 first (cmp_above next first less)) ∙ is') is

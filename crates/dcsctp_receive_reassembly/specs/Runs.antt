@@ -1,5 +1,5 @@
 -- Runs of parts in memory, as the machine has them, and what is true of maps of them.
-use Rattle.std.specs.Prelude.{◌≡◌, ℕ, ◌+◌, ◌≤◌, nat_le, Bool, false, if◌then◌else◌, Option, None, Some, List, [], ◌∷◌, length, map}
+use Rattle.std.specs.Prelude.{◌≡◌, ℕ, ◌+◌, ◌<◌, ◌≤◌, nat_le, Bool, false, if◌then◌else◌, Option, None, Some, List, [], ◌∷◌, length, map}
 use denote.Ref.{Bor}
 use Rattle.std.specs.VecDeque.{deque_capacity}
 use Rattle.std.specs.BTreeMap.{BTreeMap, get}
@@ -52,6 +52,17 @@ RoomIn count (Some run) = length run.others.items + count ≤ deque_capacity run
 
 abbrev pub HasRoom : ℕ → ℕ → BTreeMap ℕ Run → Type 0
 HasRoom first count runs = RoomIn count (get nat_cmp runs first)
+
+-- Is there room for a part between two runs: in the longer one, for the part and for the shorter one?
+abbrev pub CanLink : Run → Run → Type 0
+CanLink front back =
+    (length back.others.items ≤ length front.others.items → length front.others.items + 2 + length back.others.items ≤ deque_capacity front.others)
+    × (length front.others.items < length back.others.items → length front.others.items + 2 + length back.others.items ≤ deque_capacity back.others)
+
+-- the same of the runs that begin at these places
+abbrev pub CanLinkAt : ℕ → ℕ → BTreeMap ℕ Run → Type 0
+CanLinkAt first next runs =
+    (front back : Run) → get nat_cmp runs first ≡ Some front → get nat_cmp runs next ≡ Some back → CanLink front back
 
 -- Is there a first run, and does it begin at the place or before it?
 abbrev pub begins_up_to : ℕ → List RunModel → Bool

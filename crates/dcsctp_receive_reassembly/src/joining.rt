@@ -5,30 +5,23 @@ ghost use Rattle.std.specs.Prelude.{
   ◌≡◌,
   ℕ,
   is_some,
-  ◌+◌,
-  ◌<◌,
-  ◌≤◌,
   ◌++◌,
   IfOk,
   OnOk,
   OnErr,
-  IsSome,
-  length,
   map,
   slice_get,
   true,
   false,
-  None,
-  Some,
 };
 ghost use Rattle.std.specs.Option.{option_map};
-ghost use Rattle.std.specs.VecDeque.{deque_capacity};
 ghost use Rattle.std.specs.BTreeMap.{IsOrdered, get, is_at};
 ghost use Rattle.std.specs.Ordering.{nat_cmp};
 ghost use Rattle.dcsctp_receive_ordered_map.specs.Entries.{count_up_to};
-ghost use Rattle.dcsctp_api.specs.spec.queues.Runs.{entry_before, PartModel, whole_run, follows, precedes, following, run_behind, single_run, merged, is_whole, joined_bytes, with_part, without_runs, holds_some, is_held_before, AddsPart};
-ghost use Rattle.dcsctp_receive_reassembly.specs.Runs.{assembled_of, run_of, part_of, whole_of, lent_run, BeginsAt, BeginsIf, HasRoom, IsOfMessage};
+ghost use Rattle.dcsctp_api.specs.spec.queues.Runs.{entry_before, whole_run, follows, precedes, following, run_behind, single_run, merged, is_whole, joined_bytes, with_part, without_runs, holds_some, is_held_before, AddsPart};
+ghost use Rattle.dcsctp_receive_reassembly.specs.Runs.{assembled_of, run_of, part_of, whole_of, lent_run, BeginsAt, BeginsIf, IsOfMessage};
 
+use crate::linking::{append, link, reserve, reserve_between, take_over};
 use crate::runs::{Assembled, Part, Run, Whole, holds, run_up_to, size_of_run};
 use dcsctp_receive_ordered_map::{entry_behind, put_entry};
 use std::alloc::{AllocError, Global};
@@ -126,49 +119,6 @@ fn joined(
     })
 }
 
-// The part goes between two runs of its message, which become one, the first. There is room in it.
-fn link(run: &mut Run, payload: Vec<u8>, behind: Run)
-    requires { length run.old.others.items + 2 + length behind.others.items ≤ deque_capacity run.old.others }
-    ensures { (first next : ℕ) (part : PartModel) → part.payload ≡ payload.items → run_of (first, run.new) ≡ merged (Some (run_of (first, run.old))) part (Some (run_of (next, behind))) }
-{
-    let Run {
-        payload: next,
-        mut others,
-        has_end,
-        ..
-    } = behind;
-    run.others.push_back_reserved(payload);
-    run.others.push_back_reserved(next);
-    run.others.append(&mut others).unwrap();
-    run.has_end = has_end;
-}
-
-// The part follows on the last part of a run.
-fn append(run: &mut Run, part: Part) -> Result<(), AllocError>
-    ensures ok { OnOk result ((first : ℕ) → run_of (first, run.new) ≡ merged (Some (run_of (first, run.old))) (part_of part) None) }
-    ensures err { OnErr result ((first : ℕ) → run_of (first, run.new) ≡ run_of (first, run.old)) }
-{
-    run.others.push_back(part.payload)?;
-    run.has_end = part.is_end;
-    Ok(())
-}
-
-// The parts of another run follow on those of a run of one part. There is room for one more in front.
-fn take_over(run: &mut Run, behind: Run)
-    requires { length behind.others.items < deque_capacity behind.others }
-    ensures { (next : ℕ) (part : PartModel) → run_of (part.place, run.old) ≡ single_run part → run_of (part.place, run.new) ≡ merged None part (Some (run_of (next, behind))) }
-{
-    let Run {
-        payload,
-        mut others,
-        has_end,
-        ..
-    } = behind;
-    others.push_front(payload).unwrap();
-    run.others = others;
-    run.has_end = has_end;
-}
-
 // The run before the part, if the part follows on it.
 fn run_before<'x>(nearest: Option<(u128, &'x Run)>, part: &Part) -> Option<(u128, &'x Run)>
     ensures { lent_run result ≡ following (lent_run nearest.entry) (part_of part.now) }
@@ -232,25 +182,6 @@ fn keep_before(runs: &mut BTreeMap<u128, Run>, first: u128, part: Part) -> Resul
     append(runs.get_mut(&first).unwrap(), part)
 }
 
-// Makes room in a run for that many more parts.
-fn reserve_in(run: &mut Run, count: usize) -> Result<(), AllocError>
-    ensures kept { (first : ℕ) → run_of (first, run.new) ≡ run_of (first, run.old) }
-    ensures room { OnOk result (length run.new.others.items + count ≤ deque_capacity run.new.others) }
-{
-    run.others.try_reserve(count)?;
-    Ok(())
-}
-
-// Makes room in the run that begins at this place for that many more parts.
-fn reserve(runs: &mut BTreeMap<u128, Run>, first: u128, count: usize) -> Result<(), AllocError>
-    requires there { IsSome (get nat_cmp runs.old first) }
-    ensures kept { map run_of runs.new.entries ≡ map run_of runs.old.entries }
-    ensures room { OnOk result (HasRoom first count runs.new) }
-    ensures ordered { IsOrdered nat_cmp runs.new }
-{
-    reserve_in(runs.get_mut(&first).unwrap(), count)
-}
-
 // The part goes to the run after it, which begins at `next` and there from now on. All memory is allocated
 // first.
 fn keep_behind(
@@ -273,7 +204,7 @@ fn keep_behind(
     Ok(())
 }
 
-// The part goes between two runs, which become one.
+// The part goes between two runs, which become one. All memory is allocated first.
 fn keep_between(
     runs: &mut BTreeMap<u128, Run>,
     first: u128,
@@ -286,8 +217,7 @@ fn keep_between(
     ensures ok { OnOk result (map run_of runs.new.entries ≡ with_part true true (count_up_to part.place runs.old.entries) (part_of part) (map run_of runs.old.entries)) }
     ensures err { OnErr result (map run_of runs.new.entries ≡ map run_of runs.old.entries) }
 {
-    let count = runs.get(&next).unwrap().others.len();
-    reserve(runs, first, count + 2)?;
+    reserve_between(runs, first, next)?;
     let behind = runs.remove(&next).unwrap();
     link(runs.get_mut(&first).unwrap(), part.payload, behind);
     Ok(())

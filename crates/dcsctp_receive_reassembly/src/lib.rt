@@ -6,6 +6,7 @@ mod arrivals;
 mod handover;
 mod incoming;
 mod joining;
+mod linking;
 mod named;
 mod named_table;
 mod numbers;

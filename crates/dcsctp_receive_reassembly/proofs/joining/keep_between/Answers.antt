@@ -1,39 +1,37 @@
 -- The two runs and the part between them are one, and the others stay.
-use Rattle.std.proofs.Common.{◌+◌, ◌∙◌, map, arith, refl, ap, subst, sym}
+use Rattle.std.proofs.Common.{◌∙◌, map, refl, ap, subst, sym}
 use Rattle.std.specs.Prelude.{slice_get, IsSome}
-use Rattle.std.specs.Option.{option_copied, option_copied_mut}
+use Rattle.std.specs.Option.{option_copied_mut}
 use Rattle.dcsctp_receive_ordered_map.specs.Entries.{count_up_to}
 use Rattle.dcsctp_receive_reassembly.specs.Runs.{run_of, part_of, BeginsAt}
-use Rattle.dcsctp_receive_reassembly.proofs.RunMapLemmas.{NextTaken, looked_up, before_looked_up, lent_some, first_looked_up, as_long, kept_between, room_after, shared_some, sides_apart}
+use Rattle.dcsctp_receive_reassembly.proofs.RunMapLemmas.{NextTaken, looked_up, before_looked_up, lent_some, first_looked_up, kept_between, links_after, sides_apart}
 use Rattle.dcsctp_receive_reassembly.proofs.joining.keep_between.Goals as goal
 
-pub unwrap-requires : goal.unwrap-requires
-unwrap-requires c =
-    shared_some c.get.result (subst (λ o. IsSome o) (sym c.get.ensures.value) (looked_up c.args.next (count_up_to c.args.part.place c.args.runs.now.entries) c.args.runs.now.entries c.requires.ordered c.requires.behind))
-
-pub reserve-requires : goal.reserve-requires
-reserve-requires c =
-    record { there = before_looked_up (count_up_to c.args.part.place c.args.runs.now.entries) c.args.first c.args.runs.now.entries c.requires.ordered c.requires.before }
+pub reserve_between-requires : goal.reserve_between-requires
+reserve_between-requires c =
+    record {
+      front = before_looked_up (count_up_to c.args.part.place c.args.runs.now.entries) c.args.first c.args.runs.now.entries c.requires.ordered c.requires.before;
+      back = looked_up c.args.next (count_up_to c.args.part.place c.args.runs.now.entries) c.args.runs.now.entries c.requires.ordered c.requires.behind;
+      ordered = c.requires.ordered;
+    }
 
 pub unwrap-behind-requires : goal.unwrap-behind-requires
 unwrap-behind-requires c =
-    subst (λ o. IsSome o) (sym c.remove.ensures.value) (looked_up c.args.next (count_up_to c.args.part.place c.args.runs.now.entries) c.reserve.new.runs.entries c.reserve.ensures.ordered (subst (λ all. BeginsAt c.args.next (slice_get all (count_up_to c.args.part.place c.args.runs.now.entries))) (sym c.reserve.ensures.kept) c.requires.behind))
+    subst (λ o. IsSome o) (sym c.remove.ensures.value) (looked_up c.args.next (count_up_to c.args.part.place c.args.runs.now.entries) c.reserve_between.new.runs.entries c.reserve_between.ensures.ordered (subst (λ all. BeginsAt c.args.next (slice_get all (count_up_to c.args.part.place c.args.runs.now.entries))) (sym c.reserve_between.ensures.kept) c.requires.behind))
 
-pub unwrap-requires-2 : goal.unwrap-requires-2
-unwrap-requires-2 c =
-    let taken : NextTaken (count_up_to c.args.part.place c.args.runs.now.entries) c.args.first c.args.next (map run_of c.args.runs.now.entries) c.reserve.new.runs.entries c.remove.new.self.entries = record { before = c.requires.before; behind = c.requires.behind; shows = c.reserve.ensures.kept; ascends = c.reserve.ensures.ordered; left = c.remove.ensures.entries; ascends' = c.remove.ensures.ordered } in
-    lent_some c.get_mut.result (subst (λ o. IsSome o) (sym c.get_mut.ensures.value) (first_looked_up (count_up_to c.args.part.place c.args.runs.now.entries) c.args.first c.args.next (map run_of c.args.runs.now.entries) c.reserve.new.runs.entries c.remove.new.self.entries taken))
+pub unwrap-requires : goal.unwrap-requires
+unwrap-requires c =
+    let taken : NextTaken (count_up_to c.args.part.place c.args.runs.now.entries) c.args.first c.args.next (map run_of c.args.runs.now.entries) c.reserve_between.new.runs.entries c.remove.new.self.entries = record { before = c.requires.before; behind = c.requires.behind; shows = c.reserve_between.ensures.kept; ascends = c.reserve_between.ensures.ordered; left = c.remove.ensures.entries; ascends' = c.remove.ensures.ordered } in
+    lent_some c.get_mut.result (subst (λ o. IsSome o) (sym c.get_mut.ensures.value) (first_looked_up (count_up_to c.args.part.place c.args.runs.now.entries) c.args.first c.args.next (map run_of c.args.runs.now.entries) c.reserve_between.new.runs.entries c.remove.new.self.entries taken))
 
 pub link-requires : goal.link-requires
 link-requires c =
-    let counted = as_long c.args.next (count_up_to c.args.part.place c.args.runs.now.entries) c.unwrap.result.now c.unwrap-behind.result c.args.runs.now.entries c.reserve.new.runs.entries c.requires.ordered c.reserve.ensures.ordered c.reserve.ensures.kept c.requires.behind (sym c.get.ensures.value ∙ ap (λ o. option_copied o) c.unwrap.ensures) (sym c.remove.ensures.value ∙ c.unwrap-behind.ensures) in
     let less = sides_apart c.args.part.place (count_up_to c.args.part.place c.args.runs.now.entries) c.args.first c.args.next c.args.runs.now.entries c.requires.ordered refl c.requires.before c.requires.behind in
-    let room = room_after (c.len-count.result + 2) c.args.first c.args.next c.reserve.new.runs c.remove.new.self c.unwrap-2.result.now less c.in_ok-reserve.ensures.room c.remove.ensures.updates (sym c.get_mut.ensures.value ∙ ap (λ o. option_copied_mut o) c.unwrap-2.ensures) in
-    omega (arith, counted, room, c.len-count.ensures)
+    links_after c.args.first c.args.next c.reserve_between.new.runs c.remove.new.self c.unwrap.result.now c.unwrap-behind.result less c.in_ok-reserve_between.ensures.room c.remove.ensures.updates (sym c.remove.ensures.value ∙ c.unwrap-behind.ensures) (sym c.get_mut.ensures.value ∙ ap (λ o. option_copied_mut o) c.unwrap.ensures)
 
 pub returns-clause-ok : goal.returns-clause-ok
 returns-clause-ok c =
-    let taken : NextTaken (count_up_to c.args.part.place c.args.runs.now.entries) c.args.first c.args.next (map run_of c.args.runs.now.entries) c.reserve.new.runs.entries c.remove.new.self.entries = record { before = c.requires.before; behind = c.requires.behind; shows = c.reserve.ensures.kept; ascends = c.reserve.ensures.ordered; left = c.remove.ensures.entries; ascends' = c.remove.ensures.ordered } in
-    kept_between (count_up_to c.args.part.place c.args.runs.now.entries) c.args.first c.args.next (part_of c.args.part) c.unwrap-2.result.now c.unwrap-behind.result c.link.new.run (map run_of c.args.runs.now.entries) c.reserve.new.runs.entries c.remove.new.self (c.get_mut.follows.lender c.link.new.run)
-    taken (sym c.remove.ensures.value ∙ c.unwrap-behind.ensures) (sym c.get_mut.ensures.value ∙ ap (λ o. option_copied_mut o) c.unwrap-2.ensures) (c.get_mut.follows.holds c.link.new.run)
+    let taken : NextTaken (count_up_to c.args.part.place c.args.runs.now.entries) c.args.first c.args.next (map run_of c.args.runs.now.entries) c.reserve_between.new.runs.entries c.remove.new.self.entries = record { before = c.requires.before; behind = c.requires.behind; shows = c.reserve_between.ensures.kept; ascends = c.reserve_between.ensures.ordered; left = c.remove.ensures.entries; ascends' = c.remove.ensures.ordered } in
+    kept_between (count_up_to c.args.part.place c.args.runs.now.entries) c.args.first c.args.next (part_of c.args.part) c.unwrap.result.now c.unwrap-behind.result c.link.new.run (map run_of c.args.runs.now.entries) c.reserve_between.new.runs.entries c.remove.new.self (c.get_mut.follows.lender c.link.new.run)
+    taken (sym c.remove.ensures.value ∙ c.unwrap-behind.ensures) (sym c.get_mut.ensures.value ∙ ap (λ o. option_copied_mut o) c.unwrap.ensures) (c.get_mut.follows.holds c.link.new.run)
     (c.link.ensures c.args.first c.args.next (part_of c.args.part) refl)

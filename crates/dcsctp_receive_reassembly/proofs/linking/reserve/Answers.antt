@@ -4,7 +4,7 @@ use Rattle.std.specs.Option.{option_copied_mut}
 use Rattle.dcsctp_receive_reassembly.specs.Runs.{RoomIn}
 use Rattle.dcsctp_receive_reassembly.proofs.ResultFacts.{ok_then}
 use Rattle.dcsctp_receive_reassembly.proofs.RunMapLemmas.{written_same, written_found}
-use Rattle.dcsctp_receive_reassembly.proofs.joining.reserve.Goals as goal
+use Rattle.dcsctp_receive_reassembly.proofs.linking.reserve.Goals as goal
 
 pub returns-clause-kept : goal.returns-clause-kept
 returns-clause-kept c =
