@@ -20,10 +20,10 @@ one_kind history (plain kinds) = data_alone kinds
 one_kind history (interleaved kinds few below apart) = interleaved_alone kinds few
 
 -- where a part lies, by whether it is of I-DATA
-pub placed_plain : (base offset : ℕ) (piece : Piece) (number place : ℕ) → piece.is_interleaved ≡ false → IsPlaced base offset piece number place → place ≡ base + offset
+pub placed_plain : (base : ℕ → ℕ) (offset : ℕ) (piece : Piece) (number place : ℕ) → piece.is_interleaved ≡ false → IsPlaced base offset piece number place → place ≡ base number + offset
 placed_plain base offset piece number place kind placed = subst (λ (b : Bool). PlacedBy b base offset piece.fsn number place) kind placed
 
-pub placed_interleaved : (base offset : ℕ) (piece : Piece) (number place : ℕ) → piece.is_interleaved ≡ true → IsPlaced base offset piece number place → place ≡ fragment_place number (piece.fsn % 2 ^ 32)
+pub placed_interleaved : (base : ℕ → ℕ) (offset : ℕ) (piece : Piece) (number place : ℕ) → piece.is_interleaved ≡ true → IsPlaced base offset piece number place → place ≡ fragment_place number (piece.fsn % 2 ^ 32)
 placed_interleaved base offset piece number place kind placed = subst (λ (b : Bool). PlacedBy b base offset piece.fsn number place) kind placed
 
 module _ (queued : List Message) (log : List Slot) (cut : Cut queued log) where
@@ -54,7 +54,7 @@ module _ (queued : List Message) (log : List Slot) (cut : Cut queued log) where
             omega (arith, earlier, fsn))
       ]
 
-module _ (queued : List Message) (log : List Slot) (cut : Cut queued log) (told : OneKind log) (got : List ℕ) (base : ℕ) (Named : Piece → ℕ → Type 0)
+module _ (queued : List Message) (log : List Slot) (cut : Cut queued log) (told : OneKind log) (got : List ℕ) (base : ℕ → ℕ) (Named : Piece → ℕ → Type 0)
     (tells : (m n : ℕ) (f g : Piece) (number : ℕ) → at_place m log ≡ Some (Some f) → at_place n log ≡ Some (Some g) → f.is_interleaved ≡ true → g.is_interleaved ≡ true → Named f number → Named g number → f.place ≡ g.place) where
   numbers_follow : (fsn other length' front back number : ℕ) → front ≡ fragment_place number (fsn % 2 ^ 32) → back ≡ fragment_place number (other % 2 ^ 32) → back ≡ front + length' → other % 2 ^ 32 ≡ fsn % 2 ^ 32 + length'
   numbers_follow fsn other length' front back number is is' follows = omega (arith, is, is', follows)
@@ -72,7 +72,8 @@ module _ (queued : List Message) (log : List Slot) (cut : Cut queued log) (told 
       go (data_alone kinds) =
           let here = placed_plain base f.offset f.head front.number front.first (kinds f.offset f.head f.at_head) f.first in
           let there = placed_plain base b.offset b.head back.number back.first (kinds b.offset b.head b.at_head) b.first in
-          omega (arith, here, there, follows)
+          let alike : base front.number ≡ base back.number = ap base same in
+          omega (arith, here, there, alike, follows)
       go (interleaved_alone kinds few) =
           let here = placed_interleaved base f.offset f.head front.number front.first (kinds f.offset f.head f.at_head) f.first in
           let there = placed_interleaved base b.offset b.head back.number back.first (kinds b.offset b.head b.at_head) b.first in

@@ -39,7 +39,7 @@ module _ (history wider : History) (goes : GoesOn history wider) where
         below = λ n f at on kind is. w.below n f (goes.stays n (Some f) at) on kind (goes.current n f at is);
       })
 
-  module _ (got : List ℕ) (base : ℕ) (Named Other : Piece → ℕ → Type 0) (less : (n : ℕ) (f : Piece) (number : ℕ) → at_place n history.log ≡ Some (Some f) → Named f number → Other f number) where
+  module _ (got : List ℕ) (base : ℕ → ℕ) (Named Other : Piece → ℕ → Type 0) (less : (n : ℕ) (f : Piece) (number : ℕ) → at_place n history.log ≡ Some (Some f) → Named f number → Other f number) where
     row_more : (run : RunModel) → IsRow history.log got base Named run → IsRow wider.log got base Other run
     row_more run row =
         record {

@@ -12,7 +12,7 @@ use Rattle.dcsctp_delivery_sending.specs.Places.{at_place}
 use Rattle.dcsctp_delivery_sending.specs.Log.{Message, Slot, Mark, History, grown, with_mark, new_history}
 use Rattle.dcsctp_delivery_sending.specs.Numbers.{AreCurrent}
 use Rattle.dcsctp_delivery_receiving.specs.Rows.{IsQueued}
-use Rattle.dcsctp_delivery_receiving.specs.Ready.{IsOn, IsApart, IsOfStream, WereQueued, WaitQueued, Holds}
+use Rattle.dcsctp_delivery_receiving.specs.Ready.{IsOn, IsApart, IsOfStream, ordered_base, unordered_base, WereQueued, WaitQueued, Holds}
 use Rattle.dcsctp_delivery_receiving.specs.Received.{Reassembles, untouched, placed, Received}
 use Rattle.dcsctp_delivery_sending.proofs.Packets.{at_more}
 use Rattle.dcsctp_delivery_sending.proofs.Places.{at_new, at_cases, at_stays}
@@ -61,15 +61,15 @@ module _ (queued more : List Message) (history wider : History) (goes : GoesOn h
             record {
               rows = record {
                 is = s.rows.is;
-                ordered = rows_more history wider goes got base (IsOn history id) (IsOn wider id) (on_more history wider goes id) (stream_on id incoming.streams).ordered s.rows.ordered;
-                unordered = rows_more history wider goes got base (IsApart history id) (IsApart wider id) (apart_more history wider goes id) (stream_on id incoming.streams).unordered s.rows.unordered;
+                ordered = rows_more history wider goes got (ordered_base base) (IsOn history id) (IsOn wider id) (on_more history wider goes id) (stream_on id incoming.streams).ordered s.rows.ordered;
+                unordered = rows_more history wider goes got (ordered_base base) (IsApart history id) (IsApart wider id) (apart_more history wider goes id) (stream_on id incoming.streams).unordered s.rows.unordered;
                 next = reads_more history wider goes id false (stream_on id incoming.streams).next s.rows.next;
                 last = reads_more history wider goes id true (stream_on id incoming.streams).last_unordered s.rows.last;
               };
               wait = wait_more got id (holds.waits id) (stream_on id incoming.streams).waiting s.wait;
             }
             );
-        rows = rows_more history wider goes got base IsOfStream IsOfStream (λ n f number at named. named) incoming.unordered holds.rows;
+        rows = rows_more history wider goes got (unordered_base base) IsOfStream IsOfStream (λ n f number at named. named) incoming.unordered holds.rows;
         places = holds.places;
         were_queued = were_more queued more holds.places incoming.ready holds.were_queued;
         spent = λ p h. spent_more history wider goes got p (holds.spent p h);

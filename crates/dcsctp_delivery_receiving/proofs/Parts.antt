@@ -1,18 +1,18 @@
 -- The part out of a chunk that carries its piece.
-use Rattle.std.proofs.Common.{◌≡◌, ℕ, ◌%◌, ◌^◌, Bool, true, false, sym, ap, subst}
+use Rattle.std.proofs.Common.{◌≡◌, ℕ, ◌%◌, ◌^◌, Bool, true, false, ◌+◌, sym, ap, arith, subst}
 use Rattle.dcsctp_spec_lemmas.specs.spec.queues.Numbers.{number_near, fragment_place}
 use Rattle.dcsctp_spec_lemmas.specs.spec.queues.IncomingStreams.{ChunkModel, data_part}
 use Rattle.dcsctp_delivery_sending.specs.Log.{Piece, History}
 use Rattle.dcsctp_delivery_receiving.specs.Rows.{PlacedBy, IsPlaced, IsPart}
-use Rattle.dcsctp_delivery_receiving.specs.Ready.{IsNumberedAs, Reads, BearsPiece}
+use Rattle.dcsctp_delivery_receiving.specs.Ready.{IsNumberedAs, Reads, ordered_base, unordered_base, BearsPiece}
 use Rattle.dcsctp_delivery_receiving.proofs.Reading.{reads_moved, reads_agree}
 use Rattle.dcsctp_delivery_sending.specs.Numbers.{Told}
 
 module _ (history : History) (base : ℕ) where
-  -- the part out of a chunk
-  abbrev pub part_of : (Named : Piece → ℕ → Type 0) (tsn_number place number : ℕ) (chunk : ChunkModel) (bears : BearsPiece history base tsn_number chunk) → IsPlaced base bears.offset bears.piece number place → Named bears.piece number
-      → IsPart history.log base Named (data_part chunk place number)
-  part_of Named tsn_number place number chunk bears placed named =
+  -- the part out of a chunk, where the first TSN lies at `from`
+  abbrev pub part_of : (from : ℕ → ℕ) (Named : Piece → ℕ → Type 0) (tsn_number place number : ℕ) (chunk : ChunkModel) (bears : BearsPiece history base tsn_number chunk) → IsPlaced from bears.offset bears.piece number place → Named bears.piece number
+      → IsPart history.log from Named (data_part chunk place number)
+  part_of from Named tsn_number place number chunk bears placed named =
       record {
         offset = bears.offset;
         piece = bears.piece;
@@ -25,15 +25,22 @@ module _ (history : History) (base : ℕ) where
         end = bears.end;
       }
 
-  -- one of DATA
-  pub plain_placed : (tsn_number number : ℕ) (chunk : ChunkModel) (bears : BearsPiece history base tsn_number chunk) → bears.piece.is_interleaved ≡ false → IsPlaced base bears.offset bears.piece number tsn_number
-  plain_placed tsn_number number chunk bears kind = subst (λ (b : Bool). PlacedBy b base bears.offset bears.piece.fsn number tsn_number) (sym kind) bears.number
+  -- one of an ordered message of DATA
+  pub ordered_placed : (tsn_number number : ℕ) (chunk : ChunkModel) (bears : BearsPiece history base tsn_number chunk) → bears.piece.is_interleaved ≡ false
+      → IsPlaced (ordered_base base) bears.offset bears.piece number (fragment_place number tsn_number)
+  ordered_placed tsn_number number chunk bears kind =
+      let is : fragment_place number tsn_number ≡ ordered_base base number + bears.offset = (let of = bears.number in omega (arith, of)) in
+      subst (λ (b : Bool). PlacedBy b (ordered_base base) bears.offset bears.piece.fsn number (fragment_place number tsn_number)) (sym kind) is
+
+  -- one of an unordered message of DATA
+  pub unordered_placed : (tsn_number number : ℕ) (chunk : ChunkModel) (bears : BearsPiece history base tsn_number chunk) → bears.piece.is_interleaved ≡ false → IsPlaced (unordered_base base) bears.offset bears.piece number tsn_number
+  unordered_placed tsn_number number chunk bears kind = subst (λ (b : Bool). PlacedBy b (unordered_base base) bears.offset bears.piece.fsn number tsn_number) (sym kind) bears.number
 
   -- one of I-DATA
   pub apart_placed : (tsn_number number fsn : ℕ) (chunk : ChunkModel) (bears : BearsPiece history base tsn_number chunk) → bears.piece.is_interleaved ≡ true → fsn ≡ bears.piece.fsn % 2 ^ 32
-      → IsPlaced base bears.offset bears.piece number (fragment_place number fsn)
+      → IsPlaced (ordered_base base) bears.offset bears.piece number (fragment_place number fsn)
   apart_placed tsn_number number fsn chunk bears kind is =
-      subst (λ (b : Bool). PlacedBy b base bears.offset bears.piece.fsn number (fragment_place number fsn)) (sym kind) (ap (fragment_place number) is)
+      subst (λ (b : Bool). PlacedBy b (ordered_base base) bears.offset bears.piece.fsn number (fragment_place number fsn)) (sym kind) (ap (fragment_place number) is)
 
 module _ (history : History) (base : ℕ) (told : Told history) where
   -- the number of a piece of I-DATA is read right

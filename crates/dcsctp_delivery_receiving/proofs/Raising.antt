@@ -16,7 +16,7 @@ use Rattle.dcsctp_delivery_sending.specs.Numbers.{is_handed_out, stream_named, I
 use Rattle.dcsctp_delivery_sending.specs.Queueing.{raised}
 use Rattle.dcsctp_delivery_receiving.specs.Clear.{NoneSkips, NoneWaits, IsClear, Unsent, IsOver}
 use Rattle.dcsctp_delivery_receiving.specs.Rows.{IsRow, AreRows, IsQueued}
-use Rattle.dcsctp_delivery_receiving.specs.Ready.{IsNumberedAs, IsOn, IsApart, fresh, Reads, Names, NameAll, WaitQueued, StreamHolds, Holds}
+use Rattle.dcsctp_delivery_receiving.specs.Ready.{IsNumberedAs, IsOn, IsApart, fresh, Reads, ordered_base, Names, NameAll, WaitQueued, StreamHolds, Holds}
 use Rattle.dcsctp_delivery_receiving.specs.Received.{CarriesCurrent, SkipsTo, Reassembles, untouched, placed, Defers, IsPast, Received}
 
 -- A piece of a stream that isn't handed out stays current.
@@ -39,7 +39,7 @@ module _ (queued : List Message) (history : History) (streams : List Stream) whe
 
   -- ---- rows, messages that wait, and numbers
 
-  row_keeps : (got : List ℕ) (base : ℕ) (Old New : Piece → ℕ → Type 0) (run : RunModel) → ((n : ℕ) (f : Piece) (number : ℕ) → at_place n history.log ≡ Some (Some f) → Old f number → New f number)
+  row_keeps : (got : List ℕ) (base : ℕ → ℕ) (Old New : Piece → ℕ → Type 0) (run : RunModel) → ((n : ℕ) (f : Piece) (number : ℕ) → at_place n history.log ≡ Some (Some f) → Old f number → New f number)
       → IsRow history.log got base Old run → IsRow history.log got base New run
   row_keeps got base Old New run keeps row =
       record {
@@ -63,7 +63,7 @@ module _ (queued : List Message) (history : History) (streams : List Stream) whe
         end = row.end;
       }
 
-  rows_keep : (got : List ℕ) (base : ℕ) (Old New : Piece → ℕ → Type 0) (runs : List RunModel) → ((n : ℕ) (f : Piece) (number : ℕ) → at_place n history.log ≡ Some (Some f) → Old f number → New f number)
+  rows_keep : (got : List ℕ) (base : ℕ → ℕ) (Old New : Piece → ℕ → Type 0) (runs : List RunModel) → ((n : ℕ) (f : Piece) (number : ℕ) → at_place n history.log ≡ Some (Some f) → Old f number → New f number)
       → AreRows history.log got base Old runs → AreRows history.log got base New runs
   rows_keep got base Old New [] keeps are = tt
   rows_keep got base Old New (run ∷ runs) keeps are = (row_keeps got base Old New run keeps are.0, rows_keep got base Old New runs keeps are.1)
@@ -107,8 +107,8 @@ module _ (queued : List Message) (history : History) (streams : List Stream) whe
       record {
         rows = record {
           is = s.rows.is;
-          ordered = rows_keep got base (IsOn history id) (IsOn (raised streams history) id) stream.ordered ordered s.rows.ordered;
-          unordered = rows_keep got base (IsApart history id) (IsApart (raised streams history) id) stream.unordered
+          ordered = rows_keep got (ordered_base base) (IsOn history id) (IsOn (raised streams history) id) stream.ordered ordered s.rows.ordered;
+          unordered = rows_keep got (ordered_base base) (IsApart history id) (IsApart (raised streams history) id) stream.unordered
               (λ n f number at on. (on.0, numbered_keeps id n f true number keep at on.0 on.1)) s.rows.unordered;
           next = reads_keeps id false stream.next keep s.rows.next;
           last = reads_keeps id true stream.last_unordered keep s.rows.last;

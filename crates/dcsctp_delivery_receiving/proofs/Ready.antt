@@ -11,7 +11,7 @@ use Rattle.dcsctp_spec_lemmas.specs.spec.queues.Incoming.{IncomingModel, stream_
 use Rattle.dcsctp_delivery_sending.specs.Places.{Has, set_at}
 use Rattle.dcsctp_delivery_sending.specs.Log.{Message, History, Cut}
 use Rattle.dcsctp_delivery_receiving.specs.Rows.{IsPlaced, IsPart, AreRows, Spent, MakesQueued}
-use Rattle.dcsctp_delivery_receiving.specs.Ready.{IsOn, IsApart, IsOfStream, Reads, StreamRows, AreDistinct, WaitQueued, StreamHolds, HoldsAll, Holds, IsNumbered, BearsPiece}
+use Rattle.dcsctp_delivery_receiving.specs.Ready.{IsOn, IsApart, IsOfStream, Reads, ordered_base, unordered_base, StreamRows, AreDistinct, WaitQueued, StreamHolds, HoldsAll, Holds, IsNumbered, BearsPiece}
 use Rattle.dcsctp_delivery_sending.proofs.Places.{decide, set_same, set_other}
 use Rattle.dcsctp_delivery_receiving.proofs.Chaining.{one_kind}
 use Rattle.dcsctp_delivery_receiving.proofs.SpentRows.{stay_rows, rows_got, spent_got, was_handled, of_message, IsOfMessage}
@@ -20,7 +20,7 @@ use Rattle.dcsctp_delivery_receiving.proofs.Waiting.{OfStream, renamed, wait_on_
 use Rattle.dcsctp_delivery_receiving.proofs.Reading.{tells_as, tells_plain, ordered_reads}
 use Rattle.dcsctp_delivery_sending.specs.Numbers.{Told}
 use Rattle.std.proofs.lemmas.Bool.Decides.{leb_tells}
-use Rattle.dcsctp_delivery_receiving.proofs.Parts.{part_of, plain_placed, apart_placed, named_so}
+use Rattle.dcsctp_delivery_receiving.proofs.Parts.{part_of, ordered_placed, unordered_placed, apart_placed, named_so}
 
 -- ---- a chunk
 
@@ -45,7 +45,7 @@ module _ (queued : List Message) (history : History) (cut : Cut queued history.l
 
     -- the invariant once its stream is left so
     holds_then : (id : ℕ) (later : ℕ → StreamModel) (runs : List RunModel) (after : List MessageContent) → StreamRows history now base id (later id)
-        → AreRows history.log now base IsOfStream runs → ((other : ℕ) → other ≢ id → later other ≡ streams other) → Leaves queued history now all holds.places id (later id).waiting after
+        → AreRows history.log now (unordered_base base) IsOfStream runs → ((other : ℕ) → other ≢ id → later other ≡ streams other) → Leaves queued history now all holds.places id (later id).waiting after
         → HoldsAll queued history now base read later runs after
     unfolding all
     holds_then id later runs after rows apart others leaves =
@@ -90,11 +90,11 @@ module _ (queued : List Message) (history : History) (cut : Cut queued history.l
     unfolding here
     here_wait = wait_got queued history got bears.offset chunk.stream (holds.waits chunk.stream) (streams chunk.stream).waiting here.wait
 
-    rows_apart : AreRows history.log now base IsOfStream unordered
-    rows_apart = rows_got history.log got bears.offset base IsOfStream unordered holds.rows
+    rows_apart : AreRows history.log now (unordered_base base) IsOfStream unordered
+    rows_apart = rows_got history.log got bears.offset (unordered_base base) IsOfStream unordered holds.rows
 
-    rows_kept : (runs : List RunModel) → runs ≡ unordered → AreRows history.log now base IsOfStream runs
-    rows_kept runs kept = subst (λ (l : List RunModel). AreRows history.log now base IsOfStream l) (sym kept) rows_apart
+    rows_kept : (runs : List RunModel) → runs ≡ unordered → AreRows history.log now (unordered_base base) IsOfStream runs
+    rows_kept runs kept = subst (λ (l : List RunModel). AreRows history.log now (unordered_base base) IsOfStream l) (sym kept) rows_apart
 
     -- nothing changes
     passed : (later : ℕ → StreamModel) (runs : List RunModel) (after : List MessageContent) → runs ≡ unordered → ((other : ℕ) → other ≢ chunk.stream → later other ≡ streams other)
@@ -106,24 +106,24 @@ module _ (queued : List Message) (history : History) (cut : Cut queued history.l
         (subst (λ (s : StreamModel). WaitQueued queued history now chunk.stream (holds.waits chunk.stream) s.waiting) (sym same) here_wait) (holds.once chunk.stream) same')
 
     -- an ordered chunk
-    ahead : (place number : ℕ) (later : ℕ → StreamModel) (runs : List RunModel) (after : List MessageContent) (taken : Taken) → IsPlaced base bears.offset bears.piece number place → IsOn history chunk.stream bears.piece number
+    ahead : (place number : ℕ) (later : ℕ → StreamModel) (runs : List RunModel) (after : List MessageContent) (taken : Taken) → IsPlaced (ordered_base base) bears.offset bears.piece number place → IsOn history chunk.stream bears.piece number
         → runs ≡ unordered → ((other : ℕ) → other ≢ chunk.stream → later other ≡ streams other)
         → TakesAhead (data_part chunk place number) (streams chunk.stream) ready taken (later chunk.stream) after → HoldsAll queued history now base read later runs after
     unfolding all here
     ahead place number later runs after taken placed named kept others takes = go (is_waiting number (streams chunk.stream).waiting) refl
       where
-        part : IsPart history.log base (IsOn history chunk.stream) (data_part chunk place number)
-        part = part_of history base (IsOn history chunk.stream) tsn_number place number chunk bears placed named
+        part : IsPart history.log (ordered_base base) (IsOn history chunk.stream) (data_part chunk place number)
+        part = part_of history base (ordered_base base) (IsOn history chunk.stream) tsn_number place number chunk bears placed named
 
         go : (b : Bool) → is_waiting number (streams chunk.stream).waiting ≡ b → HoldsAll queued history now base read later runs after
         go false e =
             let does = takes.fresh e in
-            let rows = stay_rows queued history.log cut (one_kind history told) got base (IsOn history chunk.stream) (λ m n f g k. tells_as history told false chunk.stream m n f g k) (data_part chunk place number) (streams chunk.stream).ordered (later chunk.stream).ordered does.outcome part here.rows.ordered does.parts in
+            let rows = stay_rows queued history.log cut (one_kind history told) got (ordered_base base) (IsOn history chunk.stream) (λ m n f g k. tells_as history told false chunk.stream m n f g k) (data_part chunk place number) (streams chunk.stream).ordered (later chunk.stream).ordered does.outcome part here.rows.ordered does.parts in
             holds_then chunk.stream later runs after
             (record {
               is = does.id ∙ here.rows.is;
               ordered = rows.0;
-              unordered = subst (λ (l : List RunModel). AreRows history.log now base (IsApart history chunk.stream) l) (sym does.unordered.1) here_rows.unordered;
+              unordered = subst (λ (l : List RunModel). AreRows history.log now (ordered_base base) (IsApart history chunk.stream) l) (sym does.unordered.1) here_rows.unordered;
               next = ordered_reads queued history now chunk.stream bears.piece.place (holds.waits chunk.stream) (data_part chunk place number) (streams chunk.stream) (later chunk.stream) ready after does.outcome taken here_wait rows.1 does.does here.rows.next;
               last = subst (λ (k : ℕ). Reads history chunk.stream true k) (sym does.unordered.0) here.rows.last;
             }) (rows_kept runs kept) others
@@ -131,12 +131,12 @@ module _ (queued : List Message) (history : History) (cut : Cut queued history.l
             (sym here.rows.is) holds.were_queued here_wait rows.1 (holds.once chunk.stream) (fresh chunk.stream) does.does)
         go true e =
             let does = takes.repeated e in
-            let rows = stay_rows queued history.log cut (one_kind history told) got base (IsOn history chunk.stream) (λ m n f g k. tells_as history told false chunk.stream m n f g k) (data_part chunk place number) (streams chunk.stream).ordered (later chunk.stream).ordered does.ordered.outcome part here.rows.ordered does.ordered.parts in
+            let rows = stay_rows queued history.log cut (one_kind history told) got (ordered_base base) (IsOn history chunk.stream) (λ m n f g k. tells_as history told false chunk.stream m n f g k) (data_part chunk place number) (streams chunk.stream).ordered (later chunk.stream).ordered does.ordered.outcome part here.rows.ordered does.ordered.parts in
             holds_then chunk.stream later runs after
             (record {
               is = does.others.0 ∙ here.rows.is;
               ordered = rows.0;
-              unordered = subst (λ (l : List RunModel). AreRows history.log now base (IsApart history chunk.stream) l) (sym does.others.3) here_rows.unordered;
+              unordered = subst (λ (l : List RunModel). AreRows history.log now (ordered_base base) (IsApart history chunk.stream) l) (sym does.others.3) here_rows.unordered;
               next = subst (λ (k : ℕ). Reads history chunk.stream false k) (sym does.others.1) here.rows.next;
               last = subst (λ (k : ℕ). Reads history chunk.stream true k) (sym does.last) here.rows.last;
             }) (rows_kept runs kept) others
@@ -145,7 +145,7 @@ module _ (queued : List Message) (history : History) (cut : Cut queued history.l
             (renamed queued history now (IsOn history chunk.stream) (OfStream chunk.stream) (λ f k named'. named'.0) bears.piece.place does.ordered.outcome rows.1) (holds.once chunk.stream) (fresh chunk.stream) does.ordered.does)
 
     -- one of I-DATA
-    in_order : (place number : ℕ) (later : ℕ → StreamModel) (runs : List RunModel) (after : List MessageContent) (taken : Taken) → IsPlaced base bears.offset bears.piece number place → IsOn history chunk.stream bears.piece number
+    in_order : (place number : ℕ) (later : ℕ → StreamModel) (runs : List RunModel) (after : List MessageContent) (taken : Taken) → IsPlaced (ordered_base base) bears.offset bears.piece number place → IsOn history chunk.stream bears.piece number
         → runs ≡ unordered → ((other : ℕ) → other ≢ chunk.stream → later other ≡ streams other)
         → TakesInOrder (data_part chunk place number) (streams chunk.stream) ready taken (later chunk.stream) after → HoldsAll queued history now base read later runs after
     in_order place number later runs after taken placed named kept others takes =
@@ -155,17 +155,17 @@ module _ (queued : List Message) (history : History) (cut : Cut queued history.l
         ]
 
     -- an unordered one of I-DATA
-    out_of_order : (place number : ℕ) (later : ℕ → StreamModel) (runs : List RunModel) (after : List MessageContent) (taken : Taken) → IsPlaced base bears.offset bears.piece number place → IsApart history chunk.stream bears.piece number
+    out_of_order : (place number : ℕ) (later : ℕ → StreamModel) (runs : List RunModel) (after : List MessageContent) (taken : Taken) → IsPlaced (ordered_base base) bears.offset bears.piece number place → IsApart history chunk.stream bears.piece number
         → Reads history chunk.stream true number → runs ≡ unordered → ((other : ℕ) → other ≢ chunk.stream → later other ≡ streams other)
         → TakesOutOfOrder (data_part chunk place number) (streams chunk.stream) ready taken (later chunk.stream) after → HoldsAll queued history now base read later runs after
     unfolding all here
     out_of_order place number later runs after taken placed named reads kept others takes =
-        let part : IsPart history.log base (IsApart history chunk.stream) (data_part chunk place number) = part_of history base (IsApart history chunk.stream) tsn_number place number chunk bears placed named in
-        let rows = stay_rows queued history.log cut (one_kind history told) got base (IsApart history chunk.stream) (λ m n f g k. tells_as history told true chunk.stream m n f g k) (data_part chunk place number) (streams chunk.stream).unordered (later chunk.stream).unordered takes.unordered.outcome part here.rows.unordered takes.unordered.parts in
+        let part : IsPart history.log (ordered_base base) (IsApart history chunk.stream) (data_part chunk place number) = part_of history base (ordered_base base) (IsApart history chunk.stream) tsn_number place number chunk bears placed named in
+        let rows = stay_rows queued history.log cut (one_kind history told) got (ordered_base base) (IsApart history chunk.stream) (λ m n f g k. tells_as history told true chunk.stream m n f g k) (data_part chunk place number) (streams chunk.stream).unordered (later chunk.stream).unordered takes.unordered.outcome part here.rows.unordered takes.unordered.parts in
         holds_then chunk.stream later runs after
         (record {
           is = takes.others.0 ∙ here.rows.is;
-          ordered = subst (λ (l : List RunModel). AreRows history.log now base (IsOn history chunk.stream) l) (sym takes.others.3) here_rows.ordered;
+          ordered = subst (λ (l : List RunModel). AreRows history.log now (ordered_base base) (IsOn history chunk.stream) l) (sym takes.others.3) here_rows.ordered;
           unordered = rows.0;
           next = subst (λ (k : ℕ). Reads history chunk.stream false k) (sym takes.others.1) here.rows.next;
           last = subst (λ (k : ℕ). Reads history chunk.stream true k) (sym takes.last) reads;
@@ -181,7 +181,7 @@ module _ (queued : List Message) (history : History) (cut : Cut queued history.l
     makes_on place number (message_whole whole) same makes of =
         record { offset = makes.offset; head = makes.head; at = makes.at; is = makes.is; queued_at = makes.queued_at; number = makes.number.0 ∙ of ∙ same; ppid = makes.ppid; payload = makes.payload; spent = makes.spent }
 
-    unordered_chunk : (later : ℕ → StreamModel) (runs : List RunModel) (after : List MessageContent) (outcome : Assembled) (taken : Taken) → later ≡ streams → AreRows history.log now base IsOfStream runs
+    unordered_chunk : (later : ℕ → StreamModel) (runs : List RunModel) (after : List MessageContent) (outcome : Assembled) (taken : Taken) → later ≡ streams → AreRows history.log now (unordered_base base) IsOfStream runs
         → MakesQueued queued history.log now (OfStream chunk.stream) bears.piece.place outcome → UnorderedOutcome (data_part chunk tsn_number chunk.stream) (delivered_as chunk.stream) ready outcome taken after → HoldsAll queued history now base read later runs after
     unfolding all
     unordered_chunk later runs after outcome taken same rows makes does =
@@ -194,13 +194,13 @@ module _ (queued : List Message) (history : History) (cut : Cut queued history.l
       → (bears : BearsPiece history base tsn_number chunk) → IsNumbered bears.piece numbering → (Has bears.offset got → ⊥) → Holds queued history got base read old → TakesChunk tsn_number numbering chunk old new → Holds queued history (bears.offset ∷ got) base read new
   by_numbering tsn_number (Ordered ssn) chunk old new is bears numbered is_new holds takes =
       let number : ℕ = short_number_from (stream_on chunk.stream old.streams).next ssn in
-      let does : TakesAhead (data_part chunk tsn_number number) (stream_on chunk.stream old.streams) old.ready takes.taken (stream_on chunk.stream new.streams) new.ready =
+      let does : TakesAhead (data_part chunk (fragment_place number tsn_number) number) (stream_on chunk.stream old.streams) old.ready takes.taken (stream_on chunk.stream new.streams) new.ready =
       subst (λ (n : Numbering). TakesNumbered tsn_number chunk n (stream_on chunk.stream old.streams) old.ready takes.taken (stream_on chunk.stream new.streams) new.ready) is takes.does in
-      ahead tsn_number chunk bears is_new (λ id. stream_on id old.streams) old.unordered old.ready holds tsn_number number (λ id. stream_on id new.streams) new.unordered new.ready takes.taken
-      (plain_placed history base tsn_number number chunk bears numbered.0) (sym bears.stream, λ i. absurd (let clash : true ≡ false = sym i ∙ numbered.0 in cc)) takes.unordered takes.others does
+      ahead tsn_number chunk bears is_new (λ id. stream_on id old.streams) old.unordered old.ready holds (fragment_place number tsn_number) number (λ id. stream_on id new.streams) new.unordered new.ready takes.taken
+      (ordered_placed history base tsn_number number chunk bears numbered.0) (sym bears.stream, λ i. absurd (let clash : true ≡ false = sym i ∙ numbered.0 in cc)) takes.unordered takes.others does
   by_numbering tsn_number Unordered chunk old new is bears numbered is_new holds takes =
-      let part = part_of history base IsOfStream tsn_number tsn_number chunk.stream chunk bears (plain_placed history base tsn_number chunk.stream chunk bears numbered.0) (sym bears.stream, numbered.0) in
-      let rows = stay_rows queued history.log cut (one_kind history told) got base IsOfStream (λ m n f g k. tells_plain history.log m n f g k) (data_part chunk tsn_number chunk.stream) old.unordered new.unordered takes.does.outcome part holds.rows takes.does.parts in
+      let part = part_of history base (unordered_base base) IsOfStream tsn_number tsn_number chunk.stream chunk bears (unordered_placed history base tsn_number chunk.stream chunk bears numbered.0) (sym bears.stream, numbered.0) in
+      let rows = stay_rows queued history.log cut (one_kind history told) got (unordered_base base) IsOfStream (λ m n f g k. tells_plain history.log m n f g k) (data_part chunk tsn_number chunk.stream) old.unordered new.unordered takes.does.outcome part holds.rows takes.does.parts in
       unordered_chunk tsn_number chunk bears is_new (λ id. stream_on id old.streams) old.unordered old.ready holds (λ id. stream_on id new.streams) new.unordered new.ready takes.does.outcome takes.taken
       (ap (λ (s : List (ℕ × StreamModel)). λ id. stream_on id s) takes.streams) rows.0
       (makes_on tsn_number chunk bears is_new (λ id. stream_on id old.streams) old.unordered old.ready holds bears.piece.place chunk.stream takes.does.outcome refl rows.1

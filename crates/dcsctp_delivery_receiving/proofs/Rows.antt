@@ -11,7 +11,7 @@ use Rattle.dcsctp_delivery_receiving.specs.Rows.{IsPart, IsRow, AreRows, IsQueue
 use Rattle.dcsctp_delivery_receiving.proofs.Chaining.{OneKind, offsets_follow}
 use Rattle.dcsctp_delivery_receiving.proofs.Joining.{same_merged, stretched, started, both, joined_two, denied}
 
-module _ (queued : List Message) (log : List Slot) (cut : Cut queued log) (told : OneKind log) (got : List ℕ) (base : ℕ) (Named : Piece → ℕ → Type 0)
+module _ (queued : List Message) (log : List Slot) (cut : Cut queued log) (told : OneKind log) (got : List ℕ) (base : ℕ → ℕ) (Named : Piece → ℕ → Type 0)
     (tells : (m n : ℕ) (f g : Piece) (number : ℕ) → at_place m log ≡ Some (Some f) → at_place n log ≡ Some (Some g) → f.is_interleaved ≡ true → g.is_interleaved ≡ true → Named f number → Named g number → f.place ≡ g.place) where
   -- a part alone
   single_row : (part : PartModel) (is : IsPart log base Named part) → Has is.offset got → IsRow log got base Named (single_run part)

@@ -14,7 +14,7 @@ use Rattle.dcsctp_spec_lemmas.specs.spec.queues.Incoming.{IncomingModel, stream_
 use Rattle.dcsctp_delivery_sending.specs.Places.{Has, set_at}
 use Rattle.dcsctp_delivery_sending.specs.Log.{Message, Piece, History}
 use Rattle.dcsctp_delivery_receiving.specs.Rows.{AreRows}
-use Rattle.dcsctp_delivery_receiving.specs.Ready.{IsOn, IsApart, IsOfStream, fresh, Reads, Names, NameAll, StreamRows, AreDistinct, WereQueued, StreamHolds, HoldsAll, Holds}
+use Rattle.dcsctp_delivery_receiving.specs.Ready.{IsOn, IsApart, IsOfStream, fresh, Reads, ordered_base, unordered_base, Names, NameAll, StreamRows, AreDistinct, WereQueued, StreamHolds, HoldsAll, Holds}
 use Rattle.dcsctp_delivery_sending.proofs.Places.{decide, set_same, set_other}
 use Rattle.dcsctp_delivery_receiving.proofs.Distinct.{has_left, has_either, appended, distinct_left, distinct_apart, distinct_front}
 use Rattle.dcsctp_delivery_receiving.proofs.Reading.{reads_moved, reads_past, reads_due}
@@ -25,19 +25,19 @@ pub new_rows : (history : History) (got : List ℕ) (base id : ℕ) → StreamRo
 new_rows history got base id = record { is = refl; ordered = tt; unordered = tt; next = λ start w. fresh refl; last = λ start w. fresh refl }
 
 module _ (queued : List Message) (history : History) (got : List ℕ) (base : ℕ) (read : List ℕ) where
-  rows_filter : (Named : Piece → ℕ → Type 0) (test : RunModel → Bool) (runs : List RunModel) → AreRows history.log got base Named runs → AreRows history.log got base Named (filter test runs)
-  rows_filter Named test [] are = tt
-  rows_filter Named test (r ∷ runs) are = go (test r) (rows_filter Named test runs are.1)
+  rows_filter : (from : ℕ → ℕ) (Named : Piece → ℕ → Type 0) (test : RunModel → Bool) (runs : List RunModel) → AreRows history.log got from Named runs → AreRows history.log got from Named (filter test runs)
+  rows_filter from Named test [] are = tt
+  rows_filter from Named test (r ∷ runs) are = go (test r) (rows_filter from Named test runs are.1)
     where
-      go : (b : Bool) → AreRows history.log got base Named (filter test runs) → AreRows history.log got base Named (if b then r ∷ filter test runs else filter test runs)
+      go : (b : Bool) → AreRows history.log got from Named (filter test runs) → AreRows history.log got from Named (if b then r ∷ filter test runs else filter test runs)
       go true rest = (are.0, rest)
       go false rest = rest
 
-  rows_behind : (Named : Piece → ℕ → Type 0) (place : ℕ) (runs : List RunModel) → AreRows history.log got base Named runs → AreRows history.log got base Named (behind_place place runs)
-  rows_behind Named place [] are = tt
-  rows_behind Named place (r ∷ runs) are = go (nat_le r.first place) (rows_behind Named place runs are.1)
+  rows_behind : (from : ℕ → ℕ) (Named : Piece → ℕ → Type 0) (place : ℕ) (runs : List RunModel) → AreRows history.log got from Named runs → AreRows history.log got from Named (behind_place place runs)
+  rows_behind from Named place [] are = tt
+  rows_behind from Named place (r ∷ runs) are = go (nat_le r.first place) (rows_behind from Named place runs are.1)
     where
-      go : (b : Bool) → AreRows history.log got base Named (behind_place place runs) → AreRows history.log got base Named (if b then behind_place place runs else r ∷ runs)
+      go : (b : Bool) → AreRows history.log got from Named (behind_place place runs) → AreRows history.log got from Named (if b then behind_place place runs else r ∷ runs)
       go true rest = rest
       go false rest = are
 
@@ -118,7 +118,7 @@ module _ (queued : List Message) (history : History) (got : List ℕ) (base : �
   skipped_rows passed (Ssn id ssn) waits stream (skips, current) holds =
       record {
         is = holds.rows.is;
-        ordered = rows_filter (IsOn history id.0) (λ run. not (nat_le run.number (short_number_near stream.next ssn))) stream.ordered holds.rows.ordered;
+        ordered = rows_filter (ordered_base base) (IsOn history id.0) (λ run. not (nat_le run.number (short_number_near stream.next ssn))) stream.ordered holds.rows.ordered;
         unordered = holds.rows.unordered;
         next = λ start w. absurd (let clash : true ≡ false = sym (w.kinds skips.number skips.piece skips.at) ∙ skips.kind in cc);
         last = holds.rows.last;
@@ -126,7 +126,7 @@ module _ (queued : List Message) (history : History) (got : List ℕ) (base : �
   skipped_rows passed (Mid id false mid) waits stream (skips, current) holds =
       record {
         is = holds.rows.is;
-        ordered = rows_filter (IsOn history id.0) (λ run. not (nat_le run.number (number_near stream.next mid))) stream.ordered holds.rows.ordered;
+        ordered = rows_filter (ordered_base base) (IsOn history id.0) (λ run. not (nat_le run.number (number_near stream.next mid))) stream.ordered holds.rows.ordered;
         unordered = holds.rows.unordered;
         next = reads_due queued history got id.0 (next_past (number_near stream.next mid) stream.next) waits stream.waiting holds.wait
             (subst (λ (k : ℕ). Reads history id.0 false (next_past (number_near stream.next k) stream.next)) (sym skips.is) (reads_past history id.0 false skips.number skips.piece skips.at (sym skips.stream) (sym skips.unordered) current stream.next holds.rows.next));
@@ -136,7 +136,7 @@ module _ (queued : List Message) (history : History) (got : List ℕ) (base : �
       record {
         is = holds.rows.is;
         ordered = holds.rows.ordered;
-        unordered = rows_filter (IsApart history id.0) (λ run. not (nat_le run.number (number_near stream.last_unordered mid))) stream.unordered holds.rows.unordered;
+        unordered = rows_filter (ordered_base base) (IsApart history id.0) (λ run. not (nat_le run.number (number_near stream.last_unordered mid))) stream.unordered holds.rows.unordered;
         next = holds.rows.next;
         last = subst (λ (k : ℕ). Reads history id.0 true (number_near stream.last_unordered k)) (sym skips.is) (reads_moved history id.0 true skips.number skips.piece skips.at (sym skips.stream) (sym skips.unordered) current stream.last_unordered holds.rows.last);
       }
@@ -180,7 +180,7 @@ module _ (queued : List Message) (history : History) (got : List ℕ) (base : �
       messages_appended (x ∷ xs) ys zs = ap (λ (l : List MessageContent). x ∷ l) (messages_appended xs ys zs)
 
   -- the runs of unordered messages are others
-  apart_rows : (streams : ℕ → StreamModel) (unordered others : List RunModel) (ready : List MessageContent) → HoldsAll queued history got base read streams unordered ready → AreRows history.log got base IsOfStream others
+  apart_rows : (streams : ℕ → StreamModel) (unordered others : List RunModel) (ready : List MessageContent) → HoldsAll queued history got base read streams unordered ready → AreRows history.log got (unordered_base base) IsOfStream others
       → HoldsAll queued history got base read streams others ready
   apart_rows streams unordered others ready holds rows =
       record { waits = holds.waits; streams_hold = holds.streams_hold; rows = rows; places = holds.places; were_queued = holds.were_queued; spent = holds.spent; once = holds.once }
@@ -188,7 +188,7 @@ module _ (queued : List Message) (history : History) (got : List ℕ) (base : �
   pub skips_on : (tsn passed : ℕ) (entries : List SkippedTo) (old new : IncomingModel) → NameAll history passed entries → Holds queued history got base read old → MovesOn tsn entries old new → Holds queued history got base read new
   skips_on tsn passed entries old new names holds moves =
       let skipped_all = all_skipped passed entries (λ id. stream_on id old.streams) old.unordered old.ready holds names in
-      let rows : AreRows history.log got base IsOfStream new.unordered = subst (λ (l : List RunModel). AreRows history.log got base IsOfStream l) (sym moves.unordered) (rows_behind IsOfStream (number_near old.last_tsn_number tsn) old.unordered holds.rows) in
+      let rows : AreRows history.log got (unordered_base base) IsOfStream new.unordered = subst (λ (l : List RunModel). AreRows history.log got (unordered_base base) IsOfStream l) (sym moves.unordered) (rows_behind (unordered_base base) IsOfStream (number_near old.last_tsn_number tsn) old.unordered holds.rows) in
       subst (λ (l : List MessageContent). HoldsAll queued history got base read (λ id. stream_on id new.streams) new.unordered l) (sym moves.ready)
       (apart_rows (λ id. stream_on id new.streams) old.unordered new.unordered (old.ready ++ deliveries_by entries (λ id. stream_on id old.streams))
       (holds_same (λ id. skipped_by entries id (stream_on id old.streams)) (λ id. stream_on id new.streams) old.unordered (old.ready ++ deliveries_by entries (λ id. stream_on id old.streams)) moves.streams skipped_all) rows)
@@ -197,7 +197,7 @@ module _ (queued : List Message) (history : History) (got : List ℕ) (base : �
 
   -- these streams are new, and the others unchanged
   renewed : (named : ℕ → Bool) (streams later : ℕ → StreamModel) (unordered others : List RunModel) (ready : List MessageContent) → ((id : ℕ) → later id ≡ (if named id then new_stream id else streams id))
-      → AreRows history.log got base IsOfStream others → HoldsAll queued history got base read streams unordered ready → HoldsAll queued history got base read later others ready
+      → AreRows history.log got (unordered_base base) IsOfStream others → HoldsAll queued history got base read streams unordered ready → HoldsAll queued history got base read later others ready
   renewed named streams later unordered others ready are rows holds =
       record {
         waits = λ id. if named id then [] else holds.waits id;
@@ -221,8 +221,8 @@ module _ (queued : List Message) (history : History) (got : List ℕ) (base : �
   resets_on [] old new holds resets =
       subst (λ (l : List MessageContent). HoldsAll queued history got base read (λ id. stream_on id new.streams) new.unordered l) (sym resets.kept.ready)
       (renewed (λ id. true) (λ id. stream_on id old.streams) (λ id. stream_on id new.streams) old.unordered new.unordered old.ready resets.streams
-      (subst (λ (l : List RunModel). AreRows history.log got base IsOfStream l) (sym resets.unordered) tt) holds)
+      (subst (λ (l : List RunModel). AreRows history.log got (unordered_base base) IsOfStream l) (sym resets.unordered) tt) holds)
   resets_on (reset ∷ others) old new holds resets =
       subst (λ (l : List MessageContent). HoldsAll queued history got base read (λ id. stream_on id new.streams) new.unordered l) (sym resets.kept.ready)
       (renewed (is_named (reset ∷ others)) (λ id. stream_on id old.streams) (λ id. stream_on id new.streams) old.unordered new.unordered old.ready resets.streams
-      (subst (λ (l : List RunModel). AreRows history.log got base IsOfStream l) (sym resets.unordered) (rows_filter IsOfStream (λ run. not (is_named (reset ∷ others) run.number)) old.unordered holds.rows)) holds)
+      (subst (λ (l : List RunModel). AreRows history.log got (unordered_base base) IsOfStream l) (sym resets.unordered) (rows_filter (unordered_base base) IsOfStream (λ run. not (is_named (reset ∷ others) run.number)) old.unordered holds.rows)) holds)

@@ -13,7 +13,7 @@ use Rattle.dcsctp_delivery_receiving.proofs.Rows.{outcome_rows}
 
 -- ---- what was handled stays so
 
-pub row_got : (log : List Slot) (got : List ℕ) (n base : ℕ) (Named : Piece → ℕ → Type 0) (run : RunModel) → IsRow log got base Named run → IsRow log (n ∷ got) base Named run
+pub row_got : (log : List Slot) (got : List ℕ) (n : ℕ) (base : ℕ → ℕ) (Named : Piece → ℕ → Type 0) (run : RunModel) → IsRow log got base Named run → IsRow log (n ∷ got) base Named run
 row_got log got n base Named run row =
     record {
       offset = row.offset;
@@ -36,7 +36,7 @@ row_got log got n base Named run row =
       end = row.end;
     }
 
-pub rows_got : (log : List Slot) (got : List ℕ) (n base : ℕ) (Named : Piece → ℕ → Type 0) (runs : List RunModel) → AreRows log got base Named runs → AreRows log (n ∷ got) base Named runs
+pub rows_got : (log : List Slot) (got : List ℕ) (n : ℕ) (base : ℕ → ℕ) (Named : Piece → ℕ → Type 0) (runs : List RunModel) → AreRows log got base Named runs → AreRows log (n ∷ got) base Named runs
 rows_got log got n base Named [] are = tt
 rows_got log got n base Named (r ∷ runs) are = (row_got log got n base Named r are.0, rows_got log got n base Named runs are.1)
 
@@ -130,7 +130,7 @@ module _ (queued : List Message) (log : List Slot) (cut : Cut queued log) (got :
   was_handled n f at is = spent.covered n (not_before n f at is) (between n f at is)
 
 pub stay_rows : (queued : List Message) (log : List Slot) → Cut queued log → OneKind log
-    → (got : List ℕ) (base : ℕ) (Named : Piece → ℕ → Type 0)
+    → (got : List ℕ) (base : ℕ → ℕ) (Named : Piece → ℕ → Type 0)
     → ((m n : ℕ) (f g : Piece) (number : ℕ) → at_place m log ≡ Some (Some f) → at_place n log ≡ Some (Some g) → f.is_interleaved ≡ true → g.is_interleaved ≡ true → Named f number → Named g number → f.place ≡ g.place)
     → (part : PartModel) (old new : List RunModel) (outcome : Assembled)
     → (is : IsPart log base Named part) → AreRows log got base Named old → AddsPart part old outcome new

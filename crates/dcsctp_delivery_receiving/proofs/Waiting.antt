@@ -9,7 +9,7 @@ use Rattle.dcsctp_spec_lemmas.specs.spec.queues.IncomingStreams.{StreamModel, de
 use Rattle.dcsctp_delivery_sending.specs.Places.{Has, at_place}
 use Rattle.dcsctp_delivery_sending.specs.Log.{Message, Piece, Slot, History}
 use Rattle.dcsctp_delivery_receiving.specs.Rows.{Spent, IsQueued, MakesQueued}
-use Rattle.dcsctp_delivery_receiving.specs.Ready.{IsOn, IsApart, AreDistinct, WasQueued, WereQueued, WaitQueued, StreamRows, StreamHolds}
+use Rattle.dcsctp_delivery_receiving.specs.Ready.{IsOn, IsApart, ordered_base, AreDistinct, WasQueued, WereQueued, WaitQueued, StreamRows, StreamHolds}
 use Rattle.dcsctp_delivery_receiving.proofs.SpentRows.{rows_got, spent_got}
 use Rattle.dcsctp_delivery_receiving.proofs.Distinct.{appended, has_left, distinct_with}
 
@@ -237,8 +237,8 @@ pub stream_rows_got : (history : History) (got : List ℕ) (n base id : ℕ) (st
 stream_rows_got history got n base id stream rows =
     record {
       is = rows.is;
-      ordered = rows_got history.log got n base (IsOn history id) stream.ordered rows.ordered;
-      unordered = rows_got history.log got n base (IsApart history id) stream.unordered rows.unordered;
+      ordered = rows_got history.log got n (ordered_base base) (IsOn history id) stream.ordered rows.ordered;
+      unordered = rows_got history.log got n (ordered_base base) (IsApart history id) stream.unordered rows.unordered;
       next = rows.next;
       last = rows.last;
     }

@@ -4,7 +4,7 @@ use Rattle.std.specs.Prelude.{◌≡◌, ◌<◌, ◌≤◌, ◌+◌, ◌%◌, �
 use Rattle.dcsctp_spec_lemmas.specs.types.queues.Messages.{MessageContent}
 use Rattle.dcsctp_spec_lemmas.specs.types.declared.arrivals.Numbering.{Numbering}
 use Rattle.dcsctp_spec_lemmas.specs.types.declared.arrivals.Numbering.TheVariants.{Ordered, Unordered, InterleavedOrdered, InterleavedUnordered}
-use Rattle.dcsctp_spec_lemmas.specs.spec.queues.Numbers.{number_near}
+use Rattle.dcsctp_spec_lemmas.specs.spec.queues.Numbers.{number_near, fragment_place}
 use Rattle.dcsctp_spec_lemmas.specs.spec.queues.Runs.{RunModel, WholeModel}
 use Rattle.dcsctp_spec_lemmas.specs.spec.queues.IncomingStreams.{StreamModel, ChunkModel}
 use Rattle.dcsctp_spec_lemmas.specs.types.declared.arrivals.SkippedTo.{SkippedTo}
@@ -77,11 +77,20 @@ WaitQueued queued history got stream (place ∷ places) [] = ⊥
 WaitQueued queued history got stream (place ∷ places) (whole ∷ wholes) =
     IsQueued queued history.log got (IsOn history stream) place whole × WaitQueued queued history got stream places wholes
 
+-- `base` is the number that the reassembly queue has for the first TSN. The parts of a stream lie by the number of their message first.
+-- Those of ordered messages of DATA then lie by their TSNs. For I-DATA `base` makes no difference.
+abbrev pub ordered_base : ℕ → ℕ → ℕ
+ordered_base base number = fragment_place number base
+
+-- The parts of unordered messages of DATA lie by their TSNs alone.
+abbrev pub unordered_base : ℕ → ℕ → ℕ
+unordered_base base number = base
+
 -- A stream holds rows of pieces of its messages,
 pub record StreamRows (history : History) (got : List ℕ) (base id : ℕ) (stream : StreamModel) : Type 0 where
   pub is : stream.id ≡ id
-  pub ordered : AreRows history.log got base (IsOn history id) stream.ordered
-  pub unordered : AreRows history.log got base (IsApart history id) stream.unordered
+  pub ordered : AreRows history.log got (ordered_base base) (IsOn history id) stream.ordered
+  pub unordered : AreRows history.log got (ordered_base base) (IsApart history id) stream.unordered
   pub next : Reads history id false stream.next
   pub last : Reads history id true stream.last_unordered
 
@@ -95,7 +104,7 @@ pub record StreamHolds (queued : List Message) (history : History) (got : List �
 pub record HoldsAll (queued : List Message) (history : History) (got : List ℕ) (base : ℕ) (read : List ℕ) (streams : ℕ → StreamModel) (unordered : List RunModel) (ready : List MessageContent) : Type 0 where
   pub waits : ℕ → List ℕ
   pub streams_hold : (id : ℕ) → StreamHolds queued history got base id (waits id) (streams id)
-  pub rows : AreRows history.log got base IsOfStream unordered
+  pub rows : AreRows history.log got (unordered_base base) IsOfStream unordered
   pub places : List ℕ
   pub were_queued : WereQueued queued places ready
   pub spent : (place : ℕ) → Has place (read ++ places) → Spent history.log got place

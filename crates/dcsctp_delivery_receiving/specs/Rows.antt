@@ -6,17 +6,16 @@ use Rattle.dcsctp_delivery_sending.specs.Places.{Has, at_place}
 use Rattle.dcsctp_delivery_sending.specs.Log.{Message, Piece, Slot, is_beginning, is_end, bytes_of}
 
 -- Where the part of a piece lies: by its TSN, or with interleaving by the number of its message and by how many parts come before it
--- (RFC 8260, section 2.1).
-abbrev pub PlacedBy : Bool → ℕ → ℕ → ℕ → ℕ → ℕ → Type 0
-PlacedBy false base offset fsn number place = place ≡ base + offset
+-- (RFC 8260, section 2.1). `base` gives the place of the first TSN for each number of a message.
+abbrev pub PlacedBy : Bool → (ℕ → ℕ) → ℕ → ℕ → ℕ → ℕ → Type 0
+PlacedBy false base offset fsn number place = place ≡ base number + offset
 PlacedBy true base offset fsn number place = place ≡ fragment_place number (fsn % 2 ^ 32)
 
-abbrev pub IsPlaced : ℕ → ℕ → Piece → ℕ → ℕ → Type 0
+abbrev pub IsPlaced : (ℕ → ℕ) → ℕ → Piece → ℕ → ℕ → Type 0
 IsPlaced base offset piece number place = PlacedBy piece.is_interleaved base offset piece.fsn number place
 
--- The part that is held is the piece of its TSN. `base` is the number that the reassembly queue has for the first TSN, and `Named` what it
--- knows of a piece by the number of its part.
-pub record IsPart (log : List Slot) (base : ℕ) (Named : Piece → ℕ → Type 0) (part : PartModel) : Type 0 where
+-- The part that is held is the piece of its TSN. `Named` is what the reassembly queue knows of a piece by the number of its part.
+pub record IsPart (log : List Slot) (base : ℕ → ℕ) (Named : Piece → ℕ → Type 0) (part : PartModel) : Type 0 where
   pub offset : ℕ
   pub piece : Piece
   pub at : at_place offset log ≡ Some (Some piece)
@@ -28,7 +27,7 @@ pub record IsPart (log : List Slot) (base : ℕ) (Named : Piece → ℕ → Type
   pub end : part.is_end ≡ is_end piece
 
 -- The run that is held is a row of pieces of one message. `got` has the offsets from the first TSN of all that were handled.
-pub record IsRow (log : List Slot) (got : List ℕ) (base : ℕ) (Named : Piece → ℕ → Type 0) (run : RunModel) : Type 0 where
+pub record IsRow (log : List Slot) (got : List ℕ) (base : ℕ → ℕ) (Named : Piece → ℕ → Type 0) (run : RunModel) : Type 0 where
   pub offset : ℕ
   pub head : Piece
   pub last_offset : ℕ
@@ -49,7 +48,7 @@ pub record IsRow (log : List Slot) (got : List ℕ) (base : ℕ) (Named : Piece 
   pub end : run.has_end ≡ is_end last
 
 -- Each of these is one.
-abbrev pub AreRows : List Slot → List ℕ → ℕ → (Piece → ℕ → Type 0) → List RunModel → Type 0
+abbrev pub AreRows : List Slot → List ℕ → (ℕ → ℕ) → (Piece → ℕ → Type 0) → List RunModel → Type 0
 AreRows log got base Named [] = Unit {0}
 AreRows log got base Named (run ∷ runs) = IsRow log got base Named run × AreRows log got base Named runs
 

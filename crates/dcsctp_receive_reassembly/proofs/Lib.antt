@@ -1,6 +1,6 @@
+pub mod FragmentLemmas
 pub mod HandoverLemmas
 pub mod NamedLemmas
-pub mod NamedTableLemmas
 pub mod PartBytes
 pub mod ReassemblyLemmas
 pub mod ResultFacts

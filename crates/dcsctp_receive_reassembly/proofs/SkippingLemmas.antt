@@ -3,6 +3,7 @@ use Rattle.std.proofs.Common.{◌≡◌, ◌==◌, ◌||◌, ℕ, suc, ◌+◌, 
 use Rattle.std.specs.Prelude.{IsSome, nat_le}
 use Rattle.std.specs.BTreeMap.{BTreeMap, get}
 use Rattle.std.specs.Ordering.{nat_cmp}
+use Rattle.std.proofs.lemmas.Bool.{eqb-true, eq-eqb}
 use Rattle.std.proofs.lemmas.List.{append_assoc, append-nil, length-map}
 use Rattle.dcsctp_api.specs.types.declared.arrivals.SkippedTo.{SkippedTo}
 use Rattle.dcsctp_api.specs.types.declared.arrivals.SkippedTo.TheVariants.{Ssn, Mid}
@@ -13,7 +14,7 @@ use Rattle.dcsctp_api.specs.spec.queues.Numbers.{number_near, short_number_near}
 use Rattle.dcsctp_api.specs.spec.queues.Runs.{WholeModel}
 use Rattle.dcsctp_api.specs.spec.queues.IncomingStreams.{StreamModel, new_stream, delivered_as, due, not_due, next_after, next_past, deliveries_from, skipped, skipped_stream, skip_deliveries}
 use Rattle.dcsctp_receive_reassembly.specs.Reassembly.{Balances}
-use Rattle.dcsctp_receive_reassembly.specs.Skipping.{AllMade, room_for}
+use Rattle.dcsctp_receive_reassembly.specs.Skipping.{AllMade, room_beyond, room_for}
 
 -- ---- streams that are there
 
@@ -43,9 +44,56 @@ skipped_length (Ssn id ssn) stream = deliveries_length (next_past (short_number_
 skipped_length (Mid id false mid) stream = deliveries_length (next_past (number_near stream.next mid) stream.next) stream
 skipped_length (Mid id true mid) stream = omega arith
 
-room_for-less : (entries : List SkippedTo) (f g : ℕ → StreamModel) → ((id : ℕ) → length (g id).waiting ≤ length (f id).waiting) → room_for entries g ≤ room_for entries f
-room_for-less [] f g less = omega arith
-room_for-less (entry ∷ entries) f g less = omega (arith, less (skipped_stream entry), room_for-less entries f g less)
+-- the same streams were seen
+pub room_beyond-same : (entries : List SkippedTo) (seen other : ℕ → Bool) (streams : ℕ → StreamModel) → ((id : ℕ) → seen id ≡ other id) → room_beyond seen entries streams ≡ room_beyond other entries streams
+room_beyond-same [] seen other streams same = refl
+room_beyond-same (entry ∷ entries) seen other streams same =
+    let here : (if seen (skipped_stream entry) then 0 else length (streams (skipped_stream entry)).waiting) ≡ (if other (skipped_stream entry) then 0 else length (streams (skipped_stream entry)).waiting) =
+    ap (λ (was : Bool). if was then 0 else length (streams (skipped_stream entry)).waiting) (same (skipped_stream entry)) in
+    omega (arith, here, room_beyond-same entries (λ id. (skipped_stream entry == id) || seen id) (λ id. (skipped_stream entry == id) || other id) streams (λ id. ap (λ (was : Bool). (skipped_stream entry == id) || was) (same id)))
+
+room_beyond-less : (entries : List SkippedTo) (seen : ℕ → Bool) (f g : ℕ → StreamModel) → ((id : ℕ) → length (g id).waiting ≤ length (f id).waiting) → room_beyond seen entries g ≤ room_beyond seen entries f
+room_beyond-less [] seen f g less = omega arith
+room_beyond-less (entry ∷ entries) seen f g less = go (seen (skipped_stream entry)) (room_beyond-less entries (λ id. (skipped_stream entry == id) || seen id) f g less)
+  where
+    go : (was : Bool) → room_beyond (λ id. (skipped_stream entry == id) || seen id) entries g ≤ room_beyond (λ id. (skipped_stream entry == id) || seen id) entries f
+        → (if was then 0 else length (g (skipped_stream entry)).waiting) + room_beyond (λ id. (skipped_stream entry == id) || seen id) entries g ≤ (if was then 0 else length (f (skipped_stream entry)).waiting) + room_beyond (λ id. (skipped_stream entry == id) || seen id) entries f
+    go true rest = omega (arith, rest)
+    go false rest = omega (arith, rest, less (skipped_stream entry))
+
+swapped : (a b c : Bool) → a || (b || c) ≡ b || (a || c)
+swapped true true c = refl
+swapped true false c = refl
+swapped false true c = refl
+swapped false false c = refl
+
+repeated : (a c : Bool) → a || c ≡ a || (a || c)
+repeated true c = refl
+repeated false c = refl
+
+-- room for one stream is enough for all entries of it
+room_apart : (entries : List SkippedTo) (seen : ℕ → Bool) (id : ℕ) (streams : ℕ → StreamModel) → room_beyond seen entries streams ≤ length (streams id).waiting + room_beyond (λ other. (id == other) || seen other) entries streams
+room_apart [] seen id streams = omega arith
+room_apart (entry ∷ entries) seen id streams = go (seen (skipped_stream entry)) (id == skipped_stream entry) refl (room_apart entries (λ other. (skipped_stream entry == other) || seen other) id streams)
+  where
+    named : ℕ
+    named = skipped_stream entry
+
+    both : room_beyond (λ other. (id == other) || ((named == other) || seen other)) entries streams ≡ room_beyond (λ other. (named == other) || ((id == other) || seen other)) entries streams
+    both = room_beyond-same entries (λ other. (id == other) || ((named == other) || seen other)) (λ other. (named == other) || ((id == other) || seen other)) streams (λ other. swapped (id == other) (named == other) (seen other))
+
+    again : id ≡ named → room_beyond (λ other. (named == other) || seen other) entries streams ≡ room_beyond (λ other. (named == other) || ((id == other) || seen other)) entries streams
+    again same =
+        room_beyond-same entries (λ other. (named == other) || seen other) (λ other. (named == other) || ((id == other) || seen other)) streams
+        (λ other. repeated (named == other) (seen other) ∙ ap (λ (n : ℕ). (named == other) || ((n == other) || seen other)) (sym same))
+
+    go : (was is : Bool) → (id == named) ≡ is
+        → room_beyond (λ other. (named == other) || seen other) entries streams ≤ length (streams id).waiting + room_beyond (λ other. (id == other) || ((named == other) || seen other)) entries streams
+        → (if was then 0 else length (streams named).waiting) + room_beyond (λ other. (named == other) || seen other) entries streams ≤ length (streams id).waiting + ((if is || was then 0 else length (streams named).waiting) + room_beyond (λ other. (named == other) || ((id == other) || seen other)) entries streams)
+    go true true _ rest = omega (arith, rest, both)
+    go true false _ rest = omega (arith, rest, both)
+    go false true is rest = let same = eqb-true id named is in omega (arith, again same, ap (λ (n : ℕ). length (streams n).waiting) same)
+    go false false _ rest = omega (arith, rest, both)
 
 skipped_on-less : (entry : SkippedTo) (id : ℕ) (stream : StreamModel) → length (skipped_on entry id stream).waiting ≤ length stream.waiting
 skipped_on-less entry id stream = go (skipped_stream entry == id)
@@ -56,11 +104,16 @@ skipped_on-less entry id stream = go (skipped_stream entry == id)
 
 pub room_left : (entry : SkippedTo) (entries : List SkippedTo) (old new : IncomingModel) (len capacity : ℕ) → SkipsOne entry old new → len + room_for (entry ∷ entries) (λ id. stream_on id old.streams) ≤ capacity → len + length (skip_deliveries entry (stream_on (skipped_stream entry) old.streams)) + room_for entries (λ id. stream_on id new.streams) ≤ capacity
 room_left entry entries old new len capacity skips room =
+    let named : ℕ = skipped_stream entry in
+    let here : stream_on named new.streams ≡ skipped entry (stream_on named old.streams) =
+    skips.streams named ∙ ap (λ (is : Bool). if is then skipped entry (stream_on named old.streams) else stream_on named old.streams) (eq-eqb named named refl) in
     omega (
       arith,
       room,
-      skipped_length entry (stream_on (skipped_stream entry) old.streams),
-      room_for-less entries (λ id. stream_on id old.streams) (λ id. stream_on id new.streams) (λ id. subst (λ (stream : StreamModel). length stream.waiting ≤ length (stream_on id old.streams).waiting) (sym (skips.streams id)) (skipped_on-less entry id (stream_on id old.streams))),
+      skipped_length entry (stream_on named old.streams),
+      ap (λ (stream : StreamModel). length stream.waiting) here,
+      room_apart entries (λ id. false) named (λ id. stream_on id new.streams),
+      room_beyond-less entries (λ id. (named == id) || false) (λ id. stream_on id old.streams) (λ id. stream_on id new.streams) (λ id. subst (λ (stream : StreamModel). length stream.waiting ≤ length (stream_on id old.streams).waiting) (sym (skips.streams id)) (skipped_on-less entry id (stream_on id old.streams))),
     )
 
 -- ---- entries in turn

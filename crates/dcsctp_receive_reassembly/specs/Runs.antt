@@ -1,6 +1,7 @@
 -- Runs of parts in memory, as the machine has them, and what is true of maps of them.
-use Rattle.std.specs.Prelude.{◌≡◌, ℕ, ◌+◌, ◌<◌, ◌≤◌, nat_le, Bool, false, if◌then◌else◌, Option, None, Some, List, [], ◌∷◌, length, map}
+use Rattle.std.specs.Prelude.{◌≡◌, ℕ, ◌+◌, ◌/◌, ◌^◌, ◌<◌, ◌≤◌, nat_le, Bool, false, if◌then◌else◌, Option, None, Some, List, [], ◌∷◌, length, map}
 use denote.Ref.{Bor}
+use Rattle.std.specs.List.{AllByRecursion}
 use Rattle.std.specs.VecDeque.{deque_capacity}
 use Rattle.std.specs.BTreeMap.{BTreeMap, get}
 use Rattle.std.specs.Ordering.{nat_cmp}
@@ -84,3 +85,10 @@ abbrev pub IsOfMessage : ℕ → Assembled → Type 0
 IsOfMessage number Dropped = Unit {0}
 IsOfMessage number Kept = Unit {0}
 IsOfMessage number (WholeMessage whole) = whole.number ≡ number
+
+-- The runs begin among the places of their messages.
+abbrev pub IsInPlace : RunModel → Type 0
+IsInPlace run = run.first / 2 ^ 64 ≡ run.number
+
+abbrev pub AreInPlace : List RunModel → Type 0
+AreInPlace runs = AllByRecursion IsInPlace runs

@@ -8,7 +8,6 @@ use Rattle.std.specs.Map.{lookup}
 use Rattle.std.specs.Ordering.{nat_cmp}
 use Rattle.dcsctp_receive_ordered_map.specs.Entries.{Ascends, count_up_to}
 use Rattle.dcsctp_api.specs.spec.queues.Runs.{WholeModel}
-use Rattle.dcsctp_receive_reassembly.specs.Runs.{run_of}
 use Rattle.dcsctp_api.specs.spec.queues.IncomingStreams.{StreamModel, ChunkModel}
 
 -- a message that waits, by its number
@@ -22,8 +21,8 @@ stream_of stream =
       next = stream.next;
       last_unordered = stream.last_unordered;
       waiting = map waits_as stream.waiting.entries;
-      ordered = map run_of stream.ordered.entries;
-      unordered = map run_of stream.unordered.entries;
+      ordered = stream.ordered;
+      unordered = stream.unordered;
     }
 
 -- An entry without content was added at this number, in the order of numbers.

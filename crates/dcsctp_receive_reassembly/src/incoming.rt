@@ -15,9 +15,10 @@ ghost use Rattle.dcsctp_receive_reassembly.specs.Reassembly.{incoming_of, entry_
 ghost use Rattle.dcsctp_api.specs.spec.queues.Incoming.{AreInOrder, stream_on, nothing, received_more, KeepsStreams, SameIncoming, TakesUnorderedData, TakesStreamData, TakesChunk, TakesData};
 
 use crate::arrivals::Data;
+use crate::joining::add_part;
 use crate::numbers::number_near;
 use crate::runs::Run;
-use crate::stream::{FIRST_NUMBER, Stream, part_of_data, take_unordered};
+use crate::stream::{FIRST_NUMBER, Stream, part_of_data, show_unordered};
 use dcsctp_api::types::{Numbering, SkippedTo, Taken};
 use dcsctp_api::{Message, StreamId};
 use std::alloc::{AllocError, Global};
@@ -169,8 +170,11 @@ impl Incoming {
         ensures count { OnErr result (self.new.queued_bytes ≡ self.old.queued_bytes) }
     {
         let id = chunk.stream_id;
+        let size = chunk.payload.len();
         let part = part_of_data(chunk, u128::from(tsn_number), u64::from(id.0));
-        let taken = take_unordered(self.alloc, id, &mut self.unordered, part, &mut self.ready)?;
+        self.ready.try_reserve(1)?;
+        let outcome = add_part(self.alloc, &mut self.unordered, part)?;
+        let taken = show_unordered(id, size, outcome, &mut self.ready);
         self.count(taken);
         Ok(())
     }

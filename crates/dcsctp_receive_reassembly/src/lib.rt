@@ -3,12 +3,12 @@
 #![tactic(auto)]
 
 mod arrivals;
+mod fragments;
 mod handover;
 mod incoming;
 mod joining;
 mod linking;
 mod named;
-mod named_table;
 mod numbers;
 mod reassembly_queue;
 mod runs;

@@ -1,7 +1,7 @@
 //! Running numbers that wrap, numbered without wrap: the nearest to a reference (RFC 9260, section 1.6), or the
 //! first from it on.
 
-ghost use Rattle.std.specs.Prelude.{◌≡◌, ◌+◌, ◌%◌, ◌^◌, ◌<◌, ◌≤◌};
+ghost use Rattle.std.specs.Prelude.{◌≡◌, ◌+◌, ◌%◌, ◌/◌, ◌^◌, ◌<◌, ◌≤◌};
 ghost use Rattle.dcsctp_api.specs.spec.queues.Numbers.{number_near, short_number_near, short_number_from, fragment_place, is_tsn_beyond};
 
 /// The number that a 32-bit number stands for. The two agree modulo 2^32.
@@ -39,11 +39,13 @@ pub fn short_number_from(reference: u64, number: u16) -> u64
     reference.saturating_add(u64::from(ahead))
 }
 
-/// The place of a part of an I-DATA message: each message has places for all its fragment numbers.
-pub fn fragment_place(number: u64, fsn: u32) -> u128
-    ensures { result ≡ fragment_place number fsn }
+/// The place of a part of a message. Each message has places for the numbers of all TSNs (DATA), or for all
+/// fragment numbers (I-DATA).
+pub fn fragment_place(number: u64, offset: u64) -> u128
+    ensures is { result ≡ fragment_place number offset }
+    ensures number { result / 2 ^ 64 ≡ number }
 {
-    u128::from(number) * 0x1_0000_0000 + u128::from(fsn)
+    u128::from(number) * 0x1_0000_0000_0000_0000 + u128::from(offset)
 }
 
 /// Is the TSN beyond the other one?

@@ -1,7 +1,7 @@
 //! Parts of messages that aren't whole yet, in runs: parts that follow on one another (RFC 9260, section
 //! 6.9).
 
-ghost use Rattle.std.specs.Prelude.{◌≡◌, ℕ, Bool, map, nat_le, not};
+ghost use Rattle.std.specs.Prelude.{◌≡◌, map, not};
 ghost use Rattle.std.specs.List.{filter};
 ghost use Rattle.std.specs.BTreeMap.{IsOrdered};
 ghost use Rattle.std.specs.Ordering.{nat_cmp};
@@ -10,8 +10,10 @@ ghost use Rattle.dcsctp_api.specs.spec.queues.Runs.{entry_before, holds, behind_
 ghost use Rattle.dcsctp_receive_reassembly.specs.Runs.{run_of, lent_run, begins_up_to, up_to_place};
 ghost use Rattle.dcsctp_receive_reassembly.specs.Held.{capped};
 ghost use Rattle.dcsctp_api.specs.spec.queues.Runs.{payloads_bytes, runs_bytes};
+ghost use Rattle.dcsctp_api.specs.types.StreamTables.{marks};
 
 use dcsctp_api::PpId;
+use dcsctp_api::types::StreamTable;
 use dcsctp_receive_ordered_map::entry_up_to;
 use std::collections::{BTreeMap, VecDeque};
 
@@ -112,30 +114,9 @@ pub fn size_of_runs(runs: &BTreeMap<u128, Run>) -> usize
     size
 }
 
-/// Some numbers of messages.
-pub trait Numbers {
-    ghost has: { Self → ℕ → Bool };
-
-    /// Is the number one of them?
-    fn has(&self, number: u64) -> bool
-        ensures { result ≡ has self.now number };
-}
-
-/// All numbers up to this one.
-#[derive(Drop)]
-pub struct UpTo(pub u64);
-
-impl Numbers for UpTo {
-    ghost has = { λ numbers. λ number. nat_le number numbers.0 };
-
-    fn has(&self, number: u64) -> bool {
-        number <= self.0
-    }
-}
-
 // How many bytes the runs of the messages with these numbers have, at most `usize::MAX`.
-fn size_of_messages<N: Numbers>(runs: &BTreeMap<u128, Run>, numbers: &N) -> usize
-    ensures { result ≡ capped (runs_bytes (filter (λ run. N.has numbers.now run.number) (map run_of runs.now.entries))) }
+fn size_of_messages(runs: &BTreeMap<u128, Run>, numbers: &StreamTable) -> usize
+    ensures { result ≡ capped (runs_bytes (filter (λ run. marks numbers.now run.number) (map run_of runs.now.entries))) }
 {
     let mut size: usize = 0;
     for (_, run) in runs {
@@ -147,9 +128,9 @@ fn size_of_messages<N: Numbers>(runs: &BTreeMap<u128, Run>, numbers: &N) -> usiz
 }
 
 /// Drops the runs of the messages with these numbers, and returns how many bytes they had.
-pub fn drop_messages<N: Numbers>(runs: &mut BTreeMap<u128, Run>, numbers: &N) -> usize
-    ensures kept { map run_of runs.new.entries ≡ filter (λ run. not (N.has numbers.now run.number)) (map run_of runs.old.entries) }
-    ensures size { result ≡ capped (runs_bytes (filter (λ run. N.has numbers.now run.number) (map run_of runs.old.entries))) }
+pub fn drop_messages(runs: &mut BTreeMap<u128, Run>, numbers: &StreamTable) -> usize
+    ensures kept { map run_of runs.new.entries ≡ filter (λ run. not (marks numbers.now run.number)) (map run_of runs.old.entries) }
+    ensures size { result ≡ capped (runs_bytes (filter (λ run. marks numbers.now run.number) (map run_of runs.old.entries))) }
 {
     let dropped = size_of_messages(runs, numbers);
     runs.retain(|_, run| !numbers.has(run.number));

@@ -1,11 +1,12 @@
 //! Messages that are skipped (RFC 3758, section 3.6; RFC 8260, section 2.3.1), and streams that start anew
 //! (RFC 6525, section 5.2.2).
 
-ghost use Rattle.std.specs.Prelude.{◌≡◌, ◌==◌, ℕ, ◌+◌, ◌-◌, ◌<◌, ◌≤◌, ◌++◌, map, length, OnOk, OnErr, IsSome, if◌then◌else◌};
+ghost use Rattle.std.specs.Prelude.{◌≡◌, ◌==◌, ◌||◌, ℕ, ◌+◌, ◌-◌, ◌<◌, ◌≤◌, ◌++◌, map, length, OnOk, OnErr, IsSome, if◌then◌else◌};
 ghost use Rattle.std.specs.VecDeque.{deque_len, deque_capacity};
 ghost use Rattle.std.specs.BTreeMap.{get};
 ghost use Rattle.std.specs.Ordering.{nat_cmp};
 ghost use Rattle.dcsctp_api.specs.types.Ids.{stream_numbers};
+ghost use Rattle.dcsctp_api.specs.types.StreamTables.{marks};
 ghost use Rattle.dcsctp_receive_reassembly.specs.Held.{capped};
 ghost use Rattle.dcsctp_api.specs.spec.queues.Incoming.{is_named, stream_on, KeepsStreams, SameIncoming, skipped_on, SkipsOne, SkipsAll, MovesTo, MovesOn, ResetsAll, ResetsEach, ResetsStreams};
 ghost use Rattle.dcsctp_api.specs.spec.queues.IncomingStreams.{ready_bytes, stream_bytes, streams_bytes};
@@ -16,11 +17,11 @@ ghost use Rattle.dcsctp_receive_reassembly.specs.Reassembly.{incoming_of, entry_
 ghost use Rattle.dcsctp_receive_reassembly.specs.Skipping.{AllMade, room_for};
 
 use crate::incoming::{Incoming, make_stream};
-use crate::named_table::NamedTable;
+use crate::named::table_of;
 use crate::numbers::number_near;
 use crate::runs::{drop_messages, drop_places, size_of_runs};
 use crate::stream::Stream;
-use dcsctp_api::types::SkippedTo;
+use dcsctp_api::types::{SkippedTo, StreamTable};
 use dcsctp_api::{Message, StreamId};
 use std::alloc::{AllocError, Global};
 use std::collections::{BTreeMap, VecDeque};
@@ -60,15 +61,38 @@ fn waiting_on(streams: &BTreeMap<u16, Stream>, id: StreamId) -> usize
     }
 }
 
-// How many messages wait on the streams that are named, at most `usize::MAX`.
+// How many messages wait on a stream that wasn't seen yet. It is then.
+fn waiting_once(streams: &BTreeMap<u16, Stream>, id: StreamId, seen: &mut StreamTable) -> usize
+    ensures count { result ≡ (if marks seen.old id.0 then 0 else length (stream_on id.0 (map entry_of streams.now.entries)).waiting) }
+    ensures seen { (other : ℕ) → marks seen.new other ≡ ((id.0 == other) || marks seen.old other) }
+{
+    let is_seen = seen.has(u64::from(id.0));
+    seen.mark(id.0);
+    if is_seen { 0 } else { waiting_on(streams, id) }
+}
+
+// How many messages wait on the streams that are named, at most `usize::MAX`. A stream counts once, however
+// often it is named.
+fn room_for_all(streams: &BTreeMap<u16, Stream>, entries: &[SkippedTo]) -> usize
+    ensures { result ≡ capped (room_for entries.now (λ id. stream_on id (map entry_of streams.now.entries))) }
+{
+    let mut seen = StreamTable::new();
+    let mut room: usize = 0;
+    for entry in entries {
+        room = room.saturating_add(waiting_once(streams, stream_of(entry), &mut seen));
+    }
+    room
+}
+
+// The same. One stream is looked up without a table.
 fn room_for(streams: &BTreeMap<u16, Stream>, entries: &[SkippedTo]) -> usize
     ensures { result ≡ capped (room_for entries.now (λ id. stream_on id (map entry_of streams.now.entries))) }
 {
-    let mut room: usize = 0;
-    for entry in entries {
-        room = room.saturating_add(waiting_on(streams, stream_of(entry)));
+    match entries {
+        [] => 0,
+        [entry] => waiting_on(streams, stream_of(entry)),
+        _ => room_for_all(streams, entries),
     }
-    room
 }
 
 // Skips messages on their stream, which exists, and returns how many bytes are dropped. The other streams are
@@ -218,7 +242,7 @@ impl Incoming {
         ensures resets { ResetsEach (stream_numbers streams.now) (incoming_of self.old) (incoming_of self.new) }
         ensures bytes { Balances self.old self.new }
     {
-        let dropped = drop_messages(&mut self.unordered, &NamedTable::of(streams));
+        let dropped = drop_messages(&mut self.unordered, &table_of(streams));
         let forgotten = forget_each_stream(&mut self.streams, streams);
         self.queued_bytes = self
             .queued_bytes

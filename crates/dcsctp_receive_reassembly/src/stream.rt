@@ -1,24 +1,24 @@
 //! One incoming stream: parts of messages, and whole messages that wait for their turn (RFC 9260, sections
 //! 6.5 and 6.6).
 
-ghost use Rattle.std.specs.Prelude.{◌≡◌, ℕ, ◌+◌, ◌<◌, ◌≤◌, ◌++◌, false, map, length, List, None, IfOk, OnErr, OnOk, IsSome};
+ghost use Rattle.std.specs.Prelude.{◌≡◌, ℕ, ◌+◌, ◌/◌, ◌^◌, ◌<◌, ◌≤◌, ◌++◌, false, map, length, List, None, IfOk, OnErr, OnOk, IsSome};
 ghost use Rattle.std.specs.VecDeque.{deque_len, deque_capacity};
 ghost use Rattle.std.specs.BTreeMap.{btree_map_len, get};
 ghost use Rattle.std.specs.Ordering.{nat_cmp};
-ghost use Rattle.dcsctp_receive_reassembly.specs.Runs.{run_of, part_of, whole_of};
+ghost use Rattle.dcsctp_receive_reassembly.specs.Runs.{part_of, whole_of, assembled_of};
 ghost use Rattle.dcsctp_receive_reassembly.specs.Held.{capped};
-ghost use Rattle.dcsctp_api.specs.spec.queues.Runs.{runs_bytes, wholes_bytes};
+ghost use Rattle.dcsctp_api.specs.spec.queues.Runs.{PartModel, runs_bytes, wholes_bytes};
 ghost use Rattle.dcsctp_api.specs.spec.queues.IncomingStreams.{stream_bytes};
 ghost use Rattle.dcsctp_api.specs.types.queues.Messages.{MessageContent, message_content};
 ghost use Rattle.dcsctp_api.specs.spec.queues.Readiness.{holds_parts};
 ghost use Rattle.dcsctp_receive_reassembly.specs.declared.stream.Waiting.{Waiting};
 ghost use Rattle.dcsctp_receive_reassembly.specs.Streams.{stream_of, waits_as, HoldsPlace, chunk_of};
-ghost use Rattle.dcsctp_api.specs.spec.queues.IncomingStreams.{is_waiting, is_due, delivered_from, deliveries_from, delivered_as, next_after, ready_with, NothingTaken, WaitsAmong, TakesOrdered, TakesAhead, TakesUnordered, next_past, runs_up_to, skipped, skipped_in_order, skipped_out_of_order, skip_deliveries, skip_bytes, data_part, TakesOnStream, new_stream};
+ghost use Rattle.dcsctp_api.specs.spec.queues.IncomingStreams.{is_waiting, is_due, delivered_from, deliveries_from, delivered_as, next_after, ready_with, NothingTaken, WaitsAmong, TakesOrdered, TakesAhead, TakesUnordered, UnorderedOutcome, next_past, runs_up_to, skipped, skipped_in_order, skipped_out_of_order, skip_deliveries, skip_bytes, data_part, TakesOnStream, new_stream};
 
 use crate::arrivals::Data;
-use crate::joining::add_part;
+use crate::fragments::Fragments;
 use crate::numbers::{fragment_place, number_near, short_number_from, short_number_near};
-use crate::runs::{Assembled, Part, Run, UpTo, Whole, drop_messages, size_of_runs};
+use crate::runs::{Assembled, Part, Whole};
 use dcsctp_api::types::{Numbering, SkippedTo, Taken};
 use dcsctp_api::{Message, PpId, StreamId};
 use std::alloc::{AllocError, Global};
@@ -39,10 +39,10 @@ pub struct Stream {
     pub waiting: BTreeMap<u64, Waiting>,
 
     /// Parts of ordered messages.
-    pub ordered: BTreeMap<u128, Run>,
+    pub ordered: Fragments,
 
     /// Parts of unordered messages.
-    pub unordered: BTreeMap<u128, Run>,
+    pub unordered: Fragments,
 }
 
 /// A whole ordered message that waits for an earlier one.
@@ -76,37 +76,50 @@ pub fn part_of_data(chunk: Data, place: u128, number: u64) -> Part
     }
 }
 
-/// A part of an unordered message of this stream was received, or a whole one; the runs hold the parts of
-/// such messages. If an allocation fails, the ready messages are unchanged.
-pub fn take_unordered(
+/// What became of a part of an unordered message with that many bytes: one that makes its message whole makes
+/// it ready. There is room for it.
+pub fn show_unordered(
+    id: StreamId,
+    size: usize,
+    outcome: Assembled,
+    ready: &mut VecDeque<Message>,
+) -> Taken
+    requires { deque_len ready.old < deque_capacity ready.old }
+    ensures { (part : PartModel) → length part.payload ≡ size → UnorderedOutcome part (delivered_as id.0) (map message_content ready.old.items) (assembled_of outcome) result (map message_content ready.new.items) }
+{
+    match outcome {
+        Assembled::Dropped => NOTHING,
+        Assembled::Kept => Taken {
+            kept_bytes: size,
+            ready: 0,
+        },
+        Assembled::Whole(whole) => {
+            ready.push_back_reserved(Message::new(id, whole.ppid, whole.payload));
+            Taken {
+                kept_bytes: size,
+                ready: 1,
+            }
+        }
+    }
+}
+
+// A part of an unordered message of this stream was received, or a whole one. If an allocation fails, nothing
+// has changed.
+fn take_unordered(
     alloc: Global,
     id: StreamId,
-    runs: &mut BTreeMap<u128, Run>,
+    fragments: &mut Fragments,
     part: Part,
     ready: &mut VecDeque<Message>,
 ) -> Result<Taken, AllocError>
-    ensures ok { IfOk result (λ taken. TakesUnordered (part_of part) (delivered_as id.0) (map run_of runs.old.entries) (map message_content ready.old.items) taken (map run_of runs.new.entries) (map message_content ready.new.items)) }
-    ensures err { OnErr result ((map run_of runs.new.entries ≡ map run_of runs.old.entries) × (map message_content ready.new.items ≡ map message_content ready.old.items)) }
+    requires { part.place / 2 ^ 64 ≡ part.number }
+    ensures ok { IfOk result (λ taken. TakesUnordered (part_of part) (delivered_as id.0) fragments.old (map message_content ready.old.items) taken fragments.new (map message_content ready.new.items)) }
+    ensures err { OnErr result ((fragments.new ≡ fragments.old) × (map message_content ready.new.items ≡ map message_content ready.old.items)) }
 {
     let size = part.payload.len();
     ready.try_reserve(1)?;
-    match add_part(alloc, runs, part)? {
-        Assembled::Dropped => Ok(Taken {
-            kept_bytes: 0,
-            ready: 0,
-        }),
-        Assembled::Kept => Ok(Taken {
-            kept_bytes: size,
-            ready: 0,
-        }),
-        Assembled::Whole(whole) => {
-            ready.push_back_reserved(Message::new(id, whole.ppid, whole.payload));
-            Ok(Taken {
-                kept_bytes: size,
-                ready: 1,
-            })
-        }
-    }
+    let outcome = fragments.add(alloc, part)?;
+    Ok(show_unordered(id, size, outcome, ready))
 }
 
 // Does the first message that waits have this number or a smaller one?
@@ -185,8 +198,8 @@ impl Stream {
             next: FIRST_NUMBER,
             last_unordered: FIRST_NUMBER,
             waiting: BTreeMap::new(alloc),
-            ordered: BTreeMap::new(alloc),
-            unordered: BTreeMap::new(alloc),
+            ordered: Fragments::new(alloc),
+            unordered: Fragments::new(alloc),
         }
     }
 
@@ -235,12 +248,13 @@ impl Stream {
         ready: &mut VecDeque<Message>,
     ) -> Result<Taken, AllocError>
         requires next { part.number ≡ self.old.next }
+        requires place { part.place / 2 ^ 64 ≡ part.number }
         ensures ok { IfOk result (λ taken. TakesOrdered (part_of part) (stream_of self.old) (map message_content ready.old.items) taken (stream_of self.new) (map message_content ready.new.items)) }
         ensures err { OnErr result ((stream_of self.new ≡ stream_of self.old) × (map message_content ready.new.items ≡ map message_content ready.old.items)) }
     {
         let size = part.payload.len();
         ready.try_reserve(self.waiting.len() + 1)?;
-        match add_part(alloc, &mut self.ordered, part)? {
+        match self.ordered.add(alloc, part)? {
             Assembled::Dropped => Ok(NOTHING),
             Assembled::Kept => Ok(Taken {
                 kept_bytes: size,
@@ -259,13 +273,14 @@ impl Stream {
     fn take_ahead(&mut self, alloc: Global, part: Part) -> Result<Taken, AllocError>
         requires ahead { self.old.next < part.number }
         requires fresh { get nat_cmp self.old.waiting part.number ≡ None }
+        requires place { part.place / 2 ^ 64 ≡ part.number }
         ensures ok { (ready : List MessageContent) → IfOk result (λ taken. TakesOrdered (part_of part) (stream_of self.old) ready taken (stream_of self.new) ready) }
         ensures err { OnErr result (stream_of self.new ≡ stream_of self.old) }
     {
         let size = part.payload.len();
         let number = part.number;
         hold_place(alloc, &mut self.waiting, number)?;
-        match add_part(alloc, &mut self.ordered, part) {
+        match self.ordered.add(alloc, part) {
             Ok(Assembled::Whole(whole)) => {
                 fill_place(&mut self.waiting, whole);
                 Ok(Taken {
@@ -301,6 +316,7 @@ impl Stream {
         part: Part,
         ready: &mut VecDeque<Message>,
     ) -> Result<Taken, AllocError>
+        requires { part.place / 2 ^ 64 ≡ part.number }
         ensures past { part.number < self.old.next → IfOk result (λ taken. NothingTaken taken × (stream_of self.new ≡ stream_of self.old) × (map message_content ready.new.items ≡ map message_content ready.old.items)) }
         ensures ok { self.old.next ≤ part.number → IfOk result (λ taken. TakesAhead (part_of part) (stream_of self.old) (map message_content ready.old.items) taken (stream_of self.new) (map message_content ready.new.items)) }
         ensures err { OnErr result ((stream_of self.new ≡ stream_of self.old) × (map message_content ready.new.items ≡ map message_content ready.old.items)) }
@@ -326,8 +342,9 @@ impl Stream {
         part: Part,
         ready: &mut VecDeque<Message>,
     ) -> Result<Taken, AllocError>
-        ensures ok { IfOk result (λ taken. TakesUnordered (part_of part) (delivered_as self.old.id.0) (map run_of self.old.unordered.entries) (map message_content ready.old.items) taken (map run_of self.new.unordered.entries) (map message_content ready.new.items)) }
-        ensures ordered { (self.new.id ≡ self.old.id) × (self.new.next ≡ self.old.next) × (self.new.last_unordered ≡ self.old.last_unordered) × (self.new.waiting.entries ≡ self.old.waiting.entries) × (self.new.ordered.entries ≡ self.old.ordered.entries) }
+        requires { part.place / 2 ^ 64 ≡ part.number }
+        ensures ok { IfOk result (λ taken. TakesUnordered (part_of part) (delivered_as self.old.id.0) self.old.unordered (map message_content ready.old.items) taken self.new.unordered (map message_content ready.new.items)) }
+        ensures ordered { (self.new.id ≡ self.old.id) × (self.new.next ≡ self.old.next) × (self.new.last_unordered ≡ self.old.last_unordered) × (self.new.waiting.entries ≡ self.old.waiting.entries) × (self.new.ordered ≡ self.old.ordered) }
         ensures err { OnErr result ((stream_of self.new ≡ stream_of self.old) × (map message_content ready.new.items ≡ map message_content ready.old.items)) }
     {
         take_unordered(alloc, self.id, &mut self.unordered, part, ready)
@@ -348,17 +365,17 @@ impl Stream {
         match chunk.numbering {
             Numbering::Ordered { ssn } => {
                 let number = short_number_from(self.next, ssn);
-                let part = part_of_data(chunk, u128::from(tsn_number), number);
+                let part = part_of_data(chunk, fragment_place(number, tsn_number), number);
                 self.take_ordered(alloc, part, ready)
             }
             Numbering::InterleavedOrdered { mid, fsn } => {
                 let number = number_near(self.next, mid);
-                let part = part_of_data(chunk, fragment_place(number, fsn), number);
+                let part = part_of_data(chunk, fragment_place(number, u64::from(fsn)), number);
                 self.take_ordered(alloc, part, ready)
             }
             Numbering::InterleavedUnordered { mid, fsn } => {
                 let number = number_near(self.last_unordered, mid);
-                let part = part_of_data(chunk, fragment_place(number, fsn), number);
+                let part = part_of_data(chunk, fragment_place(number, u64::from(fsn)), number);
                 let taken = self.take_unordered(alloc, part, ready)?;
                 self.last_unordered = number;
                 Ok(taken)
@@ -409,10 +426,10 @@ impl Stream {
         requires { deque_len ready.old + btree_map_len self.old.waiting ≤ deque_capacity ready.old }
         ensures stream { stream_of self.new ≡ skipped_in_order number (stream_of self.old) }
         ensures ready { map message_content ready.new.items ≡ map message_content ready.old.items ++ deliveries_from (next_past number self.old.next) (stream_of self.old) }
-        ensures size { result ≡ capped (runs_bytes (runs_up_to number (map run_of self.old.ordered.entries))) }
+        ensures size { result ≡ capped (runs_bytes (runs_up_to number self.old.ordered)) }
         ensures room { deque_capacity ready.new ≡ deque_capacity ready.old }
     {
-        let dropped_bytes = drop_messages(&mut self.ordered, &UpTo(number));
+        let dropped_bytes = self.ordered.drop_up_to(number);
         self.next = self.next.max(number.saturating_add(1));
         let _ = self.deliver(ready);
         dropped_bytes
@@ -422,10 +439,10 @@ impl Stream {
     // 2.3.1).
     fn skip_unordered(&mut self, number: u64) -> usize
         ensures stream { stream_of self.new ≡ skipped_out_of_order number (stream_of self.old) }
-        ensures size { result ≡ capped (runs_bytes (runs_up_to number (map run_of self.old.unordered.entries))) }
+        ensures size { result ≡ capped (runs_bytes (runs_up_to number self.old.unordered)) }
     {
         self.last_unordered = number;
-        drop_messages(&mut self.unordered, &UpTo(number))
+        self.unordered.drop_up_to(number)
     }
 
     /// Does something of it wait for more: a message for an earlier one, or parts for the others?
@@ -440,7 +457,7 @@ impl Stream {
         ensures { result ≡ capped (stream_bytes (stream_of self.now)) }
     {
         size_of_waiting(&self.waiting)
-            .saturating_add(size_of_runs(&self.ordered))
-            .saturating_add(size_of_runs(&self.unordered))
+            .saturating_add(self.ordered.size())
+            .saturating_add(self.unordered.size())
     }
 }

@@ -140,7 +140,8 @@ any_in_order part old before =
     (taken, new, after, record { past = λ below. absurd (grind (arith, nat_tests)); ahead = λ _. takes }))
 
 any_numbered : (tsn : ℕ) (chunk : ChunkModel) (numbering : Numbering) (old : StreamModel) (before : List MessageContent) → HasOutcome (TakesNumbered tsn chunk numbering old before)
-any_numbered tsn chunk (Ordered ssn) old before = any_ahead (data_part chunk tsn (short_number_from old.next ssn)) old before
+any_numbered tsn chunk (Ordered ssn) old before =
+    any_ahead (data_part chunk (fragment_place (short_number_from old.next ssn) tsn) (short_number_from old.next ssn)) old before
 any_numbered tsn chunk Unordered old before =
     let (taken, new, after, takes) = any_unordered (data_part chunk tsn 0) (delivered_as old.id) old.unordered before in
     (taken, record old { unordered = new }, after, record { unordered = takes; others = (refl, refl, refl, refl); last = refl })

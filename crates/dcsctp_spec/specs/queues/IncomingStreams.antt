@@ -187,8 +187,8 @@ pub record TakesApart (part : PartModel) (old : StreamModel) (before : List Mess
   pub others : (new.id ≡ old.id) × (new.next ≡ old.next) × (new.waiting ≡ old.waiting) × (new.ordered ≡ old.ordered)
   pub last : new.last_unordered ≡ old.last_unordered
 
--- Data of a stream was received, whose TSN has this number. The parts of an ordered message of DATA go by their TSNs, those of
--- I-DATA by their fragment numbers.
+-- Data of a stream was received, whose TSN has this number. The parts of a message of DATA go by their TSNs, those of I-DATA by
+-- their fragment numbers; those of one message go together.
 --
 -- A stream sequence number is read as the next number or a later one, over its whole range. The TSN is new, and all TSNs of a
 -- message that was delivered or skipped count as received (RFC 3758, section 3.5). A message identifier is read as the nearest
@@ -196,7 +196,7 @@ pub record TakesApart (part : PartModel) (old : StreamModel) (before : List Mess
 -- TSNs in a row.
 abbrev pub TakesNumbered : ℕ → ChunkModel → Numbering → StreamModel → List MessageContent → Taken → StreamModel → List MessageContent → Type 0
 TakesNumbered tsn chunk (Ordered ssn) old before taken new after =
-    TakesAhead (data_part chunk tsn (short_number_from old.next ssn)) old before taken new after
+    TakesAhead (data_part chunk (fragment_place (short_number_from old.next ssn) tsn) (short_number_from old.next ssn)) old before taken new after
 TakesNumbered tsn chunk Unordered old before taken new after = TakesApart (data_part chunk tsn 0) old before taken new after
 TakesNumbered tsn chunk (InterleavedOrdered mid fsn) old before taken new after =
     TakesInOrder (data_part chunk (fragment_place (number_near old.next mid) fsn) (number_near old.next mid)) old before taken new after

@@ -35,6 +35,7 @@ short_number_from reference number = first_from (2 ^ 16) reference number
 abbrev pub is_tsn_beyond : ℕ → ℕ → Bool
 is_tsn_beyond tsn other = nat_lt 0 (ahead_of (2 ^ 32) other tsn) && nat_lt (ahead_of (2 ^ 32) other tsn) (2 ^ 31)
 
--- the place of a part of an I-DATA message
+-- The place of a part among those of its stream: by the number of its message, and then by the number of its TSN (DATA) or its
+-- fragment number (I-DATA). So the parts of the messages up to a number come before all others.
 abbrev pub fragment_place : ℕ → ℕ → ℕ
-fragment_place number fsn = number * 2 ^ 32 + fsn
+fragment_place number offset = number * 2 ^ 64 + offset

@@ -1,5 +1,6 @@
 use Rattle.std.proofs.Common.{◌≡◌, ◌+◌, map}
 use Rattle.std.specs.List.{filter}
+use Rattle.dcsctp_api.specs.types.StreamTables.{marks}
 use Rattle.dcsctp_receive_reassembly.specs.Runs.{run_of}
 use Rattle.dcsctp_receive_reassembly.specs.Held.{capped}
 use Rattle.dcsctp_api.specs.spec.queues.Runs.{runs_bytes}
@@ -7,8 +8,8 @@ use Rattle.dcsctp_receive_reassembly.proofs.runs.size_of_messages.Given as goal
 
 -- What is counted, with what is left to count, is all.
 abbrev pub invariant-loop-run : goal.invariant-loop-run
-invariant-loop-run g l =
+invariant-loop-run l =
     record {
-      size : capped (l.size + runs_bytes (filter (λ run. g.N.Numbers.has l.numbers run.number) (map run_of l.run-iterator))) ≡ capped (runs_bytes (filter (λ run. g.N.Numbers.has l.numbers run.number) (map run_of l.runs.entries)));
+      size : capped (l.size + runs_bytes (filter (λ run. marks l.numbers run.number) (map run_of l.run-iterator))) ≡ capped (runs_bytes (filter (λ run. marks l.numbers run.number) (map run_of l.runs.entries)));
       bound : l.size ≡ capped l.size;
     }

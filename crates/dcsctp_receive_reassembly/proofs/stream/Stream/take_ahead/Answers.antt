@@ -23,7 +23,7 @@ returns-in-Ok-Whole-clause-ok c =
       parts = c.in-Ok-Whole.ensures.ok;
       does =
           rw c.in-Ok-Whole.field-0-is
-          (takes_waiting (whole_of c.in-Ok-Whole.whole) (stream_of c.args.self.now) (stream_of (record c.args.self.now { waiting = c.fill_place.new.waiting; ordered = c.add_part.new.runs })) ready (length c.args.part.payload.items) (record { kept_bytes = c.len-size.result; ready = 0 }) c.args.part.number number c.requires.ahead
+          (takes_waiting (whole_of c.in-Ok-Whole.whole) (stream_of c.args.self.now) (stream_of (record c.args.self.now { waiting = c.fill_place.new.waiting; ordered = c.add.new.self })) ready (length c.args.part.payload.items) (record { kept_bytes = c.len-size.result; ready = 0 }) c.args.part.number number c.requires.ahead
           (c.fill_place.ensures c.args.self.now.waiting.entries (subst (λ (n : ℕ). HoldsPlace n c.args.self.now.waiting.entries c.hold_place.new.waiting.entries) (sym number) c.in_ok-hold_place.ensures.ok))
           refl (omega (arith, c.len-size.ensures)) refl);
       id = refl;
