@@ -24,6 +24,12 @@ instructions() {
     awk '/Collected *:/ { print $NF }' "$folder/log"
 }
 
+# handling ARGS..: how many handle_input takes in a run.
+handling() {
+    under callgrind '--toggle-collect=*::handle_input*' "$@"
+    awk '/Collected *:/ { print $NF }' "$folder/log"
+}
+
 # heap ARGS..: the most bytes that a run holds.
 heap() {
     under massif --peak-inaccuracy=0.0 "$@"
@@ -71,17 +77,18 @@ memory() {
     tell "bytes of a socket itself" awk '/^socket-bytes/ { print $2 }' "$folder/said"
 }
 
-# strained KIND HELD: what a packet costs that comes to a receiver which holds so many, the sender's share included.
+# strained KIND HELD: what a packet costs that comes to a receiver which holds so many.
 strained() {
     local none ten
-    none=$(instructions strain "$1" "$2" 0)
-    ten=$(instructions strain "$1" "$2" 10)
+    none=$(handling strain "$1" "$2" 0)
+    ten=$(handling strain "$1" "$2" 10)
     awk -v difference="$((ten - none))" 'BEGIN { printf "%.0f\n", difference / 10 }'
 }
 
 strain() {
     local kind held
-    for kind in fragments interleaved gaps waiting streams reset; do
+    for kind in fragments interleaved gaps links waiting streams reset \
+        skips-repeated skips-rising skips-waiting skips-interleaved; do
         for held in 10 10000; do
             tell "$kind: $held held, a packet" strained "$kind" "$held"
         done

@@ -1,6 +1,6 @@
 //! What the arguments of the program say.
 
-use crate::strain::{HOLES, Holding, Strain};
+use crate::strain::{Following, HOLES, Holding, Strain};
 
 /// What the program is to do.
 #[derive(Clone, Copy)]
@@ -125,16 +125,29 @@ fn parse_plan(count: u32, words: &[String]) -> Option<Plan> {
     Some(plan)
 }
 
-// What a word says about what a receiver has to hold; `None` if it says nothing.
+// What a word says about what a receiver has to hold, if more of it follows; `None` if it says nothing.
 fn parse_holding(word: &str) -> Option<Holding> {
     match word {
         "fragments" => Some(Holding::Fragments),
         "interleaved" => Some(Holding::Interleaved),
         "gaps" => Some(Holding::Gaps),
+        "links" => Some(Holding::Links),
         "waiting" => Some(Holding::Waiting),
         "streams" => Some(Holding::Streams),
         "reset" => Some(Holding::Reset),
         _ => None,
+    }
+}
+
+// What a word says about what a receiver has to hold, and about what comes then; `None` if it says nothing.
+fn parse_kind(word: &str) -> Option<(Holding, Following)> {
+    let same = Following::Skips { is_rising: false };
+    match word {
+        "skips-repeated" => Some((Holding::Begun, same)),
+        "skips-rising" => Some((Holding::Begun, Following::Skips { is_rising: true })),
+        "skips-waiting" => Some((Holding::Waiting, same)),
+        "skips-interleaved" => Some((Holding::Interleaved, same)),
+        _ => Some((parse_holding(word)?, Following::More)),
     }
 }
 
@@ -143,8 +156,10 @@ fn parse_strain(words: &[String]) -> Option<Strain> {
     if words.len() != 3 {
         return None;
     }
+    let (holding, following) = parse_kind(words.first()?.as_str())?;
     Some(Strain {
-        holding: parse_holding(words.first()?.as_str())?,
+        holding,
+        following,
         held: number(words.get(1)?.as_str(), 1, MOST)?,
         more: number(words.get(2)?.as_str(), 0, HOLES)?,
     })

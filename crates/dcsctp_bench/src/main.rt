@@ -6,7 +6,8 @@
 //! dcsctp_bench messages N SIZE [unordered] [streams=K] [loss=PERMILLE] [seed=SEED] [delay=MS] [queued=Q]
 //!     [zero-checksum] [counts] [chunks]
 //! dcsctp_bench hold N [used]
-//! dcsctp_bench strain fragments|interleaved|gaps|waiting|streams|reset HELD MORE
+//! dcsctp_bench strain fragments|interleaved|gaps|links|waiting|streams|reset|skips-repeated|skips-rising|
+//!     skips-waiting|skips-interleaved HELD MORE
 //! ```
 //!
 //! `handshakes` makes N pairs of sockets one after another, connects each and drops it. `messages` sends N
@@ -17,7 +18,7 @@
 //! passed, the chunks of data that were sent, and those that the peer had when they arrived. `hold` makes N
 //! pairs and keeps them, `used` after 1 MiB was sent each way. `strain` has one socket hold HELD unfinished
 //! or waiting things that its peer sent. Then it hands it MORE packets, 10 at most, whose contents belong
-//! among those. The exit status is 0 if all went well and 2 at bad arguments. Else it is 1, and standard
+//! among those, or that name their stream as often as a FORWARD-TSN can. The exit status is 0 if all went well and 2 at bad arguments. Else it is 1, and standard
 //! error says why.
 #![tactic(auto)]
 
@@ -40,7 +41,8 @@ const USAGE: &str = "usage: dcsctp_bench handshakes N
        dcsctp_bench messages N SIZE [unordered] [streams=K] [loss=PERMILLE] [seed=SEED] [delay=MS] [queued=Q]
            [zero-checksum] [counts] [chunks]
        dcsctp_bench hold N [used]
-       dcsctp_bench strain fragments|interleaved|gaps|waiting|streams|reset HELD MORE";
+       dcsctp_bench strain fragments|interleaved|gaps|links|waiting|streams|reset|skips-repeated|skips-rising|
+           skips-waiting|skips-interleaved HELD MORE";
 
 // The command that the arguments say; none if they say no command.
 fn command(rt: &(impl Env + Alloc<A = Global>)) -> io::Result<Option<Command>> {

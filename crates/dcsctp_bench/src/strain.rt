@@ -5,8 +5,8 @@ use crate::failure::Failure;
 use crate::pair::Pair;
 use dcsctp_socket::{DcSctpSocket, SocketEvent};
 use dcsctp_types::wire::{
-    Chunk, DataChunk, DataFlags, IDataChunk, OutgoingSsnResetRequestParameter, Parameter,
-    ReConfigChunk,
+    Chunk, DataChunk, DataFlags, ForwardTsnChunk, IDataChunk, IForwardTsnChunk,
+    OutgoingSsnResetRequestParameter, Parameter, ReConfigChunk,
 };
 use dcsctp_wire_build::SctpPacketBuilder;
 use std::alloc::{AllocError, Global};
@@ -23,6 +23,12 @@ pub enum Holding {
     /// Ranges of TSNs after gaps.
     Gaps,
 
+    /// Fragments of one I-DATA message in a row. What comes then links up with them.
+    Links,
+
+    /// Beginnings of ordered messages.
+    Begun,
+
     /// Whole ordered messages after one that is missing.
     Waiting,
 
@@ -33,10 +39,23 @@ pub enum Holding {
     Reset,
 }
 
+/// What comes once a receiver holds it.
+#[derive(Clone, Copy)]
+pub enum Following {
+    /// More of the same.
+    More,
+
+    /// FORWARD-TSNs, or I-FORWARD-TSNs, that name one stream as often as they can. Nothing that is held is
+    /// skipped. The numbers rise, or each is the same.
+    Skips { is_rising: bool },
+}
+
 /// How a receiver is strained.
 #[derive(Clone, Copy)]
 pub struct Strain {
     pub holding: Holding,
+
+    pub following: Following,
 
     /// How much is held, 1 at least.
     pub held: u32,
@@ -100,6 +119,16 @@ fn beginning(is_unordered: bool, is_end: bool) -> DataFlags {
     }
 }
 
+// The flags of a fragment that neither begins nor ends its message.
+fn middle() -> DataFlags {
+    DataFlags {
+        is_end: false,
+        is_beginning: false,
+        is_unordered: false,
+        immediate_ack: false,
+    }
+}
+
 // The low 16 bits.
 fn low(number: u32) -> u16 {
     (number % 65536) as u16
@@ -129,6 +158,18 @@ fn ordered(tsn: u32, stream_id: u16, ssn: u16) -> Chunk<'static> {
     })
 }
 
+// The beginning of an ordered message.
+fn begun(tsn: u32, ssn: u16) -> Chunk<'static> {
+    Chunk::Data(DataChunk {
+        flags: beginning(false, false),
+        tsn,
+        stream_id: 0,
+        ssn,
+        ppid: 1,
+        payload: &[7],
+    })
+}
+
 // The beginning of an unordered I-DATA message.
 fn interleaved(tsn: u32, mid: u32) -> Chunk<'static> {
     Chunk::IData(IDataChunk {
@@ -139,6 +180,58 @@ fn interleaved(tsn: u32, mid: u32) -> Chunk<'static> {
         ppid_or_fsn: 1,
         payload: &[7],
     })
+}
+
+// A fragment of the first ordered I-DATA message.
+fn fragment(tsn: u32, fsn: u32) -> Chunk<'static> {
+    Chunk::IData(IDataChunk {
+        flags: middle(),
+        tsn,
+        stream_id: 0,
+        mid: 0,
+        ppid_or_fsn: fsn,
+        payload: &[7],
+    })
+}
+
+// The fragments that are held go from this number on.
+const HELD_FROM: u32 = 0x8000_0000;
+
+// The fragment number of what comes as the packet of this number, the held first. Of those that come then,
+// every second one links the one before it with all others.
+fn linking_fsn(strain: &Strain, number: u32) -> u32 {
+    match number.checked_sub(strain.held) {
+        Some(more) => {
+            let pairs = (more / 2).wrapping_mul(2);
+            HELD_FROM.wrapping_sub(pairs).wrapping_sub(2 - more % 2)
+        }
+        None => HELD_FROM.wrapping_add(number),
+    }
+}
+
+// How many entries a packet has room for, of FORWARD-TSN and of I-FORWARD-TSN.
+const SKIPPED: u16 = 280;
+
+const SKIPPED_APART: u16 = 140;
+
+// The entries of a FORWARD-TSN that name stream 0, from this number on or by the last number before 0.
+fn skipped_streams(alloc: Global, rising_from: Option<u16>) -> Result<Vec<u8>, AllocError> {
+    let mut entries = Vec::new(alloc);
+    for entry in 0..SKIPPED {
+        let ssn = rising_from.map_or(u16::MAX, |from| from.wrapping_add(entry));
+        entries.extend_from_slice(&[0, 0])?;
+        entries.extend_from_slice(&ssn.to_be_bytes())?;
+    }
+    Ok(entries)
+}
+
+// The entries of an I-FORWARD-TSN that name the unordered messages of stream 0 up to the first.
+fn skipped_apart(alloc: Global) -> Result<Vec<u8>, AllocError> {
+    let mut entries = Vec::new(alloc);
+    for _ in 0..SKIPPED_APART {
+        entries.extend_from_slice(&[0, 0, 0, 1, 0, 0, 0, 0])?;
+    }
+    Ok(entries)
 }
 
 impl<'p> Sender<'p> {
@@ -189,13 +282,39 @@ impl<'p> Sender<'p> {
         self.send(&Chunk::ReConfig(ReConfigChunk { parameters }))
     }
 
+    // Hands over a chunk that skips nothing of what is held.
+    fn skip(&mut self, strain: &Strain, number: u32, is_rising: bool) -> Result<(), Failure> {
+        let new_cumulative_tsn = self.first.wrapping_add(number);
+        if let Holding::Interleaved = strain.holding {
+            let entries = skipped_apart(self.alloc)?;
+            let skipped_streams = entries.as_slice();
+            return self.send(&Chunk::IForwardTsn(IForwardTsnChunk {
+                new_cumulative_tsn,
+                skipped_streams,
+            }));
+        }
+        let from = low(number.saturating_sub(strain.held).wrapping_mul(280));
+        let entries = skipped_streams(self.alloc, if is_rising { Some(from) } else { None })?;
+        self.send(&Chunk::ForwardTsn(ForwardTsnChunk {
+            new_cumulative_tsn,
+            skipped_streams: entries.as_slice(),
+        }))
+    }
+
     // Hands over the packet of this number, the first being 0.
     fn hand(&mut self, strain: &Strain, number: u32) -> Result<(), Failure> {
+        if let Following::Skips { is_rising } = strain.following {
+            if number >= strain.held {
+                return self.skip(strain, number, is_rising);
+            }
+        }
         let place = strain.place(number);
         let tsn = self.first.wrapping_add(number);
         let chunk = match strain.holding {
             Holding::Fragments => unordered(self.first.wrapping_add(place), false),
-            Holding::Interleaved => interleaved(tsn, place),
+            Holding::Interleaved => interleaved(tsn, place.wrapping_add(10)),
+            Holding::Links => fragment(tsn, linking_fsn(strain, number)),
+            Holding::Begun => begun(tsn, low(number % 20_000).wrapping_add(30_000)),
             Holding::Gaps => {
                 let twice = place.wrapping_mul(2).wrapping_add(1);
                 unordered(self.first.wrapping_add(twice), true)
@@ -210,7 +329,7 @@ impl<'p> Sender<'p> {
 
 /// Connects two sockets, and strains one of them.
 pub fn strain_receiver(alloc: Global, strain: &Strain) -> Result<(), Failure> {
-    let is_interleaved = matches!(strain.holding, Holding::Interleaved);
+    let is_interleaved = matches!(strain.holding, Holding::Interleaved | Holding::Links);
     let mut pair = Pair::strained(alloc, is_interleaved)?;
     pair.connect()?;
     let first = pair.a.socket.association().map_or(0, |it| it.my.first_tsn);
