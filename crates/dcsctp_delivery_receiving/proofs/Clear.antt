@@ -10,7 +10,7 @@ use Rattle.dcsctp_spec_lemmas.specs.spec.queues.Arrivals.{Arrival}
 use Rattle.dcsctp_spec_lemmas.specs.spec.queues.Incoming.{IncomingModel, stream_on, TakesChunk, TakesData, skipped_on, skipped_by, MovesOn, is_named, ResetsStreams}
 use Rattle.dcsctp_spec_lemmas.specs.spec.queues.IncomingStreams.{ChunkModel, StreamModel, new_stream, skipped_stream, skipped}
 use Rattle.dcsctp_spec_lemmas.specs.types.queues.Messages.{MessageContent}
-use Rattle.dcsctp_spec_lemmas.specs.spec.queues.Reassembly.{WaitingModel, arrived, skipping, DeferralModel, ReassemblyState, can_count, is_deferred, is_forward_deferred, is_above_watermark, with_waiting, entered, deferring, with_ready, AddsData, SkipsData, HandlesAll, actions_of, Leaves}
+use Rattle.dcsctp_spec_lemmas.specs.spec.queues.Reassembly.{WaitingModel, WaitingSkips, DeferralModel, ReassemblyState, can_count, entries_within, entries_beside, names_stream, is_deferred, is_forward_deferred, is_above_watermark, with_waiting, entered, deferring, with_ready, AddsData, SkipsData, SkipsThen, HandlesAll, waiting_of, skips_of, Leaves}
 use Rattle.dcsctp_spec_lemmas.specs.spec.queues.Tracker.{TrackerState, has_received, number_of, is_new_tsn, is_forward, is_valid_tsn}
 use Rattle.dcsctp_spec_lemmas.specs.spec.queues.Transfer.{Transfer}
 use Rattle.dcsctp_spec_lemmas.specs.spec.endpoint.TransferMoves.{AddsWhere, ReceivesWhere, SkipsWhere, MovesWhere, ReceivesData, MovesForward}
@@ -20,8 +20,9 @@ use Rattle.dcsctp_delivery_sending.specs.Numbers.{AreOfKind}
 use Rattle.dcsctp_delivery_sending.proofs.Places.{at_below}
 use Rattle.dcsctp_delivery_receiving.specs.Clear.{NoneSkips, NoneWaits, IsClear, IsOver}
 use Rattle.dcsctp_delivery_receiving.specs.Ready.{Skips, SkipAll}
-use Rattle.dcsctp_delivery_receiving.specs.Received.{Carries, IsTsn, Few, Received}
+use Rattle.dcsctp_delivery_receiving.specs.Received.{Carries, IsTsn, kept_entries, Few, Received}
 use Rattle.dcsctp_delivery_receiving.specs.Tracked.{tracked, Tracks}
+use Rattle.dcsctp_delivery_receiving.proofs.Kept.{all_left, all_kept, deferred_by}
 use Rattle.dcsctp_delivery_receiving.proofs.Tracked.{number_is, up_to}
 
 -- ---- numbers
@@ -48,7 +49,7 @@ forward_behind first count offset bound taken tracker small few below tracks pas
 -- ---- entries of other streams
 
 -- An entry skips no message of the stream if more TSNs are passed than came before the mark.
-skips_others : (history : History) (passed id : ℕ) (mark : Mark) → AreOfKind true history.log → Has mark history.marks → Resets mark id
+pub skips_others : (history : History) (passed id : ℕ) (mark : Mark) → AreOfKind true history.log → Has mark history.marks → Resets mark id
     → ((n : ℕ) (f : Piece) → at_place n history.log ≡ Some (Some f) → f.message.stream ≡ id → n < mark.bound) → mark.bound < passed
     → (entry : SkippedTo) → Skips history passed entry → skipped_stream entry ≢ id
 skips_others history passed id mark kinds has names below beyond (Ssn stream ssn) skips = λ e. (
@@ -61,7 +62,7 @@ skips_others history passed id mark kinds has names below beyond (Mid stream is_
     absurd (omega (arith, few, beyond))
     )
 
-pub all_skip_others : (history : History) (passed id : ℕ) (mark : Mark) → AreOfKind true history.log → Has mark history.marks → Resets mark id
+all_skip_others : (history : History) (passed id : ℕ) (mark : Mark) → AreOfKind true history.log → Has mark history.marks → Resets mark id
     → ((n : ℕ) (f : Piece) → at_place n history.log ≡ Some (Some f) → f.message.stream ≡ id → n < mark.bound) → mark.bound < passed
     → (entries : List SkippedTo) → SkipAll history passed entries → NoneSkips id entries
 all_skip_others history passed id mark kinds has names below beyond [] skips = tt
@@ -93,23 +94,28 @@ takes_others id tsn chunk old new ne takes = go chunk.numbering _ takes.takes
 moves_others : (id tsn : ℕ) (entries : List SkippedTo) (old new : IncomingModel) → NoneSkips id entries → MovesOn tsn entries old new → stream_on id new.streams ≡ stream_on id old.streams
 moves_others id tsn entries old new none moves = moves.streams id ∙ all_on_others entries id (stream_on id old.streams) none
 
-handles_others : (id : ℕ) (actions : List WaitingModel) (old new : IncomingModel) → NoneWaits id actions → HandlesAll actions old new → stream_on id new.streams ≡ stream_on id old.streams
+handles_others : (id : ℕ) (waiting : List WaitingModel) (old new : IncomingModel) → NoneWaits id waiting → HandlesAll waiting old new → stream_on id new.streams ≡ stream_on id old.streams
 handles_others id [] old new none works = ap (λ (m : IncomingModel). stream_on id m.streams) works
-handles_others id (arrived tsn chunk ∷ actions) old new none (between, takes, rest) =
-    handles_others id actions between new none.1 rest ∙ takes_others id tsn chunk old between none.0 takes
-handles_others id (skipping tsn entries ∷ actions) old new none (between, moves, rest) =
-    handles_others id actions between new none.1 rest ∙ moves_others id tsn entries old between none.0 moves
+handles_others id (one ∷ waiting) old new none (between, takes, rest) =
+    handles_others id waiting between new none.1 rest ∙ takes_others id one.tsn one.chunk old between none.0 takes
 
--- one more waits, of another stream
+skips_then_others : (id : ℕ) (skips : Option WaitingSkips) (old new : IncomingModel) → NoneSkips id (kept_entries skips) → SkipsThen skips old new → stream_on id new.streams ≡ stream_on id old.streams
+skips_then_others id None old new none same = ap (λ (m : IncomingModel). stream_on id m.streams) same
+skips_then_others id (Some skips) old new none moves = moves_others id skips.tsn (kept_entries (Some skips)) old new none moves
 
-waits_others : (id : ℕ) (action : WaitingModel) (actions : List WaitingModel) → NoneWaits id (action ∷ []) → NoneWaits id actions → NoneWaits id (actions ++ action ∷ [])
-waits_others id action [] one none = one
-waits_others id action (arrived tsn chunk ∷ actions) one none = (none.0, waits_others id action actions one none.1)
-waits_others id action (skipping tsn entries ∷ actions) one none = (none.0, waits_others id action actions one none.1)
+-- more data waits, of another stream
 
-deferred_others : (id : ℕ) (action : WaitingModel) (deferral : Option DeferralModel) → NoneWaits id (action ∷ []) → NoneWaits id (actions_of deferral) → NoneWaits id (actions_of (with_waiting action deferral))
-deferred_others id action None one none = tt
-deferred_others id action (Some d) one none = waits_others id action d.waiting one none
+waits_others : (id : ℕ) (last : WaitingModel) (waiting : List WaitingModel) → last.chunk.stream ≢ id → NoneWaits id waiting → NoneWaits id (waiting ++ last ∷ [])
+waits_others id last [] ne none = (ne, tt)
+waits_others id last (one ∷ waiting) ne none = (none.0, waits_others id last waiting ne none.1)
+
+deferred_others : (id : ℕ) (last : WaitingModel) (deferral : Option DeferralModel) → last.chunk.stream ≢ id → NoneWaits id (waiting_of deferral) → NoneWaits id (waiting_of (with_waiting last deferral))
+deferred_others id last None ne none = tt
+deferred_others id last (Some d) ne none = waits_others id last d.waiting ne none
+
+deferred_kept : (id : ℕ) (last : WaitingModel) (deferral : Option DeferralModel) → NoneSkips id (kept_entries (skips_of deferral)) → NoneSkips id (kept_entries (skips_of (with_waiting last deferral)))
+deferred_kept id last None kept = tt
+deferred_kept id last (Some d) kept = kept
 
 -- ---- data
 
@@ -120,12 +126,13 @@ added_elsewhere id tsn chunk old new ne clear adds = go (can_count (length chunk
     go false counts waits deferred = subst (λ (s : ReassemblyState). IsClear id s) (sym (adds.too_much counts)) clear
     go true counts true deferred =
         subst (λ (s : ReassemblyState). IsClear id s) (sym (adds.deferred counts deferred))
-        (record { stream = clear.stream; none = deferred_others id (arrived tsn chunk) old.deferral (ne, tt) clear.none })
+        (record { stream = clear.stream; none = deferred_others id (record { tsn = tsn; chunk = chunk }) old.deferral ne clear.none; kept = deferred_kept id (record { tsn = tsn; chunk = chunk }) old.deferral clear.kept })
     go true counts false deferred =
         let takes = adds.taken counts deferred in
         record {
           stream = takes_others id tsn chunk old.incoming new.incoming ne takes.incoming ∙ clear.stream;
-          none = subst (λ (d : Option DeferralModel). NoneWaits id (actions_of d)) (sym takes.deferral) clear.none;
+          none = subst (λ (d : Option DeferralModel). NoneWaits id (waiting_of d)) (sym takes.deferral) clear.none;
+          kept = subst (λ (d : Option DeferralModel). NoneSkips id (kept_entries (skips_of d))) (sym takes.deferral) clear.kept;
         }
 
 pub clear_through_data : (queued : List Message) (history : History) (first id : ℕ) (read : List ℕ) (offset : ℕ) (arrival : Arrival) (old new : Transfer) → Few history first
@@ -154,13 +161,23 @@ skipped_elsewhere id tsn entries old new none clear skips = go (is_forward_defer
   where
     go : (b : Bool) → is_forward_deferred tsn old.deferral ≡ b → IsClear id new
     go true is =
-        subst (λ (s : ReassemblyState). IsClear id s) (sym (skips.deferred is))
-        (record { stream = clear.stream; none = deferred_others id (skipping tsn entries) old.deferral (none, tt) clear.none })
+        let (waits, same, far) = deferred_by tsn old.deferral is in
+        let beside = skips.deferred is waits same in
+        record {
+          stream = moves_others id tsn (entries_beside waits.streams entries) old.incoming new.incoming
+              (all_left (λ entry. skipped_stream entry ≢ id) (λ entry. not (names_stream waits.streams (skipped_stream entry))) entries none) beside.incoming ∙ clear.stream;
+          none = subst (λ (d : Option DeferralModel). NoneWaits id (waiting_of d)) (sym beside.deferral) (subst (λ (d : Option DeferralModel). NoneWaits id (waiting_of d)) same clear.none);
+          kept = subst (λ (d : Option DeferralModel). NoneSkips id (kept_entries (skips_of d))) (sym beside.deferral)
+              (all_kept (λ entry. skipped_stream entry ≢ id) tsn (entries_within waits.streams entries) waits.skips
+              (all_left (λ entry. skipped_stream entry ≢ id) (λ entry. names_stream waits.streams (skipped_stream entry)) entries none)
+              (subst (λ (d : Option DeferralModel). NoneSkips id (kept_entries (skips_of d))) same clear.kept));
+        }
     go false is =
         let moved = skips.moved is in
         record {
           stream = moves_others id tsn entries old.incoming new.incoming none moved.incoming ∙ clear.stream;
-          none = subst (λ (d : Option DeferralModel). NoneWaits id (actions_of d)) (sym moved.deferral) clear.none;
+          none = subst (λ (d : Option DeferralModel). NoneWaits id (waiting_of d)) (sym moved.deferral) clear.none;
+          kept = subst (λ (d : Option DeferralModel). NoneSkips id (kept_entries (skips_of d))) (sym moved.deferral) clear.kept;
         }
 
 pub clear_through_forward : (queued : List Message) (history : History) (first id : ℕ) (read : List ℕ) (tsn : ℕ) (entries : List SkippedTo) (old new : Transfer) → AreOfKind true history.log → Few history first
@@ -186,16 +203,19 @@ clear_through_forward queued history first id read tsn entries old new kinds few
 -- ---- streams that are reset, and the rest
 
 -- The stream is new once the reset was performed: what was handled then is of others.
-pub left_clear : (id : ℕ) (streams : List ℕ) (old new : ReassemblyState) → NoneWaits id (actions_of old.deferral) → ((between : IncomingModel) → ResetsStreams streams old.incoming between → stream_on id between.streams ≡ new_stream id)
+pub left_clear : (id : ℕ) (streams : List ℕ) (old new : ReassemblyState) → NoneWaits id (waiting_of old.deferral) → NoneSkips id (kept_entries (skips_of old.deferral))
+    → ((between : IncomingModel) → ResetsStreams streams old.incoming between → stream_on id between.streams ≡ new_stream id)
     → Leaves streams old new → IsClear id new
-left_clear id streams old new none renewed leaves =
+left_clear id streams old new none kept renewed leaves =
     record {
-      stream = handles_others id (actions_of old.deferral) leaves.between new.incoming none leaves.works ∙ renewed leaves.between leaves.resets;
-      none = subst (λ (d : Option DeferralModel). NoneWaits id (actions_of d)) (sym leaves.deferral) tt;
+      stream = skips_then_others id (skips_of old.deferral) leaves.handled new.incoming kept leaves.skips
+          ∙ handles_others id (waiting_of old.deferral) leaves.between leaves.handled none leaves.works ∙ renewed leaves.between leaves.resets;
+      none = subst (λ (d : Option DeferralModel). NoneWaits id (waiting_of d)) (sym leaves.deferral) tt;
+      kept = subst (λ (d : Option DeferralModel). NoneSkips id (kept_entries (skips_of d))) (sym leaves.deferral) tt;
     }
 
 pub clear_through_resets : (id : ℕ) (streams : List ℕ) (old new : ReassemblyState) → IsClear id old → Leaves streams old new → IsClear id new
-clear_through_resets id streams old new clear leaves = left_clear id streams old new clear.none (renewed streams) leaves
+clear_through_resets id streams old new clear leaves = left_clear id streams old new clear.none clear.kept (renewed streams) leaves
   where
     either : (b : Bool) → (if b then new_stream id else stream_on id old.incoming.streams) ≡ new_stream id
     either true = refl
@@ -208,10 +228,14 @@ clear_through_resets id streams old new clear leaves = left_clear id streams old
 pub clear_through_rest : (id : ℕ) (reassembly : ReassemblyState) → IsClear id reassembly
     → ((last_tsn : ℕ) (streams : List ℕ) → IsClear id (deferring last_tsn streams reassembly)) × ((messages : List MessageContent) → IsClear id (with_ready messages reassembly))
 clear_through_rest id reassembly clear = (
-  λ last_tsn streams. record { stream = clear.stream; none = begun last_tsn streams reassembly.deferral clear.none },
-  λ messages. record { stream = clear.stream; none = clear.none },
+  λ last_tsn streams. record { stream = clear.stream; none = begun last_tsn streams reassembly.deferral clear.none; kept = still_kept last_tsn streams reassembly.deferral clear.kept },
+  λ messages. record { stream = clear.stream; none = clear.none; kept = clear.kept },
 )
   where
-    begun : (last_tsn : ℕ) (streams : List ℕ) (deferral : Option DeferralModel) → NoneWaits id (actions_of deferral) → NoneWaits id (actions_of (entered last_tsn streams deferral))
+    begun : (last_tsn : ℕ) (streams : List ℕ) (deferral : Option DeferralModel) → NoneWaits id (waiting_of deferral) → NoneWaits id (waiting_of (entered last_tsn streams deferral))
     begun last_tsn streams None none = tt
     begun last_tsn streams (Some d) none = none
+
+    still_kept : (last_tsn : ℕ) (streams : List ℕ) (deferral : Option DeferralModel) → NoneSkips id (kept_entries (skips_of deferral)) → NoneSkips id (kept_entries (skips_of (entered last_tsn streams deferral)))
+    still_kept last_tsn streams None kept = tt
+    still_kept last_tsn streams (Some d) kept = kept

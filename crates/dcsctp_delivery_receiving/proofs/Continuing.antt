@@ -1,17 +1,18 @@
 -- What was received of a peer stays so as it goes on.
 use Rattle.std.proofs.Common.{◌≡◌, ℕ, Bool, true, false, ◌≤◌, ◌+◌, List, [], ◌∷◌, length, arith, inl, inr}
-use Rattle.std.specs.Prelude.{◌⊎◌, Some}
+use Rattle.std.specs.Prelude.{◌⊎◌, Option, None, Some}
+use Rattle.std.specs.List.{AllByRecursion}
 use Rattle.dcsctp_spec_lemmas.specs.types.declared.arrivals.SkippedTo.{SkippedTo}
 use Rattle.dcsctp_spec_lemmas.specs.types.declared.arrivals.SkippedTo.TheVariants.{Ssn, Mid}
 use Rattle.dcsctp_spec_lemmas.specs.spec.queues.Runs.{RunModel}
 use Rattle.dcsctp_spec_lemmas.specs.spec.queues.IncomingStreams.{ChunkModel}
-use Rattle.dcsctp_spec_lemmas.specs.spec.queues.Reassembly.{WaitingModel, arrived, skipping}
+use Rattle.dcsctp_spec_lemmas.specs.spec.queues.Reassembly.{WaitingModel, WaitingSkips, DeferralModel}
 use Rattle.dcsctp_delivery_sending.specs.Places.{Has, at_place}
 use Rattle.dcsctp_delivery_sending.specs.Log.{Piece, Slot, Mark, History}
 use Rattle.dcsctp_delivery_sending.specs.Numbers.{IsCurrent}
 use Rattle.dcsctp_delivery_receiving.specs.Rows.{IsRow, AreRows, Spent}
-use Rattle.dcsctp_delivery_receiving.specs.Ready.{IsNumberedAs, IsOn, IsApart, Reads, Names, NameAll}
-use Rattle.dcsctp_delivery_receiving.specs.Received.{Carries, CarriesCurrent, SkipsTo, Defers}
+use Rattle.dcsctp_delivery_receiving.specs.Ready.{IsNumberedAs, IsOn, IsApart, Reads, Names}
+use Rattle.dcsctp_delivery_receiving.specs.Received.{Carries, CarriesCurrent, IsTsn, kept_entries, SkipsLater, SkipsWait, ForwardsWait, Defers}
 
 -- All pieces of a history are in a later one, each current one still is current, and the other marks are of resets that began later.
 pub record GoesOn (history wider : History) : Type 0 where
@@ -102,6 +103,9 @@ module _ (history wider : History) (goes : GoesOn history wider) where
         current = λ kind. goes.current offset c.piece c.at (carries.current kind);
       }
 
+  abbrev tsn_more : (first tsn : ℕ) → IsTsn history.log first tsn → IsTsn wider.log first tsn
+  tsn_more first tsn t = record { offset = t.offset; below = omega (arith, t.below, goes.longer); is = t.is }
+
   -- TSNs were assigned before a reset that began later
   name_more : (passed : ℕ) → passed ≤ length history.log → (entry : SkippedTo) → Names history passed entry → Names wider passed entry
   name_more passed assigned (Ssn id ssn) (s, is) = (record { number = s.number; piece = s.piece; at = goes.stays s.number (Some s.piece) s.at; kind = s.kind }, tt)
@@ -119,22 +123,30 @@ module _ (history wider : History) (goes : GoesOn history wider) where
     goes.current s.number s.piece s.at is,
   )
 
-  names_more : (passed : ℕ) → passed ≤ length history.log → (entries : List SkippedTo) → NameAll history passed entries → NameAll wider passed entries
-  names_more passed assigned [] names = tt
-  names_more passed assigned (entry ∷ entries) names = (name_more passed assigned entry names.0, names_more passed assigned entries names.1)
-
-  skips_more : (first tsn : ℕ) (entries : List SkippedTo) → SkipsTo history first tsn entries → SkipsTo wider first tsn entries
-  skips_more first tsn entries s =
+  later_more : (first last_tsn : ℕ) (entry : SkippedTo) → SkipsLater history first last_tsn entry → SkipsLater wider first last_tsn entry
+  later_more first last_tsn entry s =
       let t = s.tsn_is in
       record {
-        tsn_is = record { offset = t.offset; below = omega (arith, t.below, goes.longer); is = t.is };
-        names = names_more (t.offset + 1) (omega (arith, t.below)) entries s.names;
+        tsn = s.tsn;
+        tsn_is = tsn_more first s.tsn t;
+        beyond = s.beyond;
+        names = name_more (t.offset + 1) (omega (arith, t.below)) entry s.names;
       }
 
-  pub defers_more : (first : ℕ) (numbers : List ℕ) (actions : List WaitingModel) → Defers history first numbers actions → Defers wider first numbers actions
+  all_more : (first last_tsn : ℕ) (entries : List SkippedTo) → AllByRecursion (SkipsLater history first last_tsn) entries → AllByRecursion (SkipsLater wider first last_tsn) entries
+  all_more first last_tsn [] all = tt
+  all_more first last_tsn (entry ∷ entries) all = (later_more first last_tsn entry all.0, all_more first last_tsn entries all.1)
+
+  skips_more : (first last_tsn : ℕ) (skips : Option WaitingSkips) → SkipsWait history first last_tsn skips → SkipsWait wider first last_tsn skips
+  skips_more first last_tsn None wait = tt
+  skips_more first last_tsn (Some skips) wait = (tsn_more first skips.tsn wait.0, all_more first last_tsn (kept_entries (Some skips)) wait.1)
+
+  pub forwards_more : (first : ℕ) (deferral : Option DeferralModel) → ForwardsWait history first deferral → ForwardsWait wider first deferral
+  forwards_more first None wait = tt
+  forwards_more first (Some d) wait = skips_more first d.last_tsn d.skips wait
+
+  pub defers_more : (first : ℕ) (numbers : List ℕ) (waiting : List WaitingModel) → Defers history first numbers waiting → Defers wider first numbers waiting
   defers_more first [] [] defers = tt
   defers_more first (n ∷ numbers) [] defers = absurd defers
-  defers_more first [] (arrived tsn chunk ∷ actions) defers = absurd defers
-  defers_more first (n ∷ numbers) (arrived tsn chunk ∷ actions) defers = (carries_more first n tsn chunk defers.0, defers_more first numbers actions defers.1)
-  defers_more first [] (skipping tsn entries ∷ actions) defers = (skips_more first tsn entries defers.0, defers_more first [] actions defers.1)
-  defers_more first (n ∷ numbers) (skipping tsn entries ∷ actions) defers = (skips_more first tsn entries defers.0, defers_more first (n ∷ numbers) actions defers.1)
+  defers_more first [] (one ∷ waiting) defers = absurd defers
+  defers_more first (n ∷ numbers) (one ∷ waiting) defers = (carries_more first n one.tsn one.chunk defers.0, defers_more first numbers waiting defers.1)

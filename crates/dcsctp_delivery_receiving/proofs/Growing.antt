@@ -5,7 +5,7 @@ use Rattle.std.proofs.lemmas.List.{length-append}
 use Rattle.dcsctp_spec_lemmas.specs.types.queues.Messages.{MessageContent}
 use Rattle.dcsctp_spec_lemmas.specs.spec.queues.Runs.{WholeModel}
 use Rattle.dcsctp_spec_lemmas.specs.spec.queues.Incoming.{IncomingModel, stream_on}
-use Rattle.dcsctp_spec_lemmas.specs.spec.queues.Reassembly.{ReassemblyState, actions_of}
+use Rattle.dcsctp_spec_lemmas.specs.spec.queues.Reassembly.{ReassemblyState, waiting_of}
 use Rattle.dcsctp_spec_lemmas.specs.spec.queues.Tracker.{TrackerState}
 use Rattle.dcsctp_spec_lemmas.specs.spec.endpoint.BegunResets.{BegunReset}
 use Rattle.dcsctp_delivery_sending.specs.Places.{at_place}
@@ -17,7 +17,7 @@ use Rattle.dcsctp_delivery_receiving.specs.Received.{Reassembles, untouched, pla
 use Rattle.dcsctp_delivery_sending.proofs.Packets.{at_more}
 use Rattle.dcsctp_delivery_sending.proofs.Places.{at_new, at_cases, at_stays}
 use Rattle.dcsctp_delivery_receiving.proofs.Current.{OthersArePast}
-use Rattle.dcsctp_delivery_receiving.proofs.Continuing.{GoesOn, on_more, apart_more, reads_more, rows_more, spent_more, defers_more}
+use Rattle.dcsctp_delivery_receiving.proofs.Continuing.{GoesOn, on_more, apart_more, reads_more, rows_more, spent_more, defers_more, forwards_more}
 use Rattle.dcsctp_delivery_receiving.proofs.Tracked.{more_given_out}
 
 pub were_more : (queued more : List Message) (places : List ℕ) (contents : List MessageContent) → WereQueued queued places contents → WereQueued (more ++ queued) places contents
@@ -93,8 +93,9 @@ module _ (queued more : List Message) (history wider : History) (goes : GoesOn h
         apart = r.apart;
         distinct = r.distinct;
         holds = reassembles_more first r.got read reassembly.incoming r.holds;
-        defers = defers_more history wider goes first r.later (actions_of reassembly.deferral) r.defers;
+        defers = defers_more history wider goes first r.later (waiting_of reassembly.deferral) r.defers;
         beyond = r.beyond;
+        forwards = forwards_more history wider goes first reassembly.deferral r.forwards;
         old = old;
       }
 

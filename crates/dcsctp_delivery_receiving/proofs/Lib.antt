@@ -11,6 +11,7 @@ pub mod Ready
 pub mod Skipping
 pub mod Tracked
 pub mod Current
+pub mod Kept
 pub mod Reassembled
 pub mod Received
 pub mod Taking

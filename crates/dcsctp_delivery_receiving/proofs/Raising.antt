@@ -1,12 +1,13 @@
 -- Floors that are raised: of streams on which nothing was sent, or that are clear.
 use Rattle.std.proofs.Common.{◌≡◌, ◌≢◌, ℕ, Bool, true, false, ◌<◌, ◌≤◌, ◌+◌, ◌*◌, ◌^◌, List, [], ◌∷◌, length, refl, sym, ◌∙◌, ap, arith, subst, inl, inr}
-use Rattle.std.specs.Prelude.{◌⊎◌, if◌then◌else◌, Some}
+use Rattle.std.specs.Prelude.{◌⊎◌, if◌then◌else◌, Option, None, Some}
+use Rattle.std.specs.List.{AllByRecursion}
 use Rattle.std.proofs.lemmas.Bool.Decides.{leb_tells}
 use Rattle.dcsctp_spec_lemmas.specs.types.declared.arrivals.SkippedTo.{SkippedTo}
 use Rattle.dcsctp_spec_lemmas.specs.types.declared.arrivals.SkippedTo.TheVariants.{Ssn, Mid}
 use Rattle.dcsctp_spec_lemmas.specs.spec.queues.Incoming.{IncomingModel, stream_on}
 use Rattle.dcsctp_spec_lemmas.specs.spec.queues.IncomingStreams.{ChunkModel, StreamModel, new_stream, skipped_stream}
-use Rattle.dcsctp_spec_lemmas.specs.spec.queues.Reassembly.{WaitingModel, arrived, skipping, ReassemblyState, actions_of}
+use Rattle.dcsctp_spec_lemmas.specs.spec.queues.Reassembly.{WaitingModel, WaitingSkips, DeferralModel, ReassemblyState, waiting_of, skips_of}
 use Rattle.dcsctp_spec_lemmas.specs.spec.queues.Runs.{RunModel, WholeModel}
 use Rattle.dcsctp_spec_lemmas.specs.types.queues.SendStreams.{Stream}
 use Rattle.dcsctp_spec_lemmas.specs.spec.queues.Tracker.{TrackerState}
@@ -16,8 +17,8 @@ use Rattle.dcsctp_delivery_sending.specs.Numbers.{is_handed_out, stream_named, I
 use Rattle.dcsctp_delivery_sending.specs.Queueing.{raised}
 use Rattle.dcsctp_delivery_receiving.specs.Clear.{NoneSkips, NoneWaits, IsClear, Unsent, IsOver}
 use Rattle.dcsctp_delivery_receiving.specs.Rows.{IsRow, AreRows, IsQueued}
-use Rattle.dcsctp_delivery_receiving.specs.Ready.{IsNumberedAs, IsOn, IsApart, fresh, Reads, ordered_base, Names, NameAll, WaitQueued, StreamHolds, Holds}
-use Rattle.dcsctp_delivery_receiving.specs.Received.{CarriesCurrent, SkipsTo, Reassembles, untouched, placed, Defers, IsPast, Received}
+use Rattle.dcsctp_delivery_receiving.specs.Ready.{IsNumberedAs, IsOn, IsApart, fresh, Reads, ordered_base, Names, WaitQueued, StreamHolds, Holds}
+use Rattle.dcsctp_delivery_receiving.specs.Received.{CarriesCurrent, kept_entries, SkipsLater, SkipsWait, ForwardsWait, Reassembles, untouched, placed, Defers, IsPast, Received}
 
 -- A piece of a stream that isn't handed out stays current.
 open_current : (streams : List Stream) (history : History) (f : Piece) → is_handed_out (stream_named f.message.stream streams).pause ≡ false → IsCurrent history f → IsCurrent (raised streams history) f
@@ -163,10 +164,7 @@ module _ (queued : List Message) (history : History) (streams : List Stream) whe
   carries_keeps first offset tsn chunk kept c =
       record {
         carries = c.carries;
-        current = λ kind. elim (kept c.carries.piece.message.stream) [
-          | inl keep ↦ keep offset c.carries.piece c.carries.at refl (c.current kind)
-          | inr ne ↦ absurd (ne c.carries.stream)
-        ];
+        current = λ kind. elim (kept c.carries.piece.message.stream) [ inl keep ↦ keep offset c.carries.piece c.carries.at refl (c.current kind) | inr ne ↦ absurd (ne c.carries.stream) ];
       }
 
   name_keeps : (passed : ℕ) (entry : SkippedTo) → KeptOr (λ id. skipped_stream entry ≢ id) → Names history passed entry → Names (raised streams history) passed entry
@@ -179,31 +177,33 @@ module _ (queued : List Message) (history : History) (streams : List Stream) whe
     ],
   )
 
-  names_keep : (passed : ℕ) (entries : List SkippedTo) → KeptOr (λ id. NoneSkips id entries) → NameAll history passed entries → NameAll (raised streams history) passed entries
-  names_keep passed [] kept names = tt
-  names_keep passed (entry ∷ entries) kept names = (
-    name_keeps passed entry (λ id. elim (kept id) [ inl keep ↦ inl keep | inr none ↦ inr none.0 ]) names.0,
-    names_keep passed entries (λ id. elim (kept id) [ inl keep ↦ inl keep | inr none ↦ inr none.1 ]) names.1,
+  later_keep : (first last_tsn : ℕ) (entries : List SkippedTo) → KeptOr (λ id. NoneSkips id entries) → AllByRecursion (SkipsLater history first last_tsn) entries → AllByRecursion (SkipsLater (raised streams history) first last_tsn) entries
+  later_keep first last_tsn [] kept all = tt
+  later_keep first last_tsn (entry ∷ entries) kept all = (
+    record {
+      tsn = all.0.tsn;
+      tsn_is = all.0.tsn_is;
+      beyond = all.0.beyond;
+      names = name_keeps (all.0.tsn_is.offset + 1) entry (λ id. elim (kept id) [ inl keep ↦ inl keep | inr none ↦ inr none.0 ]) all.0.names;
+    },
+    later_keep first last_tsn entries (λ id. elim (kept id) [ inl keep ↦ inl keep | inr none ↦ inr none.1 ]) all.1,
   )
 
-  skips_keeps : (first tsn : ℕ) (entries : List SkippedTo) → KeptOr (λ id. NoneSkips id entries) → SkipsTo history first tsn entries → SkipsTo (raised streams history) first tsn entries
-  skips_keeps first tsn entries kept s = record { tsn_is = s.tsn_is; names = names_keep (s.tsn_is.offset + 1) entries kept s.names }
+  skips_keep : (first last_tsn : ℕ) (skips : Option WaitingSkips) → KeptOr (λ id. NoneSkips id (kept_entries skips)) → SkipsWait history first last_tsn skips → SkipsWait (raised streams history) first last_tsn skips
+  skips_keep first last_tsn None kept wait = tt
+  skips_keep first last_tsn (Some skips) kept wait = (wait.0, later_keep first last_tsn (kept_entries (Some skips)) kept wait.1)
 
-  defers_keeps : (first : ℕ) (offsets : List ℕ) (actions : List WaitingModel) → KeptOr (λ id. NoneWaits id actions) → Defers history first offsets actions → Defers (raised streams history) first offsets actions
+  forwards_keep : (first : ℕ) (deferral : Option DeferralModel) → KeptOr (λ id. NoneSkips id (kept_entries (skips_of deferral))) → ForwardsWait history first deferral → ForwardsWait (raised streams history) first deferral
+  forwards_keep first None kept wait = tt
+  forwards_keep first (Some d) kept wait = skips_keep first d.last_tsn d.skips kept wait
+
+  defers_keeps : (first : ℕ) (offsets : List ℕ) (waiting : List WaitingModel) → KeptOr (λ id. NoneWaits id waiting) → Defers history first offsets waiting → Defers (raised streams history) first offsets waiting
   defers_keeps first [] [] kept defers = tt
   defers_keeps first (offset ∷ offsets) [] kept defers = absurd defers
-  defers_keeps first [] (arrived tsn chunk ∷ actions) kept defers = absurd defers
-  defers_keeps first (offset ∷ offsets) (arrived tsn chunk ∷ actions) kept defers = (
-    carries_keeps first offset tsn chunk (λ id. elim (kept id) [ inl keep ↦ inl keep | inr none ↦ inr none.0 ]) defers.0,
-    defers_keeps first offsets actions (λ id. elim (kept id) [ inl keep ↦ inl keep | inr none ↦ inr none.1 ]) defers.1,
-  )
-  defers_keeps first [] (skipping tsn entries ∷ actions) kept defers = (
-    skips_keeps first tsn entries (λ id. elim (kept id) [ inl keep ↦ inl keep | inr none ↦ inr none.0 ]) defers.0,
-    defers_keeps first [] actions (λ id. elim (kept id) [ inl keep ↦ inl keep | inr none ↦ inr none.1 ]) defers.1,
-  )
-  defers_keeps first (offset ∷ offsets) (skipping tsn entries ∷ actions) kept defers = (
-    skips_keeps first tsn entries (λ id. elim (kept id) [ inl keep ↦ inl keep | inr none ↦ inr none.0 ]) defers.0,
-    defers_keeps first (offset ∷ offsets) actions (λ id. elim (kept id) [ inl keep ↦ inl keep | inr none ↦ inr none.1 ]) defers.1,
+  defers_keeps first [] (one ∷ waiting) kept defers = absurd defers
+  defers_keeps first (offset ∷ offsets) (one ∷ waiting) kept defers = (
+    carries_keeps first offset one.tsn one.chunk (λ id. elim (kept id) [ inl keep ↦ inl keep | inr none ↦ inr none.0 ]) defers.0,
+    defers_keeps first offsets waiting (λ id. elim (kept id) [ inl keep ↦ inl keep | inr none ↦ inr none.1 ]) defers.1,
   )
 
 -- ---- all of it
@@ -222,8 +222,9 @@ raising_keeps queued history streams first read tracker reassembly out r =
       apart = r.apart;
       distinct = r.distinct;
       holds = reassembles_keeps queued history streams first r.got read reassembly.incoming (λ id. elim (kept id) [ inl keep ↦ inl keep | inr c ↦ inr c.1.stream ]) r.holds;
-      defers = defers_keeps queued history streams first r.later (actions_of reassembly.deferral) (λ id. elim (kept id) [ inl keep ↦ inl keep | inr c ↦ inr c.1.none ]) r.defers;
+      defers = defers_keeps queued history streams first r.later (waiting_of reassembly.deferral) (λ id. elim (kept id) [ inl keep ↦ inl keep | inr c ↦ inr c.1.none ]) r.defers;
       beyond = r.beyond;
+      forwards = forwards_keep queued history streams first reassembly.deferral (λ id. elim (kept id) [ inl keep ↦ inl keep | inr c ↦ inr c.1.kept ]) r.forwards;
       old = past;
     }
   where

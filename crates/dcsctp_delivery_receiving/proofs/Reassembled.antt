@@ -6,18 +6,19 @@ use Rattle.dcsctp_spec_lemmas.specs.types.declared.arrivals.SkippedTo.{SkippedTo
 use Rattle.dcsctp_spec_lemmas.specs.spec.queues.Numbers.{number_near, is_tsn_beyond}
 use Rattle.dcsctp_spec_lemmas.specs.spec.queues.IncomingStreams.{ChunkModel}
 use Rattle.dcsctp_spec_lemmas.specs.spec.queues.Incoming.{IncomingModel, TakesData, MovesOn, ResetsStreams}
-use Rattle.dcsctp_spec_lemmas.specs.spec.queues.Reassembly.{WaitingModel, arrived, skipping, DeferralModel, ReassemblyState, names_stream, is_deferred, is_forward_deferred, with_waiting, HandlesAll, actions_of, Leaves}
+use Rattle.dcsctp_spec_lemmas.specs.spec.queues.Reassembly.{WaitingModel, WaitingSkips, DeferralModel, ReassemblyState, names_stream, is_deferred, with_waiting, HandlesAll, SkipsThen, waiting_of, skips_of, Leaves}
 use Rattle.dcsctp_spec_lemmas.specs.spec.queues.Tracker.{TrackerState}
 use Rattle.dcsctp_delivery_sending.specs.Places.{Has}
 use Rattle.dcsctp_delivery_sending.specs.Log.{Message, History, Cut}
-use Rattle.dcsctp_delivery_receiving.specs.Ready.{AreDistinct, BearsPiece, Holds}
+use Rattle.dcsctp_delivery_receiving.specs.Ready.{AreDistinct, AreNamed, BearsPiece, Holds}
 use Rattle.dcsctp_delivery_sending.specs.Numbers.{Told}
-use Rattle.dcsctp_delivery_receiving.specs.Received.{CarriesCurrent, SkipsTo, AreBeyond, WaitBeyond, Placed, Reassembles, untouched, placed, Defers, Received, Few}
+use Rattle.dcsctp_delivery_receiving.specs.Received.{CarriesCurrent, IsTsn, AreBeyond, WaitBeyond, kept_entries, SkipsWait, ForwardsWait, Placed, Reassembles, untouched, placed, Defers, Received, Few}
 use Rattle.dcsctp_delivery_sending.proofs.Places.{at_below}
 use Rattle.dcsctp_delivery_receiving.proofs.Joining.{both}
 use Rattle.dcsctp_delivery_receiving.proofs.Ready.{holds_on}
 use Rattle.dcsctp_delivery_receiving.proofs.Skipping.{skips_on, resets_on}
 use Rattle.dcsctp_delivery_receiving.proofs.Tracked.{tsns_read}
+use Rattle.dcsctp_delivery_receiving.proofs.Kept.{later_named}
 
 -- ---- numbers
 
@@ -76,20 +77,19 @@ module _ (queued : List Message) (history : History) (first : ℕ) (cut : Cut qu
       (holds_on queued history cut told got base tsn read chunk old new (bears_of history first base offset tsn (number_near old.last_tsn_number tsn) chunk c number) fresh
       (subst (λ (l : List ℕ). Holds queued history l base read old) (sym none) (empty base)) takes)
 
-  pub forward_handled : (got : List ℕ) (tsn : ℕ) (entries : List SkippedTo) (old new : IncomingModel) → SkipsTo history first tsn entries → Reassembles queued history first got read old → MovesOn tsn entries old new → Reassembles queued history first got read new
-  forward_handled got tsn entries old new skips (placed base is holds) moves =
-      let t = skips.tsn_is in
+  pub forward_handled : (got : List ℕ) (tsn : ℕ) (entries : List SkippedTo) (old new : IncomingModel) → IsTsn history.log first tsn → AreNamed history entries → Reassembles queued history first got read old → MovesOn tsn entries old new
+      → Reassembles queued history first got read new
+  forward_handled got tsn entries old new t names (placed base is holds) moves =
       let few : t.offset < 2 ^ 31 = omega (arith, f.few, t.below) in
       let number = number_read first base old.last_tsn_number t.offset tsn is few t.is in
-      placed base (record { same = is.same; near = is.near; worked = t.offset; few = few; is = moves.last ∙ number }) (skips_on queued history got base read tsn (t.offset + 1) entries old new skips.names holds moves)
-  forward_handled got tsn entries old new skips (untouched none last empty) moves =
-      let t = skips.tsn_is in
+      placed base (record { same = is.same; near = is.near; worked = t.offset; few = few; is = moves.last ∙ number }) (skips_on queued history got base read tsn entries old new names holds moves)
+  forward_handled got tsn entries old new t names (untouched none last empty) moves =
       let few : t.offset < 2 ^ 31 = omega (arith, f.few, t.below) in
       let base : ℕ = number_near (2 ^ 32) ((first + t.offset) % 2 ^ 32) - t.offset in
       let up = first_number first t.offset f.small few in
       let number : number_near old.last_tsn_number tsn ≡ base + t.offset = ap (λ (l : ℕ). number_near l tsn) last ∙ ap (number_near (2 ^ 32)) t.is ∙ omega (arith, up) in
       placed base (record { same = first_base first t.offset f.small few; near = first_near first t.offset f.small few; worked = t.offset; few = few; is = moves.last ∙ number })
-      (skips_on queued history got base read tsn (t.offset + 1) entries old new skips.names (subst (λ (l : List ℕ). Holds queued history l base read old) (sym none) (empty base)) moves)
+      (skips_on queued history got base read tsn entries old new names (subst (λ (l : List ℕ). Holds queued history l base read old) (sym none) (empty base)) moves)
 
   kept_last : (streams : List ℕ) (old new : IncomingModel) → ResetsStreams streams old new → new.last_tsn_number ≡ old.last_tsn_number
   kept_last [] old new resets = resets.kept.last
@@ -109,14 +109,14 @@ module _ (queued : List Message) (history : History) (first : ℕ) (cut : Cut qu
     holds : Reassembles queued history first now read new
     among : (k : ℕ) → Has k now → Has k later ⊎ Has k got
 
-  all_handled : (got later : List ℕ) (actions : List WaitingModel) (old new : IncomingModel) → Reassembles queued history first got read old → Defers history first later actions → AreDistinct later → ((k : ℕ) → Has k later → Has k got → ⊥)
-      → HandlesAll actions old new → Handled got later new
+  all_handled : (got later : List ℕ) (waiting : List WaitingModel) (old new : IncomingModel) → Reassembles queued history first got read old → Defers history first later waiting → AreDistinct later → ((k : ℕ) → Has k later → Has k got → ⊥)
+      → HandlesAll waiting old new → Handled got later new
   all_handled got [] [] old new holds defers distinct apart works = record { now = got; holds = subst (λ (m : IncomingModel). Reassembles queued history first got read m) (sym works) holds; among = λ k h. inr h }
   all_handled got (n ∷ later) [] old new holds defers distinct apart works = absurd defers
-  all_handled got [] (arrived tsn chunk ∷ actions) old new holds defers distinct apart works = absurd defers
-  all_handled got (n ∷ later) (arrived tsn chunk ∷ actions) old new holds defers distinct apart (between, takes, rest) =
-      let one = data_handled got n tsn chunk old between defers.0 (apart n (inl refl)) holds takes in
-      let others = all_handled (n ∷ got) later actions between new one defers.1 distinct.1
+  all_handled got [] (one ∷ waiting) old new holds defers distinct apart works = absurd defers
+  all_handled got (n ∷ later) (one ∷ waiting) old new holds defers distinct apart (between, takes, rest) =
+      let handled = data_handled got n one.tsn one.chunk old between defers.0 (apart n (inl refl)) holds takes in
+      let others = all_handled (n ∷ got) later waiting between new handled defers.1 distinct.1
       (λ k h h'. elim h' [ inl e ↦ distinct.0 (subst (λ (j : ℕ). Has j later) e h) | inr t ↦ apart k (inr h) t ]) rest in
       record {
         now = others.now;
@@ -126,14 +126,21 @@ module _ (queued : List Message) (history : History) (first : ℕ) (cut : Cut qu
           | inr r ↦ elim r [ inl e ↦ inl (inl e) | inr t ↦ inr t ]
         ];
       }
-  all_handled got [] (skipping tsn entries ∷ actions) old new holds defers distinct apart (between, moves, rest) =
-      all_handled got [] actions between new (forward_handled got tsn entries old between defers.0 holds moves) defers.1 distinct apart rest
-  all_handled got (n ∷ later) (skipping tsn entries ∷ actions) old new holds defers distinct apart (between, moves, rest) =
-      all_handled got (n ∷ later) actions between new (forward_handled got tsn entries old between defers.0 holds moves) defers.1 distinct apart rest
+
+  -- and what was kept of FORWARD-TSNs is skipped then
+  skips_handled : (got : List ℕ) (last_tsn : ℕ) (skips : Option WaitingSkips) (old new : IncomingModel) → SkipsWait history first last_tsn skips → Reassembles queued history first got read old → SkipsThen skips old new → Reassembles queued history first got read new
+  skips_handled got last_tsn None old new wait holds same = subst (λ (m : IncomingModel). Reassembles queued history first got read m) (sym same) holds
+  skips_handled got last_tsn (Some skips) old new wait holds moves =
+      forward_handled got skips.tsn (kept_entries (Some skips)) old new wait.0 (later_named history first last_tsn (kept_entries (Some skips)) wait.1) holds moves
+
+  forwards_handled : (got : List ℕ) (deferral : Option DeferralModel) (old new : IncomingModel) → ForwardsWait history first deferral → Reassembles queued history first got read old → SkipsThen (skips_of deferral) old new
+      → Reassembles queued history first got read new
+  forwards_handled got None old new wait holds same = subst (λ (m : IncomingModel). Reassembles queued history first got read m) (sym same) holds
+  forwards_handled got (Some d) old new wait holds skips = skips_handled got d.last_tsn d.skips old new wait holds skips
 
   pub left_keeps : (streams : List ℕ) (tracker : TrackerState) (old new : ReassemblyState) → Received queued history first read tracker old → Leaves streams old new → Received queued history first read tracker new
   left_keeps streams tracker old new r leaves =
-      let done = all_handled r.got r.later (actions_of old.deferral) leaves.between new.incoming (reset_handled r.got streams old.incoming leaves.between r.holds leaves.resets) r.defers r.distinct r.apart leaves.works in
+      let done = all_handled r.got r.later (waiting_of old.deferral) leaves.between leaves.handled (reset_handled r.got streams old.incoming leaves.between r.holds leaves.resets) r.defers r.distinct r.apart leaves.works in
       record {
         taken = r.taken;
         got = done.now;
@@ -143,58 +150,39 @@ module _ (queued : List Message) (history : History) (first : ℕ) (cut : Cut qu
         later_taken = λ k h. absurd h;
         apart = λ k h g. absurd h;
         distinct = tt;
-        holds = done.holds;
-        defers = subst (λ (d : Option DeferralModel). Defers history first [] (actions_of d)) (sym leaves.deferral) tt;
+        holds = forwards_handled done.now old.deferral leaves.handled new.incoming r.forwards done.holds leaves.skips;
+        defers = subst (λ (d : Option DeferralModel). Defers history first [] (waiting_of d)) (sym leaves.deferral) tt;
         beyond = subst (λ (d : Option DeferralModel). WaitBeyond d) (sym leaves.deferral) tt;
+        forwards = subst (λ (d : Option DeferralModel). ForwardsWait history first d) (sym leaves.deferral) tt;
         old = r.old;
       }
 
--- ---- one more that waits
+-- ---- more data that waits
 
-defers_data : (history : History) (first offset tsn : ℕ) (chunk : ChunkModel) (later : List ℕ) (actions : List WaitingModel) → CarriesCurrent history first offset tsn chunk → Defers history first later actions
-    → Defers history first (later ++ offset ∷ []) (actions ++ arrived tsn chunk ∷ [])
-defers_data history first offset tsn chunk [] [] c defers = (c, tt)
-defers_data history first offset tsn chunk (n ∷ later) [] c defers = absurd defers
-defers_data history first offset tsn chunk [] (arrived t ch ∷ actions) c defers = absurd defers
-defers_data history first offset tsn chunk (n ∷ later) (arrived t ch ∷ actions) c defers = (defers.0, defers_data history first offset tsn chunk later actions c defers.1)
-defers_data history first offset tsn chunk [] (skipping t entries ∷ actions) c defers = (defers.0, defers_data history first offset tsn chunk [] actions c defers.1)
-defers_data history first offset tsn chunk (n ∷ later) (skipping t entries ∷ actions) c defers = (defers.0, defers_data history first offset tsn chunk (n ∷ later) actions c defers.1)
-
-defers_forward : (history : History) (first tsn : ℕ) (entries : List SkippedTo) (later : List ℕ) (actions : List WaitingModel) → SkipsTo history first tsn entries → Defers history first later actions
-    → Defers history first later (actions ++ skipping tsn entries ∷ [])
-defers_forward history first tsn entries [] [] skips defers = (skips, tt)
-defers_forward history first tsn entries (n ∷ later) [] skips defers = absurd defers
-defers_forward history first tsn entries [] (arrived t' ch ∷ actions) skips defers = absurd defers
-defers_forward history first tsn entries (n ∷ later) (arrived t' ch ∷ actions) skips defers = (defers.0, defers_forward history first tsn entries later actions skips defers.1)
-defers_forward history first tsn entries [] (skipping t' es ∷ actions) skips defers = (defers.0, defers_forward history first tsn entries [] actions skips defers.1)
-defers_forward history first tsn entries (n ∷ later) (skipping t' es ∷ actions) skips defers = (defers.0, defers_forward history first tsn entries (n ∷ later) actions skips defers.1)
+defers_data : (history : History) (first offset : ℕ) (last : WaitingModel) (later : List ℕ) (waiting : List WaitingModel) → CarriesCurrent history first offset last.tsn last.chunk → Defers history first later waiting
+    → Defers history first (later ++ offset ∷ []) (waiting ++ last ∷ [])
+defers_data history first offset last [] [] c defers = (c, tt)
+defers_data history first offset last (n ∷ later) [] c defers = absurd defers
+defers_data history first offset last [] (one ∷ waiting) c defers = absurd defers
+defers_data history first offset last (n ∷ later) (one ∷ waiting) c defers = (defers.0, defers_data history first offset last later waiting c defers.1)
 
 -- what is deferred waits after the others
 pub waiting_data : (history : History) (first offset tsn : ℕ) (chunk : ChunkModel) (later : List ℕ) (deferral : Option DeferralModel) → is_deferred tsn chunk.stream deferral ≡ true → CarriesCurrent history first offset tsn chunk
-    → Defers history first later (actions_of deferral) → Defers history first (later ++ offset ∷ []) (actions_of (with_waiting (arrived tsn chunk) deferral))
+    → Defers history first later (waiting_of deferral) → Defers history first (later ++ offset ∷ []) (waiting_of (with_waiting (record { tsn = tsn; chunk = chunk }) deferral))
 waiting_data history first offset tsn chunk later None is c defers = absurd (cc)
-waiting_data history first offset tsn chunk later (Some d) is c defers = defers_data history first offset tsn chunk later d.waiting c defers
-
-pub waiting_forward : (history : History) (first tsn : ℕ) (entries : List SkippedTo) (later : List ℕ) (deferral : Option DeferralModel) → is_forward_deferred tsn deferral ≡ true → SkipsTo history first tsn entries
-    → Defers history first later (actions_of deferral) → Defers history first later (actions_of (with_waiting (skipping tsn entries) deferral))
-waiting_forward history first tsn entries later None is skips defers = absurd (cc)
-waiting_forward history first tsn entries later (Some d) is skips defers = defers_forward history first tsn entries later d.waiting skips defers
+waiting_data history first offset tsn chunk later (Some d) is c defers = defers_data history first offset (record { tsn = tsn; chunk = chunk }) later d.waiting c defers
 
 -- it lies beyond the last TSN before the deferred reset, as they do
-beyond_data : (last_tsn tsn : ℕ) (chunk : ChunkModel) (actions : List WaitingModel) → is_tsn_beyond tsn last_tsn ≡ true → AreBeyond last_tsn actions → AreBeyond last_tsn (actions ++ arrived tsn chunk ∷ [])
-beyond_data last_tsn tsn chunk [] is beyond = (is, tt)
-beyond_data last_tsn tsn chunk (arrived t ch ∷ actions) is beyond = (beyond.0, beyond_data last_tsn tsn chunk actions is beyond.1)
-beyond_data last_tsn tsn chunk (skipping t entries ∷ actions) is beyond = (beyond.0, beyond_data last_tsn tsn chunk actions is beyond.1)
+beyond_data : (last_tsn : ℕ) (last : WaitingModel) (waiting : List WaitingModel) → is_tsn_beyond last.tsn last_tsn ≡ true → AreBeyond last_tsn waiting → AreBeyond last_tsn (waiting ++ last ∷ [])
+beyond_data last_tsn last [] is beyond = (is, tt)
+beyond_data last_tsn last (one ∷ waiting) is beyond = (beyond.0, beyond_data last_tsn last waiting is beyond.1)
 
-beyond_forward : (last_tsn tsn : ℕ) (entries : List SkippedTo) (actions : List WaitingModel) → is_tsn_beyond tsn last_tsn ≡ true → AreBeyond last_tsn actions → AreBeyond last_tsn (actions ++ skipping tsn entries ∷ [])
-beyond_forward last_tsn tsn entries [] is beyond = (is, tt)
-beyond_forward last_tsn tsn entries (arrived t ch ∷ actions) is beyond = (beyond.0, beyond_forward last_tsn tsn entries actions is beyond.1)
-beyond_forward last_tsn tsn entries (skipping t es ∷ actions) is beyond = (beyond.0, beyond_forward last_tsn tsn entries actions is beyond.1)
-
-pub waiting_beyond : (tsn : ℕ) (chunk : ChunkModel) (deferral : Option DeferralModel) → is_deferred tsn chunk.stream deferral ≡ true → WaitBeyond deferral → WaitBeyond (with_waiting (arrived tsn chunk) deferral)
+pub waiting_beyond : (tsn : ℕ) (chunk : ChunkModel) (deferral : Option DeferralModel) → is_deferred tsn chunk.stream deferral ≡ true → WaitBeyond deferral → WaitBeyond (with_waiting (record { tsn = tsn; chunk = chunk }) deferral)
 waiting_beyond tsn chunk None is beyond = tt
-waiting_beyond tsn chunk (Some d) is beyond = beyond_data d.last_tsn tsn chunk d.waiting (both (is_tsn_beyond tsn d.last_tsn) (names_stream d.streams chunk.stream) is).0 beyond
+waiting_beyond tsn chunk (Some d) is beyond =
+    beyond_data d.last_tsn (record { tsn = tsn; chunk = chunk }) d.waiting (both (is_tsn_beyond tsn d.last_tsn) (names_stream d.streams chunk.stream) is).0 beyond
 
-pub forward_waits_beyond : (tsn : ℕ) (entries : List SkippedTo) (deferral : Option DeferralModel) → is_forward_deferred tsn deferral ≡ true → WaitBeyond deferral → WaitBeyond (with_waiting (skipping tsn entries) deferral)
-forward_waits_beyond tsn entries None is beyond = tt
-forward_waits_beyond tsn entries (Some d) is beyond = beyond_forward d.last_tsn tsn entries d.waiting is beyond
+-- and what is to be skipped stays
+pub data_forwards : (history : History) (first : ℕ) (last : WaitingModel) (deferral : Option DeferralModel) → ForwardsWait history first deferral → ForwardsWait history first (with_waiting last deferral)
+data_forwards history first last None wait = tt
+data_forwards history first last (Some d) wait = wait

@@ -4,22 +4,23 @@ use Rattle.std.specs.Prelude.{◌&&◌, not, if◌then◌else◌, Option, Some}
 use Rattle.std.proofs.lemmas.List.{append-nil}
 use Rattle.dcsctp_spec_lemmas.specs.types.declared.arrivals.SkippedTo.{SkippedTo}
 use Rattle.dcsctp_spec_lemmas.specs.spec.queues.Arrivals.{Arrival}
-use Rattle.dcsctp_spec_lemmas.specs.spec.queues.IncomingStreams.{ChunkModel}
-use Rattle.dcsctp_spec_lemmas.specs.spec.queues.Reassembly.{DeferralModel, ReassemblyState, can_count, is_deferred, is_forward_deferred, is_above_watermark, AddsData, SkipsData, actions_of}
+use Rattle.dcsctp_spec_lemmas.specs.spec.queues.IncomingStreams.{ChunkModel, skipped_stream}
+use Rattle.dcsctp_spec_lemmas.specs.spec.queues.Reassembly.{DeferralModel, ReassemblyState, can_count, entries_beside, is_deferred, is_forward_deferred, is_above_watermark, names_stream, AddsData, SkipsData, waiting_of}
 use Rattle.dcsctp_spec_lemmas.specs.spec.queues.Tracker.{TrackerState, is_new_tsn, observed, is_forward, is_valid_tsn, after_forward, delay_over, moved_forward}
 use Rattle.dcsctp_spec_lemmas.specs.spec.queues.Transfer.{Transfer}
 use Rattle.dcsctp_spec_lemmas.specs.spec.endpoint.TransferMoves.{AddsWhere, ReceivesWhere, SkipsWhere, GoesForward, MovesWhere, ReceivesData, MovesForward, TakesData as TakesArrival}
 use Rattle.dcsctp_delivery_sending.specs.Places.{Has}
 use Rattle.dcsctp_delivery_sending.specs.Log.{Message, History, Cut}
-use Rattle.dcsctp_delivery_receiving.specs.Ready.{AreDistinct, SkipAll}
+use Rattle.dcsctp_delivery_receiving.specs.Ready.{AreDistinct, AreNamed, IsNamed, SkipAll}
 use Rattle.dcsctp_delivery_sending.specs.Numbers.{Told}
 use Rattle.dcsctp_delivery_receiving.specs.Tracked.{Tracks}
-use Rattle.dcsctp_delivery_receiving.specs.Received.{Carries, CarriesCurrent, IsTsn, SkipsTo, WaitBeyond, Defers, Received, Few}
+use Rattle.dcsctp_delivery_receiving.specs.Received.{Carries, CarriesCurrent, IsTsn, SkipsTo, WaitBeyond, ForwardsWait, Defers, Received, Few}
 use Rattle.dcsctp_delivery_sending.proofs.Places.{at_below}
 use Rattle.dcsctp_delivery_receiving.proofs.Distinct.{has_either, distinct_with}
-use Rattle.dcsctp_delivery_receiving.proofs.Tracked.{new_is_new, passing_keeps, observed_up, forward_up, new_beyond, forward_beyond}
+use Rattle.dcsctp_delivery_receiving.proofs.Tracked.{new_is_new, passing_keeps, delayed_tracks, observed_up, forward_up, new_beyond, forward_beyond}
 use Rattle.dcsctp_delivery_receiving.proofs.Current.{past_kept, carries_current, skips_to}
-use Rattle.dcsctp_delivery_receiving.proofs.Reassembled.{waiting_forward, forward_handled, waiting_data, data_handled, waiting_beyond, forward_waits_beyond}
+use Rattle.dcsctp_delivery_receiving.proofs.Kept.{all_left, deferred_by, each_named, forward_waits}
+use Rattle.dcsctp_delivery_receiving.proofs.Reassembled.{forward_handled, waiting_data, data_handled, waiting_beyond, data_forwards}
 
 module _ (queued : List Message) (history : History) (first : ℕ) (cut : Cut queued history.log) (told : Told history) (f : Few history first) (read : List ℕ) where
   -- a chunk whose TSN is new
@@ -45,6 +46,7 @@ module _ (queued : List Message) (history : History) (first : ℕ) (cut : Cut qu
             holds = r.holds;
             defers = r.defers;
             beyond = r.beyond;
+            forwards = r.forwards;
             old = past_kept history first tracker.cumulative now.cumulative up r.old;
           })
       go true counts true deferred =
@@ -68,6 +70,7 @@ module _ (queued : List Message) (history : History) (first : ℕ) (cut : Cut qu
             holds = r.holds;
             defers = waiting_data history first offset tsn chunk r.later old.deferral deferred c r.defers;
             beyond = waiting_beyond tsn chunk old.deferral deferred r.beyond;
+            forwards = data_forwards history first (record { tsn = tsn; chunk = chunk }) old.deferral r.forwards;
             old = past_kept history first tracker.cumulative now.cumulative up r.old;
           })
       go true counts false deferred =
@@ -82,8 +85,9 @@ module _ (queued : List Message) (history : History) (first : ℕ) (cut : Cut qu
             apart = λ k h g. elim g [ inl e ↦ fresh (r.later_taken offset (subst (λ (j : ℕ). Has j r.later) e h)) | inr t ↦ r.apart k h t ];
             distinct = r.distinct;
             holds = data_handled queued history first cut told f read r.got offset tsn chunk old.incoming new.incoming c unhandled r.holds takes.incoming;
-            defers = subst (λ (d : Option DeferralModel). Defers history first r.later (actions_of d)) (sym takes.deferral) r.defers;
+            defers = subst (λ (d : Option DeferralModel). Defers history first r.later (waiting_of d)) (sym takes.deferral) r.defers;
             beyond = subst (λ (d : Option DeferralModel). WaitBeyond d) (sym takes.deferral) r.beyond;
+            forwards = subst (λ (d : Option DeferralModel). ForwardsWait history first d) (sym takes.deferral) r.forwards;
             old = past_kept history first tracker.cumulative now.cumulative up r.old;
           }
 
@@ -103,6 +107,7 @@ module _ (queued : List Message) (history : History) (first : ℕ) (cut : Cut qu
         holds = r.holds;
         defers = r.defers;
         beyond = r.beyond;
+        forwards = r.forwards;
         old = past_kept history first tracker.cumulative now.cumulative up r.old;
       }
 
@@ -159,10 +164,14 @@ module _ (queued : List Message) (history : History) (first : ℕ) (cut : Cut qu
       → Tracks first (length history.log) r.taken now → SkipsData tsn entries old new → Received queued history first read now new
   skipped_keeps tsn entries tracker now old new skips_to' r up tracks skips = go (is_forward_deferred tsn old.deferral) refl
     where
+      named : AreNamed history entries
+      named = each_named history first (skips_to'.tsn_is.offset + 1) entries skips_to'.names
+
       go : (b : Bool) → is_forward_deferred tsn old.deferral ≡ b → Received queued history first read now new
       go true is =
-          subst (λ (s : ReassemblyState). Received queued history first read now s) (sym (skips.deferred is))
-          (record {
+          let (waits, same, far) = deferred_by tsn old.deferral is in
+          let beside = skips.deferred is waits same in
+          record {
             taken = r.taken;
             got = r.got;
             later = r.later;
@@ -171,11 +180,16 @@ module _ (queued : List Message) (history : History) (first : ℕ) (cut : Cut qu
             later_taken = r.later_taken;
             apart = r.apart;
             distinct = r.distinct;
-            holds = r.holds;
-            defers = waiting_forward history first tsn entries r.later old.deferral is skips_to' r.defers;
-            beyond = forward_waits_beyond tsn entries old.deferral is r.beyond;
+            holds = forward_handled queued history first cut told f read r.got tsn (entries_beside waits.streams entries) old.incoming new.incoming skips_to'.tsn_is
+                (all_left (IsNamed history) (λ entry. not (names_stream waits.streams (skipped_stream entry))) entries named) r.holds beside.incoming;
+            defers = subst (λ (d : Option DeferralModel). Defers history first r.later (waiting_of d)) (sym beside.deferral)
+                (subst (λ (d : Option DeferralModel). Defers history first r.later (waiting_of d)) same r.defers);
+            beyond = subst (λ (d : Option DeferralModel). WaitBeyond d) (sym beside.deferral) (subst (λ (d : Option DeferralModel). WaitBeyond d) same r.beyond);
+            forwards = subst (λ (d : Option DeferralModel). ForwardsWait history first d) (sym beside.deferral)
+                (forward_waits history first tsn entries (λ entry. names_stream waits.streams (skipped_stream entry)) waits skips_to' far
+                (subst (λ (d : Option DeferralModel). ForwardsWait history first d) same r.forwards));
             old = past_kept history first tracker.cumulative now.cumulative up r.old;
-          })
+          }
       go false is =
           let moved = skips.moved is in
           record {
@@ -187,14 +201,12 @@ module _ (queued : List Message) (history : History) (first : ℕ) (cut : Cut qu
             later_taken = r.later_taken;
             apart = r.apart;
             distinct = r.distinct;
-            holds = forward_handled queued history first cut told f read r.got tsn entries old.incoming new.incoming skips_to' r.holds moved.incoming;
-            defers = subst (λ (d : Option DeferralModel). Defers history first r.later (actions_of d)) (sym moved.deferral) r.defers;
+            holds = forward_handled queued history first cut told f read r.got tsn entries old.incoming new.incoming skips_to'.tsn_is named r.holds moved.incoming;
+            defers = subst (λ (d : Option DeferralModel). Defers history first r.later (waiting_of d)) (sym moved.deferral) r.defers;
             beyond = subst (λ (d : Option DeferralModel). WaitBeyond d) (sym moved.deferral) r.beyond;
+            forwards = subst (λ (d : Option DeferralModel). ForwardsWait history first d) (sym moved.deferral) r.forwards;
             old = past_kept history first tracker.cumulative now.cumulative up r.old;
           }
-
-  delayed_tracks : (taken : List ℕ) (tracker : TrackerState) → Tracks first (length history.log) taken tracker → Tracks first (length history.log) taken (delay_over tracker)
-  delayed_tracks taken tracker tracks = record { beyond = tracks.beyond; reached = tracks.reached; started = tracks.started; sent = tracks.sent; received = tracks.received }
 
   gone_forward : (tsn : ℕ) (entries : List SkippedTo) (old new : Transfer) → (t : IsTsn history.log first tsn) → SkipAll history (t.offset + 1) entries → Received queued history first read old.tracker old.reassembly → GoesForward tsn entries old new
       → Received queued history first read new.tracker new.reassembly
@@ -226,7 +238,7 @@ module _ (queued : List Message) (history : History) (first : ℕ) (cut : Cut qu
       go false is same =
           subst (λ (s : ReassemblyState). Received queued history first read (after_forward tsn old.tracker) s) (sym same)
           (tracked_on old.tracker (after_forward tsn old.tracker) old.reassembly r r.taken (λ k h. h) up
-          (subst (λ (k : TrackerState). Tracks first (length history.log) r.taken k) (sym (not_passed false is refl)) (delayed_tracks r.taken old.tracker r.tracks)))
+          (subst (λ (k : TrackerState). Tracks first (length history.log) r.taken k) (sym (not_passed false is refl)) (delayed_tracks first (length history.log) r.taken old.tracker r.tracks)))
 
   pub forwarding_keeps : (tsn : ℕ) (entries : List SkippedTo) (old new : Transfer) → (t : IsTsn history.log first tsn) → SkipAll history (t.offset + 1) entries → Received queued history first read old.tracker old.reassembly
       → MovesForward tsn entries old new → Received queued history first read new.tracker new.reassembly

@@ -14,7 +14,7 @@ use Rattle.dcsctp_spec_lemmas.specs.spec.queues.Incoming.{IncomingModel, stream_
 use Rattle.dcsctp_delivery_sending.specs.Places.{Has, set_at}
 use Rattle.dcsctp_delivery_sending.specs.Log.{Message, Piece, History}
 use Rattle.dcsctp_delivery_receiving.specs.Rows.{AreRows}
-use Rattle.dcsctp_delivery_receiving.specs.Ready.{IsOn, IsApart, IsOfStream, fresh, Reads, ordered_base, unordered_base, Names, NameAll, StreamRows, AreDistinct, WereQueued, StreamHolds, HoldsAll, Holds}
+use Rattle.dcsctp_delivery_receiving.specs.Ready.{IsOn, IsApart, IsOfStream, fresh, Reads, ordered_base, unordered_base, Names, AreNamed, StreamRows, AreDistinct, WereQueued, StreamHolds, HoldsAll, Holds}
 use Rattle.dcsctp_delivery_sending.proofs.Places.{decide, set_same, set_other}
 use Rattle.dcsctp_delivery_receiving.proofs.Distinct.{has_left, has_either, appended, distinct_left, distinct_apart, distinct_front}
 use Rattle.dcsctp_delivery_receiving.proofs.Reading.{reads_moved, reads_past, reads_due}
@@ -167,13 +167,13 @@ module _ (queued : List Message) (history : History) (got : List ℕ) (base : �
       (subst (λ (s : StreamModel). Leaves queued history got (read ++ holds.places) holds.places id s.waiting (ready ++ skip_deliveries entry (streams id))) (sym is)
       (skipped_leaves (read ++ holds.places) holds.places (holds.waits id) id entry (streams id) ready here holds.were_queued (holds.once id)))
 
-  all_skipped : (passed : ℕ) (entries : List SkippedTo) (streams : ℕ → StreamModel) (unordered : List RunModel) (ready : List MessageContent) → HoldsAll queued history got base read streams unordered ready
-      → NameAll history passed entries → HoldsAll queued history got base read (λ id. skipped_by entries id (streams id)) unordered (ready ++ deliveries_by entries streams)
-  all_skipped passed [] streams unordered ready holds names = subst (λ (l : List MessageContent). HoldsAll queued history got base read streams unordered l) (sym (append-nil ready)) holds
-  all_skipped passed (entry ∷ entries) streams unordered ready holds names =
+  all_skipped : (entries : List SkippedTo) (streams : ℕ → StreamModel) (unordered : List RunModel) (ready : List MessageContent) → HoldsAll queued history got base read streams unordered ready
+      → AreNamed history entries → HoldsAll queued history got base read (λ id. skipped_by entries id (streams id)) unordered (ready ++ deliveries_by entries streams)
+  all_skipped [] streams unordered ready holds names = subst (λ (l : List MessageContent). HoldsAll queued history got base read streams unordered l) (sym (append-nil ready)) holds
+  all_skipped (entry ∷ entries) streams unordered ready holds names =
       subst (λ (l : List MessageContent). HoldsAll queued history got base read (λ id. skipped_by (entry ∷ entries) id (streams id)) unordered l)
       (messages_appended ready (skip_deliveries entry (streams (skipped_stream entry))) (deliveries_by entries (λ id. skipped_on entry id (streams id))))
-      (all_skipped passed entries (λ id. skipped_on entry id (streams id)) unordered (ready ++ skip_deliveries entry (streams (skipped_stream entry))) (one_skipped passed entry streams unordered ready holds names.0) names.1)
+      (all_skipped entries (λ id. skipped_on entry id (streams id)) unordered (ready ++ skip_deliveries entry (streams (skipped_stream entry))) (one_skipped names.0.0 entry streams unordered ready holds names.0.1) names.1)
     where
       messages_appended : (xs ys zs : List MessageContent) → (xs ++ ys) ++ zs ≡ xs ++ (ys ++ zs)
       messages_appended [] ys zs = refl
@@ -185,9 +185,9 @@ module _ (queued : List Message) (history : History) (got : List ℕ) (base : �
   apart_rows streams unordered others ready holds rows =
       record { waits = holds.waits; streams_hold = holds.streams_hold; rows = rows; places = holds.places; were_queued = holds.were_queued; spent = holds.spent; once = holds.once }
 
-  pub skips_on : (tsn passed : ℕ) (entries : List SkippedTo) (old new : IncomingModel) → NameAll history passed entries → Holds queued history got base read old → MovesOn tsn entries old new → Holds queued history got base read new
-  skips_on tsn passed entries old new names holds moves =
-      let skipped_all = all_skipped passed entries (λ id. stream_on id old.streams) old.unordered old.ready holds names in
+  pub skips_on : (tsn : ℕ) (entries : List SkippedTo) (old new : IncomingModel) → AreNamed history entries → Holds queued history got base read old → MovesOn tsn entries old new → Holds queued history got base read new
+  skips_on tsn entries old new names holds moves =
+      let skipped_all = all_skipped entries (λ id. stream_on id old.streams) old.unordered old.ready holds names in
       let rows : AreRows history.log got (unordered_base base) IsOfStream new.unordered = subst (λ (l : List RunModel). AreRows history.log got (unordered_base base) IsOfStream l) (sym moves.unordered) (rows_behind (unordered_base base) IsOfStream (number_near old.last_tsn_number tsn) old.unordered holds.rows) in
       subst (λ (l : List MessageContent). HoldsAll queued history got base read (λ id. stream_on id new.streams) new.unordered l) (sym moves.ready)
       (apart_rows (λ id. stream_on id new.streams) old.unordered new.unordered (old.ready ++ deliveries_by entries (λ id. stream_on id old.streams))

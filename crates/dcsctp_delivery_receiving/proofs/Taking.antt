@@ -6,7 +6,7 @@ use Rattle.dcsctp_spec_lemmas.specs.types.declared.arrivals.SkippedTo.{SkippedTo
 use Rattle.dcsctp_spec_lemmas.specs.types.declared.options.Options.{Options}
 use Rattle.dcsctp_spec_lemmas.specs.types.queues.Messages.{MessageContent}
 use Rattle.dcsctp_spec_lemmas.specs.spec.queues.Incoming.{IncomingModel}
-use Rattle.dcsctp_spec_lemmas.specs.spec.queues.Reassembly.{entered, deferring, DeferralModel, ReassemblyState, actions_of, new_reassembly}
+use Rattle.dcsctp_spec_lemmas.specs.spec.queues.Reassembly.{entered, deferring, DeferralModel, ReassemblyState, waiting_of, new_reassembly}
 use Rattle.dcsctp_spec_lemmas.specs.types.declared.tracking.TsnRange.{TsnRange}
 use Rattle.dcsctp_spec_lemmas.specs.spec.queues.Ranges.{IsBeyond, is_received}
 use Rattle.dcsctp_spec_lemmas.specs.spec.queues.Tracker.{has_received, TrackerState, new_tracker, is_forward, is_valid_tsn, after_forward, delay_over, moved_forward}
@@ -17,7 +17,8 @@ use Rattle.dcsctp_delivery_sending.specs.Log.{Message, History}
 use Rattle.dcsctp_delivery_sending.specs.Numbers.{AreCurrent}
 use Rattle.dcsctp_delivery_receiving.specs.Ready.{AreDistinct, WereQueued, WasQueued, Holds}
 use Rattle.dcsctp_delivery_receiving.specs.Tracked.{tracked, Tracks}
-use Rattle.dcsctp_delivery_receiving.specs.Received.{Reassembles, untouched, placed, Defers, WaitBeyond, Received, Few, Reads}
+use Rattle.dcsctp_delivery_receiving.specs.Received.{Reassembles, untouched, placed, Defers, WaitBeyond, ForwardsWait, Received, Few, Reads}
+use Rattle.dcsctp_delivery_receiving.proofs.Tracked.{delayed_tracks}
 use Rattle.dcsctp_delivery_receiving.proofs.Current.{past_kept}
 use Rattle.dcsctp_delivery_receiving.proofs.Skipping.{new_rows}
 use Rattle.dcsctp_delivery_receiving.proofs.Distinct.{has_left, has_right, appended, distinct_left}
@@ -36,7 +37,7 @@ passing_nothing queued history first f read tsn entries old new is r moves = go 
     now = subst (λ (c : Bool). (if c then moved_forward tsn old.tracker else delay_over old.tracker) ≡ delay_over old.tracker) (sym none) refl
 
     delayed : Tracks first (length history.log) r.taken (delay_over old.tracker)
-    delayed = record { beyond = r.tracks.beyond; reached = r.tracks.reached; started = r.tracks.started; sent = r.tracks.sent; received = r.tracks.received }
+    delayed = delayed_tracks first (length history.log) r.taken old.tracker r.tracks
 
     kept : Received queued history first read (delay_over old.tracker) old.reassembly
     kept =
@@ -52,6 +53,7 @@ passing_nothing queued history first f read tsn entries old new is r moves = go 
           holds = r.holds;
           defers = r.defers;
           beyond = r.beyond;
+          forwards = r.forwards;
           old = r.old;
         }
 
@@ -130,6 +132,7 @@ reads_on queued history first read tracker reassembly message messages is r = go
             holds = placed base at t.holds;
             defers = r.defers;
             beyond = r.beyond;
+            forwards = r.forwards;
             old = r.old;
           };
         }
@@ -170,6 +173,7 @@ nothing_received options queued history first size small are =
           });
       defers = tt;
       beyond = tt;
+      forwards = tt;
       old = λ n f at kind aged. absurd (aged (are n f at kind));
     }
 
@@ -197,6 +201,7 @@ tracked_so queued history first read tracker now reassembly same same' r =
       holds = r.holds;
       defers = r.defers;
       beyond = r.beyond;
+      forwards = r.forwards;
       old = past_kept history first tracker.cumulative now.cumulative (omega (arith, same)) r.old;
     }
   where
@@ -218,6 +223,7 @@ deferring_keeps queued history first read last_tsn streams tracker reassembly r 
       holds = r.holds;
       defers = go reassembly.deferral r.later r.defers;
       beyond = still_beyond reassembly.deferral r.beyond;
+      forwards = still_kept reassembly.deferral r.forwards;
       old = r.old;
     }
   where
@@ -225,6 +231,10 @@ deferring_keeps queued history first read last_tsn streams tracker reassembly r 
     still_beyond None beyond = tt
     still_beyond (Some d) beyond = beyond
 
-    go : (d : Option DeferralModel) (later : List ℕ) → Defers history first later (actions_of d) → Defers history first later (actions_of (entered last_tsn streams d))
+    still_kept : (d : Option DeferralModel) → ForwardsWait history first d → ForwardsWait history first (entered last_tsn streams d)
+    still_kept None wait = tt
+    still_kept (Some d) wait = wait
+
+    go : (d : Option DeferralModel) (later : List ℕ) → Defers history first later (waiting_of d) → Defers history first later (waiting_of (entered last_tsn streams d))
     go None later defers = defers
     go (Some d) later defers = defers

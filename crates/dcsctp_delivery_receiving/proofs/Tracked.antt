@@ -193,5 +193,9 @@ more_given_out first count more taken tracker up tracks =
       received = tracks.received;
     }
 
+-- An acknowledgement that is due at once leaves what is received.
+pub delayed_tracks : (first count : ℕ) (taken : List ℕ) (tracker : TrackerState) → Tracks first count taken tracker → Tracks first count taken (delay_over tracker)
+delayed_tracks first count taken tracker tracks = record { beyond = tracks.beyond; reached = tracks.reached; started = tracks.started; sent = tracks.sent; received = tracks.received }
+
 pub tsns_read : (base worked offset : ℕ) → worked < 2 ^ 31 → offset < 2 ^ 31 → base + 2 ^ 32 < 2 ^ 64 → number_near (base + worked) ((base + offset) % 2 ^ 32) ≡ base + offset
 tsns_read base worked offset a b far = grind (arith, nat_tests)

@@ -1,12 +1,13 @@
 -- A stream of the receiver that was reset, on which nothing more comes before the sender learns of it (RFC 6525, section 5.2.2).
 use Rattle.std.specs.Prelude.{◌≡◌, ◌≢◌, ◌⊎◌, ◌<◌, ◌≤◌, ◌+◌, ◌-◌, ◌%◌, ◌^◌, ℕ, true, Option, None, Some, List, [], ◌∷◌, length}
+use Rattle.std.specs.List.{AllByRecursion}
 use Rattle.dcsctp_spec_lemmas.specs.types.declared.arrivals.SkippedTo.{SkippedTo}
 use Rattle.dcsctp_spec_lemmas.specs.spec.Reconfiguration.{RequestedReset}
 use Rattle.dcsctp_spec_lemmas.specs.spec.queues.Arrivals.{Arrival}
 use Rattle.dcsctp_spec_lemmas.specs.spec.queues.Incoming.{stream_on, is_named}
 use Rattle.dcsctp_spec_lemmas.specs.spec.queues.IncomingStreams.{new_stream, skipped_stream}
 use Rattle.dcsctp_spec_lemmas.specs.types.queues.Messages.{MessageContent}
-use Rattle.dcsctp_spec_lemmas.specs.spec.queues.Reassembly.{WaitingModel, arrived, skipping, DeferralModel, ReassemblyState, actions_of, deferring, with_ready, Leaves}
+use Rattle.dcsctp_spec_lemmas.specs.spec.queues.Reassembly.{WaitingModel, DeferralModel, ReassemblyState, waiting_of, skips_of, deferring, with_ready, Leaves}
 use Rattle.dcsctp_spec_lemmas.specs.types.queues.SendStreams.{Stream}
 use Rattle.dcsctp_spec_lemmas.specs.spec.queues.Tracker.{TrackerState}
 use Rattle.dcsctp_spec_lemmas.specs.spec.queues.Transfer.{Transfer}
@@ -16,24 +17,23 @@ use Rattle.dcsctp_delivery_sending.specs.Log.{Message, Piece, Slot, Mark, Histor
 use Rattle.dcsctp_delivery_sending.specs.Numbers.{AreOfKind, is_handed_out, stream_named}
 use Rattle.dcsctp_delivery_sending.specs.Queueing.{raised}
 use Rattle.dcsctp_delivery_receiving.specs.Ready.{SkipAll}
-use Rattle.dcsctp_delivery_receiving.specs.Received.{Carries, IsTsn, Few, Received}
+use Rattle.dcsctp_delivery_receiving.specs.Received.{Carries, IsTsn, kept_entries, Few, Received}
 use Rattle.dcsctp_delivery_receiving.specs.Tracked.{tracked}
 
 -- None of these entries skips a message of the stream.
 abbrev pub NoneSkips : ℕ → List SkippedTo → Type 0
-NoneSkips id [] = Unit {0}
-NoneSkips id (entry ∷ entries) = (skipped_stream entry ≢ id) × NoneSkips id entries
+NoneSkips id entries = AllByRecursion (λ entry. skipped_stream entry ≢ id) entries
 
--- Nothing that waits for the end of a deferred reset is of it.
+-- No data that waits for the end of a deferred reset is of it.
 abbrev pub NoneWaits : ℕ → List WaitingModel → Type 0
 NoneWaits id [] = Unit {0}
-NoneWaits id (arrived tsn chunk ∷ actions) = (chunk.stream ≢ id) × NoneWaits id actions
-NoneWaits id (skipping tsn entries ∷ actions) = NoneSkips id entries × NoneWaits id actions
+NoneWaits id (one ∷ waiting) = (one.chunk.stream ≢ id) × NoneWaits id waiting
 
--- Nothing was received on the stream since it was reset.
+-- Nothing was received on the stream since it was reset, and nothing waits that is of it.
 pub record IsClear (id : ℕ) (reassembly : ReassemblyState) : Type 0 where
   pub stream : stream_on id reassembly.incoming.streams ≡ new_stream id
-  pub none : NoneWaits id (actions_of reassembly.deferral)
+  pub none : NoneWaits id (waiting_of reassembly.deferral)
+  pub kept : NoneSkips id (kept_entries (skips_of reassembly.deferral))
 
 -- No piece of the stream was sent.
 abbrev pub Unsent : List Slot → ℕ → Type 0

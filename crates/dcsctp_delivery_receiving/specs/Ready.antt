@@ -1,6 +1,7 @@
 -- What the reassembly queue has ready is what the peer's user queued, each message once (RFC 9260, section 6.6, RFC 3758, section 3.6, and
 -- RFC 6525, section 5.2.2), with interleaving or without (RFC 8260).
 use Rattle.std.specs.Prelude.{◌≡◌, ◌<◌, ◌≤◌, ◌+◌, ◌%◌, ◌^◌, ℕ, Bool, true, false, Some, List, [], ◌∷◌, ◌++◌}
+use Rattle.std.specs.List.{AllByRecursion}
 use Rattle.dcsctp_spec_lemmas.specs.types.queues.Messages.{MessageContent}
 use Rattle.dcsctp_spec_lemmas.specs.types.declared.arrivals.Numbering.{Numbering}
 use Rattle.dcsctp_spec_lemmas.specs.types.declared.arrivals.Numbering.TheVariants.{Ordered, Unordered, InterleavedOrdered, InterleavedUnordered}
@@ -167,6 +168,13 @@ abbrev pub NameAll : History → ℕ → List SkippedTo → Type 0
 NameAll history passed [] = Unit {0}
 NameAll history passed (entry ∷ entries) = Names history passed entry × NameAll history passed entries
 
+-- Each names a message so, with a number of passed TSNs of its own.
+abbrev pub IsNamed : History → SkippedTo → Type 0
+IsNamed history entry = (passed : ℕ) × Names history passed entry
+
+abbrev pub AreNamed : History → List SkippedTo → Type 0
+AreNamed history entries = AllByRecursion (IsNamed history) entries
+
 -- The chunk carries the piece of its TSN.
 pub record BearsPiece (history : History) (base tsn_number : ℕ) (chunk : ChunkModel) : Type 0 where
   pub offset : ℕ
@@ -193,8 +201,8 @@ ReadyWasQueued =
 -- So does a FORWARD-TSN, whatever it skips, or an I-FORWARD-TSN,
 abbrev pub SkippingKeeps : Type 0
 SkippingKeeps =
-    (queued : List Message) (history : History) (got : List ℕ) (base tsn passed : ℕ) (read : List ℕ) (entries : List SkippedTo) (old new : IncomingModel)
-    → NameAll history passed entries → Holds queued history got base read old → MovesOn tsn entries old new → Holds queued history got base read new
+    (queued : List Message) (history : History) (got : List ℕ) (base tsn : ℕ) (read : List ℕ) (entries : List SkippedTo) (old new : IncomingModel)
+    → AreNamed history entries → Holds queued history got base read old → MovesOn tsn entries old new → Holds queued history got base read new
 
 -- and a reset of streams, whichever.
 abbrev pub ResettingKeeps : Type 0

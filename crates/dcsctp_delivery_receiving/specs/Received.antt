@@ -1,13 +1,14 @@
 -- What an association has received of its peer's messages, with the data tracker, and with what waits for the end of a deferred reset
 -- (RFC 6525, section 5.2.2).
-use Rattle.std.specs.Prelude.{◌≡◌, ◌<◌, ◌≤◌, ◌+◌, ◌%◌, ◌^◌, ℕ, Bool, true, Option, None, Some, List, [], ◌∷◌, ◌++◌, length}
+use Rattle.std.specs.Prelude.{◌≡◌, ◌<◌, ◌≤◌, ◌+◌, ◌%◌, ◌^◌, ℕ, Bool, true, Option, None, Some, List, [], ◌∷◌, ◌++◌, length, map}
+use Rattle.std.specs.List.{AllByRecursion}
 use Rattle.dcsctp_spec_lemmas.specs.types.declared.arrivals.SkippedTo.{SkippedTo}
 use Rattle.dcsctp_spec_lemmas.specs.types.declared.options.Options.{Options}
 use Rattle.dcsctp_spec_lemmas.specs.spec.queues.Arrivals.{Arrival}
 use Rattle.dcsctp_spec_lemmas.specs.types.queues.Messages.{MessageContent}
 use Rattle.dcsctp_spec_lemmas.specs.spec.queues.IncomingStreams.{ChunkModel}
 use Rattle.dcsctp_spec_lemmas.specs.spec.queues.Incoming.{IncomingModel}
-use Rattle.dcsctp_spec_lemmas.specs.spec.queues.Reassembly.{WaitingModel, DeferralModel, arrived, skipping, ReassemblyState, actions_of, with_ready, new_reassembly, Leaves}
+use Rattle.dcsctp_spec_lemmas.specs.spec.queues.Reassembly.{WaitingModel, WaitingSkips, DeferralModel, ReassemblyState, entries_of, waiting_of, with_ready, new_reassembly, Leaves}
 use Rattle.dcsctp_spec_lemmas.specs.spec.queues.Tracker.{TrackerState, new_tracker}
 use Rattle.dcsctp_spec_lemmas.specs.spec.queues.Transfer.{Transfer}
 use Rattle.dcsctp_spec_lemmas.specs.spec.endpoint.TransferMoves.{ReceivesData, MovesForward}
@@ -15,7 +16,7 @@ use Rattle.dcsctp_delivery_sending.specs.Places.{Has, at_place}
 use Rattle.dcsctp_spec_lemmas.specs.spec.queues.Numbers.{is_tsn_beyond}
 use Rattle.dcsctp_spec_lemmas.specs.spec.endpoint.BegunResets.{BegunReset}
 use Rattle.dcsctp_delivery_sending.specs.Log.{Message, Piece, Slot, Mark, History, Resets, grown, with_mark, new_history, is_beginning, is_end, bytes_of, Cut}
-use Rattle.dcsctp_delivery_receiving.specs.Ready.{AreDistinct, IsNumbered, SkipAll, NameAll, Holds}
+use Rattle.dcsctp_delivery_receiving.specs.Ready.{AreDistinct, IsNumbered, SkipAll, Names, NameAll, Holds}
 use Rattle.dcsctp_delivery_sending.specs.Numbers.{Told, IsCurrent, AreCurrent}
 use Rattle.dcsctp_delivery_receiving.specs.Tracked.{tracked, Tracks}
 
@@ -60,24 +61,41 @@ pub record SkipsTo (history : History) (first tsn : ℕ) (entries : List Skipped
   pub tsn_is : IsTsn history.log first tsn
   pub names : NameAll history (tsn_is.offset + 1) entries
 
--- What waits for the end of a deferred reset, and the offsets of its TSNs.
+-- The data that waits for the end of a deferred reset, and the offsets of its TSNs.
 abbrev pub Defers : History → ℕ → List ℕ → List WaitingModel → Type 0
 Defers history first [] [] = Unit {0}
 Defers history first (offset ∷ others) [] = ⊥
-Defers history first [] (arrived tsn chunk ∷ actions) = ⊥
-Defers history first (offset ∷ others) (arrived tsn chunk ∷ actions) = CarriesCurrent history first offset tsn chunk × Defers history first others actions
-Defers history first [] (skipping tsn entries ∷ actions) = SkipsTo history first tsn entries × Defers history first [] actions
-Defers history first (offset ∷ others) (skipping tsn entries ∷ actions) = SkipsTo history first tsn entries × Defers history first (offset ∷ others) actions
+Defers history first [] (one ∷ waiting) = ⊥
+Defers history first (offset ∷ others) (one ∷ waiting) = CarriesCurrent history first offset one.tsn one.chunk × Defers history first others waiting
 
--- All that waits lies beyond the last TSN before the deferred reset.
+-- All of it lies beyond the last TSN before the deferred reset.
 abbrev pub AreBeyond : ℕ → List WaitingModel → Type 0
 AreBeyond last_tsn [] = Unit {0}
-AreBeyond last_tsn (arrived tsn chunk ∷ actions) = (is_tsn_beyond tsn last_tsn ≡ true) × AreBeyond last_tsn actions
-AreBeyond last_tsn (skipping tsn entries ∷ actions) = (is_tsn_beyond tsn last_tsn ≡ true) × AreBeyond last_tsn actions
+AreBeyond last_tsn (one ∷ waiting) = (is_tsn_beyond one.tsn last_tsn ≡ true) × AreBeyond last_tsn waiting
 
 abbrev pub WaitBeyond : Option DeferralModel → Type 0
 WaitBeyond None = Unit {0}
 WaitBeyond (Some deferral) = AreBeyond deferral.last_tsn deferral.waiting
+
+-- what is to be skipped then
+abbrev pub kept_entries : Option WaitingSkips → List SkippedTo
+kept_entries skips = map (λ entry. entry.1) (entries_of skips)
+
+-- An entry of it came with a TSN beyond that last TSN, up to which its message may be skipped.
+pub record SkipsLater (history : History) (first last_tsn : ℕ) (entry : SkippedTo) : Type 0 where
+  pub tsn : ℕ
+  pub tsn_is : IsTsn history.log first tsn
+  pub beyond : is_tsn_beyond tsn last_tsn ≡ true
+  pub names : Names history (tsn_is.offset + 1) entry
+
+-- So did each, and the newest of these TSNs was assigned.
+abbrev pub SkipsWait : History → ℕ → ℕ → Option WaitingSkips → Type 0
+SkipsWait history first last_tsn None = Unit {0}
+SkipsWait history first last_tsn (Some skips) = IsTsn history.log first skips.tsn × AllByRecursion (SkipsLater history first last_tsn) (kept_entries (Some skips))
+
+abbrev pub ForwardsWait : History → ℕ → Option DeferralModel → Type 0
+ForwardsWait history first None = Unit {0}
+ForwardsWait history first (Some deferral) = SkipsWait history first deferral.last_tsn deferral.skips
 
 -- The TSN of a stream came before a reset of that, up to which all was received.
 pub record IsPast (history : History) (first cumulative id number : ℕ) : Type 0 where
@@ -99,8 +117,9 @@ pub record Received (queued : List Message) (history : History) (first : ℕ) (r
   pub apart : (k : ℕ) → Has k later → Has k got → ⊥
   pub distinct : AreDistinct later
   pub holds : Reassembles queued history first got read reassembly.incoming
-  pub defers : Defers history first later (actions_of reassembly.deferral)
+  pub defers : Defers history first later (waiting_of reassembly.deferral)
   pub beyond : WaitBeyond reassembly.deferral
+  pub forwards : ForwardsWait history first reassembly.deferral
   pub old : (n : ℕ) (f : Piece) → at_place n history.log ≡ Some (Some f) → f.is_interleaved ≡ true → (IsCurrent history f → ⊥) → IsPast history first tracker.cumulative f.message.stream n
 
 -- Fewer than 2^31 TSNs were assigned.

@@ -10,7 +10,7 @@ use Rattle.dcsctp_spec_lemmas.specs.spec.Packet.{Emission}
 use Rattle.dcsctp_spec_lemmas.specs.spec.association.Effect.{Effect}
 use Rattle.dcsctp_spec_lemmas.specs.spec.queues.Arrivals.{Arrival}
 use Rattle.dcsctp_spec_lemmas.specs.spec.queues.IncomingStreams.{ChunkModel}
-use Rattle.dcsctp_spec_lemmas.specs.spec.queues.Reassembly.{DeferralModel, WaitingModel, ReassemblyState, can_count, is_deferred, is_forward_deferred, with_waiting, arrived, skipping, AddsData, SkipsData, is_above_watermark}
+use Rattle.dcsctp_spec_lemmas.specs.spec.queues.Reassembly.{DeferralModel, WaitingModel, ReassemblyState, can_count, is_deferred, is_forward_deferred, with_waiting, AddsData, SkipsData, is_above_watermark}
 use Rattle.dcsctp_spec_lemmas.specs.spec.queues.Tracker.{is_new_tsn, is_forward, is_valid_tsn}
 use Rattle.dcsctp_spec_lemmas.specs.spec.queues.Transfer.{Transfer, Below}
 use Rattle.dcsctp_spec_lemmas.specs.spec.endpoint.BegunResets.{BegunReset, begun_effects}
@@ -67,7 +67,7 @@ waits_as : (old between new : ReassemblyState) → new ≡ between → Waits old
 waits_as old between new is waits = subst (Waits old) (sym is) waits
 
 adds_wait : (tsn : ℕ) (chunk : ChunkModel) (old new : ReassemblyState) (counts defers : Bool) → can_count (length chunk.payload) old ≡ counts → is_deferred tsn chunk.stream old.deferral ≡ defers → AddsData tsn chunk old new → Waits old new
-adds_wait tsn chunk old new true true counts defers does = waits_as old _ new (does.deferred counts defers) (more_waits (arrived tsn chunk) old.deferral)
+adds_wait tsn chunk old new true true counts defers does = waits_as old _ new (does.deferred counts defers) (more_waits (record { tsn = tsn; chunk = chunk }) old.deferral)
 adds_wait tsn chunk old new true false counts defers does = waits_by old.deferral new.deferral (does.taken counts defers).deferral
 adds_wait tsn chunk old new false defers counts is does = waits_as old old new (does.too_much counts) (same_waits old.deferral)
 
@@ -82,8 +82,15 @@ receives_where_wait false arrival old new does = waits_as old.reassembly old.rea
 pub receives_wait : (arrival : Arrival) (old new : Transfer) → ReceivesData arrival old new → SameWaits old.reassembly.deferral new.reassembly.deferral
 receives_wait arrival old new does = receives_where_wait (not (is_above_watermark old.reassembly) && is_valid_tsn old.tracker.cumulative arrival.tsn) arrival old new does
 
+-- What is skipped on the streams of a reset waits with that.
+beside_waits : (tsn : ℕ) (entries : List SkippedTo) (old new : ReassemblyState) (deferral : Option DeferralModel) → old.deferral ≡ deferral → is_forward_deferred tsn old.deferral ≡ true → SkipsData tsn entries old new → Waits old new
+beside_waits tsn entries old new None none defers does = absurd (let now : is_forward_deferred tsn old.deferral ≡ false = rw none refl in cc)
+beside_waits tsn entries old new (Some waits) is defers does =
+    let forwards = does.deferred defers waits is in
+    subst (λ (d : Option DeferralModel). SameWaits d new.deferral) (sym is) (_, forwards.deferral, refl)
+
 skips_wait : (tsn : ℕ) (entries : List SkippedTo) (old new : ReassemblyState) (defers : Bool) → is_forward_deferred tsn old.deferral ≡ defers → SkipsData tsn entries old new → Waits old new
-skips_wait tsn entries old new true defers does = waits_as old _ new (does.deferred defers) (more_waits (skipping tsn entries) old.deferral)
+skips_wait tsn entries old new true defers does = beside_waits tsn entries old new old.deferral refl defers does
 skips_wait tsn entries old new false defers does = waits_by old.deferral new.deferral (does.moved defers).deferral
 
 skips_where_wait : (b : Bool) (tsn : ℕ) (entries : List SkippedTo) (old new : ReassemblyState) → SkipsWhere b tsn entries old new → Waits old new

@@ -4,10 +4,10 @@ use Rattle.std.specs.List.{sum_by}
 use Rattle.std.proofs.lemmas.List.{append_assoc}
 use Rattle.std.proofs.lemmas.List.Sums.{sum_by-cons}
 use Rattle.std.proofs.lemmas.Bool.Decides.{nat_tests}
-use Rattle.dcsctp_receive_reassembly.specs.declared.reassembly_queue.Deferred.{Deferred}
+use Rattle.dcsctp_receive_reassembly.specs.declared.deferral.WaitingData.{WaitingData}
 use Rattle.dcsctp_api.specs.spec.queues.Incoming.{IncomingModel}
 use Rattle.dcsctp_api.specs.spec.queues.Reassembly.{WaitingModel, waiting_bytes, Handles, HandlesAll}
-use Rattle.dcsctp_receive_reassembly.specs.Queue.{waiting_of}
+use Rattle.dcsctp_receive_reassembly.specs.Queue.{waits_as}
 
 -- One more is handled.
 pub HandlesAll-more : (done : List WaitingModel) (action : WaitingModel) (old between new : IncomingModel) → HandlesAll done old between → Handles action between new → HandlesAll (done ++ action ∷ []) old new
@@ -17,14 +17,14 @@ HandlesAll-more (first ∷ done) action old between new works last = (works.0, w
 pub above_from : (count : ℕ) → (count == 0) ≡ false → 0 < count
 above_from count is = grind (arith, nat_tests)
 
-pub first_of : (action : Deferred) (items rest : List Deferred) → 0 < length items → action ≡ get_or items 0 action → rest ≡ drop 1 items → items ≡ action ∷ rest
+pub first_of : (action : WaitingData) (items rest : List WaitingData) → 0 < length items → action ≡ get_or items 0 action → rest ≡ drop 1 items → items ≡ action ∷ rest
 first_of action [] rest some first behind = absurd (omega arith)
 first_of action (head ∷ items) rest some first behind = ap (λ front. front ∷ items) (sym first) ∙ ap (λ back. action ∷ back) (sym behind)
 
-pub worked_more : (initial done : List WaitingModel) (action : Deferred) (items rest : List Deferred) → initial ≡ done ++ map waiting_of items → items ≡ action ∷ rest → initial ≡ (done ++ waiting_of action ∷ []) ++ map waiting_of rest
+pub worked_more : (initial done : List WaitingModel) (action : WaitingData) (items rest : List WaitingData) → initial ≡ done ++ map waits_as items → items ≡ action ∷ rest → initial ≡ (done ++ waits_as action ∷ []) ++ map waits_as rest
 worked_more initial done action items rest all is =
-    all ∙ ap (λ waiting. done ++ map waiting_of waiting) is ∙ sym (append_assoc done (waiting_of action ∷ []) (map waiting_of rest))
+    all ∙ ap (λ waiting. done ++ map waits_as waiting) is ∙ sym (append_assoc done (waits_as action ∷ []) (map waits_as rest))
 
-pub left_bytes : (action : Deferred) (items rest : List Deferred) → items ≡ action ∷ rest → sum_by waiting_bytes (map waiting_of items) ≡ waiting_bytes (waiting_of action) + sum_by waiting_bytes (map waiting_of rest)
+pub left_bytes : (action : WaitingData) (items rest : List WaitingData) → items ≡ action ∷ rest → sum_by waiting_bytes (map waits_as items) ≡ waiting_bytes (waits_as action) + sum_by waiting_bytes (map waits_as rest)
 left_bytes action items rest is =
-    ap (λ waiting. sum_by waiting_bytes (map waiting_of waiting)) is ∙ sum_by-cons waiting_bytes (waiting_of action) (map waiting_of rest)
+    ap (λ waiting. sum_by waiting_bytes (map waits_as waiting)) is ∙ sum_by-cons waiting_bytes (waits_as action) (map waits_as rest)

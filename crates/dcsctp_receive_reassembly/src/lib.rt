@@ -3,6 +3,7 @@
 #![tactic(auto)]
 
 mod arrivals;
+mod deferral;
 mod fragments;
 mod handover;
 mod incoming;

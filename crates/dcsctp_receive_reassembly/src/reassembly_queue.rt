@@ -2,17 +2,14 @@
 //! 3758, section 3.6; RFC 6525, section 5.2.2). The association hands it each data chunk whose TSN is new,
 //! each FORWARD TSN chunk, and each reset of incoming streams.
 
-ghost use Rattle.std.specs.Prelude.{◌≡◌, ◌==◌, ◌+◌, ◌≤◌, true, false, map, length, [], IsOk, OnOk, OnErr, IsSome};
-ghost use Rattle.std.specs.List.{list_any, sum_by};
+ghost use Rattle.std.specs.Prelude.{◌≡◌, ◌≤◌, true, false, length, [], Some, IsOk, OnOk, OnErr, IsSome};
 ghost use Rattle.dcsctp_api.specs.types.Ids.{stream_numbers};
-ghost use Rattle.dcsctp_receive_reassembly.specs.Reassembly.{incoming_of};
-ghost use Rattle.dcsctp_api.specs.spec.queues.Incoming.{held_bytes, AreInOrder, SameIncoming, TakesData};
-ghost use Rattle.dcsctp_api.specs.spec.queues.Reassembly.{names_stream, waiting_bytes, Handles, HandlesAll, HandlesFront};
-ghost use Rattle.dcsctp_receive_reassembly.specs.Queue.{waiting_of};
+ghost use Rattle.dcsctp_api.specs.spec.queues.Incoming.{AreInOrder};
 ghost use Rattle.dcsctp_api.specs.types.queues.Messages.{message_content};
 ghost use Rattle.dcsctp_receive_reassembly.specs.Streams.{chunk_of};
 
 use crate::arrivals::Data;
+use crate::deferral::{Deferral, WaitingData, handle_deferral, part_entries, with_skips};
 use crate::handover::{ordered_streams, restored_streams};
 use crate::incoming::Incoming;
 use crate::named::NamedStreams;
@@ -24,21 +21,6 @@ use std::alloc::{AllocError, Global};
 use std::collections::VecDeque;
 use std::fmt;
 use std::marker::Model;
-
-// What waits for the end of a deferred reset.
-#[derive(Drop)]
-enum Deferred {
-    Data(u32, Data),
-    ForwardTsn(u32, Vec<SkippedTo>),
-}
-
-// A reset of streams that waits for data that was sent before it.
-#[derive(Drop)]
-struct Deferral {
-    last_tsn: u32,
-    streams: NamedStreams,
-    waiting: VecDeque<Deferred>,
-}
 
 /// The data that was received: parts of messages, whole messages that wait for their turn, and whole messages
 /// that the user did not take yet.
@@ -81,7 +63,7 @@ impl fmt::Debug for ReassemblyQueue {
 
 impl ReassemblyQueue {
     ghost use Rattle.std.specs.Prelude.{◌*◌, nat_le, ◌∷◌, IfSome, IfNone};
-    ghost use Rattle.dcsctp_api.specs.spec.queues.Reassembly.{new_reassembly, is_above_watermark, with_ready, queued_bytes, remaining_bytes, can_count, is_deferred, with_deferred, AddsData, SkipsData, with_deferred_forward, is_forward_deferred, deferring, Leaves, StaysDeferred};
+    ghost use Rattle.dcsctp_api.specs.spec.queues.Reassembly.{new_reassembly, is_above_watermark, with_ready, queued_bytes, remaining_bytes, can_count, is_deferred, with_deferred, AddsData, SkipsData, DeferralModel, ForwardsBeside, is_forward_deferred, deferring, Leaves, StaysDeferred};
     ghost use Rattle.dcsctp_api.specs.spec.queues.Readiness.{reassembly_readiness};
     ghost use Rattle.dcsctp_api.specs.spec.queues.ReceivedParts.{with_reassembly, RestoresReassembly};
     ghost use Rattle.dcsctp_api.specs.types.Snapshot.{received_part};
@@ -236,7 +218,9 @@ impl ReassemblyQueue {
     {
         if let Some(deferral) = &mut self.deferral {
             let size = chunk.payload.len();
-            deferral.waiting.push_back(Deferred::Data(tsn, chunk))?;
+            deferral
+                .waiting
+                .push_back(WaitingData { tsn, data: chunk })?;
             self.incoming.queued_bytes = self.incoming.queued_bytes.saturating_add(size);
         }
         Ok(())
@@ -246,7 +230,8 @@ impl ReassemblyQueue {
     /// stream that it names, the ordered messages up to its number are skipped. Those that aren't whole are
     /// dropped, and whole ones that waited for them become ready. Parts of unordered DATA messages are
     /// dropped if they begin at the new cumulative TSN or before it. Those of I-DATA are dropped if their
-    /// message is at most the number named. In a deferred reset a chunk beyond its last TSN waits.
+    /// message is at most the number named. In a deferred reset a chunk beyond its last TSN waits on
+    /// the streams that it names. Of what waits for the same messages the newest counts.
     ///
     /// `Err`: an allocation failed, and nothing has changed.
     pub fn handle_forward_tsn(
@@ -258,7 +243,7 @@ impl ReassemblyQueue {
         ensures err { OnErr result (SameQueue self.old self.new) }
     {
         if self.is_forward_deferred(new_cumulative_tsn) {
-            return self.defer_forward(new_cumulative_tsn, skipped);
+            return self.forward_beside(new_cumulative_tsn, skipped);
         }
         self.incoming.forward(new_cumulative_tsn, skipped)
     }
@@ -273,16 +258,23 @@ impl ReassemblyQueue {
         }
     }
 
-    // A FORWARD TSN waits for the end of a deferred reset.
-    fn defer_forward(&mut self, tsn: u32, skipped: &[SkippedTo]) -> Result<(), AllocError>
-        ensures ok { OnOk result (self.new ≡ with_deferred_forward tsn skipped.now self.old) }
-        ensures err { OnErr result (self.new ≡ self.old) }
+    // A FORWARD TSN was received while a reset is deferred. On the streams of the reset it waits, and on the
+    // others it is handled. All memory is allocated first.
+    fn forward_beside(&mut self, tsn: u32, skipped: &[SkippedTo]) -> Result<(), AllocError>
+        requires { is_forward_deferred tsn self.old.deferral ≡ true }
+        ensures ok { OnOk result ((deferral : DeferralModel) → self.old.deferral ≡ Some deferral → ForwardsBeside tsn skipped.now deferral self.old self.new) }
+        ensures err { OnErr result (SameQueue self.old self.new) }
     {
         if let Some(deferral) = &mut self.deferral {
-            let skipped = Vec::from_slice(self.incoming.alloc, skipped)?;
-            deferral
-                .waiting
-                .push_back(Deferred::ForwardTsn(tsn, skipped))?;
+            let parted = part_entries(self.incoming.alloc, &deferral.streams, skipped)?;
+            let skips = with_skips(
+                self.incoming.alloc,
+                &deferral.skips,
+                tsn,
+                parted.within.as_slice(),
+            )?;
+            self.incoming.forward(tsn, parted.beside.as_slice())?;
+            deferral.skips = Some(skips);
         }
         Ok(())
     }
@@ -307,15 +299,16 @@ impl ReassemblyQueue {
             last_tsn: sender_last_assigned_tsn,
             streams: NamedStreams::new(self.incoming.alloc, streams)?,
             waiting: VecDeque::new(self.incoming.alloc),
+            skips: None,
         });
         Ok(())
     }
 
     /// Resets the streams that are named (an empty list: all): the next message on each has the number 0 (RFC
-    /// 6525, section 5.2.2). What was kept of them is dropped, except for messages that are ready. Then what
-    /// waited for this is handled, in the order in which it came.
+    /// 6525, section 5.2.2). What was kept of them is dropped, except for messages that are ready. Then the
+    /// data that waited for this is handled, in the order in which it came, and then what waited to be skipped.
     ///
-    /// `Err`: an allocation failed for something that waited. That and what came after it keep waiting, with
+    /// `Err`: an allocation failed for something that waited. That and what comes after it keep waiting, with
     /// the deferral. The streams are reset, and what was handled before stays so.
     pub fn reset_streams_and_leave_deferred_reset(
         &mut self,
@@ -327,10 +320,7 @@ impl ReassemblyQueue {
         self.incoming.reset_streams(streams);
         match self.deferral.take() {
             None => Ok(()),
-            Some(mut deferral) => match handle_all_deferred(
-                &mut self.incoming,
-                &mut deferral.waiting,
-            ) {
+            Some(mut deferral) => match handle_deferral(&mut self.incoming, &mut deferral) {
                 Ok(()) => Ok(()),
                 Err(error) => {
                     self.deferral = Some(deferral);
@@ -339,57 +329,4 @@ impl ReassemblyQueue {
             },
         }
     }
-}
-
-// Handles data that waited. `Err`: an allocation failed, and nothing has changed.
-fn handle_deferred_data(incoming: &mut Incoming, tsn: u32, chunk: &Data) -> Result<(), AllocError>
-    requires { held_bytes (incoming_of incoming.old) + length chunk.now.payload.items ≤ incoming.old.queued_bytes }
-    ensures ok { OnOk result (TakesData tsn (chunk_of chunk.now) (incoming_of incoming.old) (incoming_of incoming.new)) }
-    ensures worked { OnOk result (incoming.new.queued_bytes + held_bytes (incoming_of incoming.old) + length chunk.now.payload.items ≡ incoming.old.queued_bytes + held_bytes (incoming_of incoming.new)) }
-    ensures err { OnErr result (SameIncoming (incoming_of incoming.old) (incoming_of incoming.new)) }
-    ensures left { OnErr result (incoming.new.queued_bytes + held_bytes (incoming_of incoming.old) ≡ incoming.old.queued_bytes + held_bytes (incoming_of incoming.new)) }
-{
-    let copy = chunk.copied(incoming.alloc)?;
-    let size = chunk.payload.len();
-    incoming.queued_bytes -= size;
-    match incoming.take(tsn, copy) {
-        Ok(()) => Ok(()),
-        Err(error) => {
-            incoming.queued_bytes += size;
-            Err(error)
-        }
-    }
-}
-
-// Handles what waited. `Err`: an allocation failed, and nothing has changed.
-fn handle_deferred(incoming: &mut Incoming, action: &Deferred) -> Result<(), AllocError>
-    requires { held_bytes (incoming_of incoming.old) + waiting_bytes (waiting_of action.now) ≤ incoming.old.queued_bytes }
-    ensures ok { OnOk result (Handles (waiting_of action.now) (incoming_of incoming.old) (incoming_of incoming.new)) }
-    ensures worked { OnOk result (incoming.new.queued_bytes + held_bytes (incoming_of incoming.old) + waiting_bytes (waiting_of action.now) ≡ incoming.old.queued_bytes + held_bytes (incoming_of incoming.new)) }
-    ensures err { OnErr result (SameIncoming (incoming_of incoming.old) (incoming_of incoming.new)) }
-    ensures left { OnErr result (incoming.new.queued_bytes + held_bytes (incoming_of incoming.old) ≡ incoming.old.queued_bytes + held_bytes (incoming_of incoming.new)) }
-{
-    match action {
-        Deferred::Data(tsn, chunk) => handle_deferred_data(incoming, *tsn, chunk),
-        Deferred::ForwardTsn(tsn, skipped) => incoming.forward(*tsn, skipped.as_slice()),
-    }
-}
-
-// Handles all that waited, in turn. `Err`: an allocation failed for something; that and the rest keep
-// waiting.
-fn handle_all_deferred(
-    incoming: &mut Incoming,
-    waiting: &mut VecDeque<Deferred>,
-) -> Result<(), AllocError>
-    requires { incoming.old.queued_bytes ≡ held_bytes (incoming_of incoming.old) + sum_by waiting_bytes (map waiting_of waiting.old.items) }
-    ensures ok { OnOk result (HandlesAll (map waiting_of waiting.old.items) (incoming_of incoming.old) (incoming_of incoming.new)) }
-    ensures err { OnErr result (HandlesFront (map waiting_of waiting.old.items) (incoming_of incoming.old) (incoming_of incoming.new) (map waiting_of waiting.new.items)) }
-    ensures bytes { incoming.new.queued_bytes ≡ held_bytes (incoming_of incoming.new) + sum_by waiting_bytes (map waiting_of waiting.new.items) }
-    ensures none { OnOk result (map waiting_of waiting.new.items ≡ []) }
-{
-    while !waiting.is_empty() {
-        handle_deferred(incoming, &waiting[0])?;
-        let _ = waiting.pop_front();
-    }
-    Ok(())
 }

@@ -26,8 +26,8 @@ use dcsctp_api::{Message, StreamId};
 use std::alloc::{AllocError, Global};
 use std::collections::{BTreeMap, VecDeque};
 
-// The stream on which messages are skipped.
-fn stream_of(entry: &SkippedTo) -> StreamId
+/// The stream on which messages are skipped.
+pub fn stream_of(entry: &SkippedTo) -> StreamId
     ensures { result.0 ≡ skipped_stream entry.now }
 {
     match entry {

@@ -84,6 +84,39 @@ fn a_deferral_compares_tsns_across_the_wrap(rt: HostRuntime) {
 }
 
 #[test]
+fn what_is_skipped_waits_on_the_streams_of_a_deferred_reset(rt: HostRuntime) {
+    static STEPS: &[(&str, Step)] = &[
+        ("another stream", Begins(100)),
+        ("another stream", Defers(3, &[StreamId(1)])),
+        (
+            "another stream",
+            Add(4, 7, Ordered { ssn: 1 }, Whole, "seven"),
+        ),
+        ("its first is missing", Rests(95)),
+        ("skipped at once", Skips(5, 0)),
+        ("skipped at once", Gives("seven")),
+        ("the stream itself", Begins(100)),
+        ("the stream itself", Defers(3, &[StreamId(7)])),
+        (
+            "the stream itself",
+            Add(4, 7, Ordered { ssn: 1 }, Whole, "new"),
+        ),
+        ("skipped later", Skips(5, 0)),
+        ("the newest counts", Skips(6, 2)),
+        (
+            "the stream itself",
+            Add(7, 7, Ordered { ssn: 3 }, Whole, "last"),
+        ),
+        ("all waits", Rests(93)),
+        ("reset", Resets(&[StreamId(7)])),
+        ("up to the newest", Gives("new")),
+        ("up to the newest", Gives("last")),
+        ("all is taken", Rests(100)),
+    ];
+    run(&rt, STEPS);
+}
+
+#[test]
 fn a_reset_of_all_streams_leaves_what_is_ready(rt: HostRuntime) {
     static STEPS: &[(&str, Step)] = &[
         ("ready", Begins(100)),

@@ -1,27 +1,36 @@
 -- The reassembly queue as callers see it: what was received, and the receive window. Also a reset of streams that waits for data
 -- that was sent before it (RFC 6525, section 5.2.2).
-use Rattle.std.specs.Prelude.{◌≡◌, ◌==◌, ℕ, ◌+◌, ◌-◌, ◌*◌, ◌^◌, nat_le, nat_lt, Bool, true, false, ◌&&◌, Option, None, Some, List, [], ◌∷◌, ◌++◌, length}
-use Rattle.std.specs.List.{list_any, sum_by}
+use Rattle.std.specs.Prelude.{◌≡◌, ◌==◌, ℕ, ◌+◌, ◌-◌, ◌*◌, ◌^◌, nat_le, nat_lt, Bool, true, false, not, ◌&&◌, Option, None, Some, List, [], ◌∷◌, ◌++◌, length, map}
+use Rattle.std.specs.BTreeMap.{insert_entry}
+use Rattle.std.specs.List.{filter, list_any, sum_by}
+use Rattle.std.specs.Ordering.{nat_cmp}
 use Rattle.dcsctp_types.specs.declared.arrivals.SkippedTo.{SkippedTo}
+use Rattle.dcsctp_types.specs.declared.arrivals.SkippedTo.TheVariants.{Ssn, Mid}
 use Rattle.dcsctp_types.specs.queues.Messages.{MessageContent}
 use Rattle.dcsctp_spec.specs.queues.Numbers.{is_tsn_beyond}
-use Rattle.dcsctp_spec.specs.queues.IncomingStreams.{ChunkModel}
+use Rattle.dcsctp_spec.specs.queues.IncomingStreams.{ChunkModel, skipped_stream}
 use Rattle.dcsctp_spec.specs.queues.Incoming.{MovesOn, ResetsStreams, IncomingModel, SameIncoming, TakesData, nothing, held_bytes}
 
--- what waits for the end of a deferred reset, with its TSN
-pub data WaitingModel : Type 0 where
-  -- a chunk of a message
-  arrived : ℕ → ChunkModel → WaitingModel
-  -- a FORWARD TSN or I-FORWARD-TSN
-  skipping : ℕ → List SkippedTo → WaitingModel
+-- a chunk of a message that waits for the end of a deferred reset, with its TSN
+pub record WaitingModel : Type 0 where
+  pub tsn : ℕ
+  pub chunk : ChunkModel
+
+-- What is skipped then: up to the TSN of the newest FORWARD TSN or I-FORWARD-TSN, and on each stream up to the newest entry for its
+-- ordered and for its unordered messages. The entries stand by their keys, which ascend.
+pub record WaitingSkips : Type 0 where
+  pub tsn : ℕ
+  pub entries : List (ℕ × SkippedTo)
 
 pub record DeferralModel : Type 0 where
   -- the last TSN that was sent before the reset
   pub last_tsn : ℕ
   -- an empty list: all streams
   pub streams : List ℕ
-  -- in the order in which it came
+  -- in the order in which they came
   pub waiting : List WaitingModel
+  -- what comes after them
+  pub skips : Option WaitingSkips
 
 pub record ReassemblyState : Type 0 where
   pub incoming : IncomingModel
@@ -30,8 +39,7 @@ pub record ReassemblyState : Type 0 where
 
 -- how many bytes wait for the end of a deferred reset
 abbrev pub waiting_bytes : WaitingModel → ℕ
-waiting_bytes (arrived tsn chunk) = length chunk.payload
-waiting_bytes (skipping tsn entries) = 0
+waiting_bytes one = length one.chunk.payload
 
 abbrev pub deferred_bytes : Option DeferralModel → ℕ
 deferred_bytes None = 0
@@ -82,7 +90,7 @@ with_waiting last (Some deferral) = Some (record deferral { waiting = deferral.w
 
 -- data waits for the end of a deferred reset
 abbrev pub with_deferred : ℕ → ChunkModel → ReassemblyState → ReassemblyState
-with_deferred tsn chunk queue = record queue { deferral = with_waiting (arrived tsn chunk) queue.deferral }
+with_deferred tsn chunk queue = record queue { deferral = with_waiting (record { tsn = tsn; chunk = chunk }) queue.deferral }
 
 -- Data was handled.
 pub record Takes (tsn : ℕ) (chunk : ChunkModel) (old new : ReassemblyState) : Type 0 where
@@ -103,18 +111,48 @@ pub record Forwards (tsn : ℕ) (entries : List SkippedTo) (old new : Reassembly
   pub window : new.max_size ≡ old.max_size
   pub deferral : new.deferral ≡ old.deferral
 
--- a FORWARD TSN waits for the end of a deferred reset
-abbrev pub with_deferred_forward : ℕ → List SkippedTo → ReassemblyState → ReassemblyState
-with_deferred_forward tsn entries queue = record queue { deferral = with_waiting (skipping tsn entries) queue.deferral }
+-- which messages an entry is for: the ordered ones of a stream, by their stream sequence numbers or by their identifiers, or the
+-- unordered ones
+abbrev pub skip_key : SkippedTo → ℕ
+skip_key (Ssn id ssn) = id.0
+skip_key (Mid id false mid) = 2 ^ 16 + id.0
+skip_key (Mid id true mid) = 2 ^ 17 + id.0
 
--- A FORWARD TSN or I-FORWARD-TSN is handled, or it waits.
+-- the entries that wait, with newer ones in the place of those for the same messages
+abbrev pub with_entries : List SkippedTo → List (ℕ × SkippedTo) → List (ℕ × SkippedTo)
+with_entries [] kept = kept
+with_entries (entry ∷ entries) kept = with_entries entries (insert_entry nat_cmp kept (skip_key entry) entry)
+
+abbrev pub entries_of : Option WaitingSkips → List (ℕ × SkippedTo)
+entries_of None = []
+entries_of (Some skips) = skips.entries
+
+-- what waits to be skipped, with that of a newer FORWARD TSN
+abbrev pub with_skips : ℕ → List SkippedTo → Option WaitingSkips → WaitingSkips
+with_skips tsn entries skips = record { tsn = tsn; entries = with_entries entries (entries_of skips) }
+
+-- the entries for streams of the reset, and the others
+abbrev pub entries_within : List ℕ → List SkippedTo → List SkippedTo
+entries_within streams entries = filter (λ entry. names_stream streams (skipped_stream entry)) entries
+
+abbrev pub entries_beside : List ℕ → List SkippedTo → List SkippedTo
+entries_beside streams entries = filter (λ entry. not (names_stream streams (skipped_stream entry))) entries
+
+-- A FORWARD TSN beyond the last TSN of a deferred reset was received: on the streams of the reset it waits for that, and on the
+-- others it is handled.
+pub record ForwardsBeside (tsn : ℕ) (entries : List SkippedTo) (waits : DeferralModel) (old new : ReassemblyState) : Type 0 where
+  pub incoming : MovesOn tsn (entries_beside waits.streams entries) old.incoming new.incoming
+  pub window : new.max_size ≡ old.max_size
+  pub deferral : new.deferral ≡ Some (record waits { skips = Some (with_skips tsn (entries_within waits.streams entries) waits.skips) })
+
+-- A FORWARD TSN or I-FORWARD-TSN is handled, or it waits where a reset is deferred.
 pub record SkipsData (tsn : ℕ) (entries : List SkippedTo) (old new : ReassemblyState) : Type 0 where
   pub moved : is_forward_deferred tsn old.deferral ≡ false → Forwards tsn entries old new
-  pub deferred : is_forward_deferred tsn old.deferral ≡ true → new ≡ with_deferred_forward tsn entries old
+  pub deferred : is_forward_deferred tsn old.deferral ≡ true → (waits : DeferralModel) → old.deferral ≡ Some waits → ForwardsBeside tsn entries waits old new
 
 -- the deferral that begins, if there is none
 abbrev pub entered : ℕ → List ℕ → Option DeferralModel → Option DeferralModel
-entered last_tsn streams None = Some (record { last_tsn = last_tsn; streams = streams; waiting = [] })
+entered last_tsn streams None = Some (record { last_tsn = last_tsn; streams = streams; waiting = []; skips = None })
 entered last_tsn streams (Some deferral) = Some deferral
 
 -- A reset of these streams is deferred until all up to this TSN is received. If another one waits, nothing changes.
@@ -123,10 +161,9 @@ deferring last_tsn streams queue = record queue { deferral = entered last_tsn st
 
 -- ---- the end of a deferred reset
 
--- What waited is handled, one or all of it in turn.
+-- Data that waited is handled, one chunk or all in turn.
 abbrev pub Handles : WaitingModel → IncomingModel → IncomingModel → Type 0
-Handles (arrived tsn chunk) old new = TakesData tsn chunk old new
-Handles (skipping tsn entries) old new = MovesOn tsn entries old new
+Handles one old new = TakesData one.tsn one.chunk old new
 
 abbrev pub HandlesAll : List WaitingModel → IncomingModel → IncomingModel → Type 0
 HandlesAll [] old new = new ≡ old
@@ -140,15 +177,26 @@ pub record HandlesFront (actions : List WaitingModel) (old new : IncomingModel) 
   pub works : HandlesAll done old between
   pub same : SameIncoming between new
 
-abbrev pub actions_of : Option DeferralModel → List WaitingModel
-actions_of None = []
-actions_of (Some deferral) = deferral.waiting
+abbrev pub waiting_of : Option DeferralModel → List WaitingModel
+waiting_of None = []
+waiting_of (Some deferral) = deferral.waiting
 
--- The streams are reset, and then all is handled that waited for this.
+abbrev pub skips_of : Option DeferralModel → Option WaitingSkips
+skips_of None = None
+skips_of (Some deferral) = deferral.skips
+
+-- What waited to be skipped is skipped.
+abbrev pub SkipsThen : Option WaitingSkips → IncomingModel → IncomingModel → Type 0
+SkipsThen None old new = new ≡ old
+SkipsThen (Some skips) old new = MovesOn skips.tsn (map (λ entry. entry.1) skips.entries) old new
+
+-- The streams are reset, and then all is handled that waited for this: the data, and then what is to be skipped.
 pub record Leaves (streams : List ℕ) (old new : ReassemblyState) : Type 0 where
   pub between : IncomingModel
+  pub handled : IncomingModel
   pub resets : ResetsStreams streams old.incoming between
-  pub works : HandlesAll (actions_of old.deferral) between new.incoming
+  pub works : HandlesAll (waiting_of old.deferral) between handled
+  pub skips : SkipsThen (skips_of old.deferral) handled new.incoming
   pub window : new.max_size ≡ old.max_size
   pub deferral : new.deferral ≡ None
 
@@ -157,11 +205,11 @@ abbrev pub with_left : List WaitingModel → Option DeferralModel → Option Def
 with_left left None = None
 with_left left (Some deferral) = Some (record deferral { waiting = left })
 
--- The streams are reset, and some of it is handled.
+-- The streams are reset, and some of the data is handled.
 pub record StaysDeferred (streams : List ℕ) (old new : ReassemblyState) : Type 0 where
   pub between : IncomingModel
   pub left : List WaitingModel
   pub resets : ResetsStreams streams old.incoming between
-  pub works : HandlesFront (actions_of old.deferral) between new.incoming left
+  pub works : HandlesFront (waiting_of old.deferral) between new.incoming left
   pub window : new.max_size ≡ old.max_size
   pub deferral : new.deferral ≡ with_left left old.deferral
