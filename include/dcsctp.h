@@ -34,7 +34,8 @@
  *     dcsctp_destroy(&s);
  *
  * A call that hands something in, be it a packet, the time or a command, may add events and
- * messages, and move the deadline. So take all of them, and ask for the deadline, before you wait.
+ * messages, and move the deadline. A message that is taken may move it, too. So take all of them,
+ * and then ask for the deadline, before you wait.
  * `packet` has room for the longest packet of either end (the greater `mtu`), and `buffer` for
  * `message.length` bytes: the peer says how long a message is. Check what dcsctp_create
  * returns.
@@ -173,12 +174,17 @@ typedef struct dcsctp_socket {
  * is off at 0, and on at any other number. The options are valid if `mtu` is 32 to 65,535, and
  * `max_receiver_window_buffer_size` and `max_send_buffer_size` are at most 4,294,967,295.
  *
- * `max_receiver_window_buffer_size`: once nine tenths of it are held, data is dropped without an
- *   answer. If that much waits for data that was lost, that is dropped too when it is sent again:
+ * `max_receiver_window_buffer_size`: once nine tenths of it are held, new data is dropped. What was
+ *   lost and is sent again is taken until all of it is held; without `follow_rfc` that is dropped,
+ *   too, and nothing that is dropped is answered. If what is held waits for data that is dropped,
  *   nothing is delivered any more, though both ends stay connected. So let it be far more than a
  *   peer has in flight, and than the longest message that it sends.
  * `rto_initial`: let it be longer than any round trip. Else the first flight is sent twice, and at
- *   twice the value all data is, as long as the association lasts. */
+ *   twice the value all data is, as long as the association lasts.
+ * `follow_rfc`: rules of RFC 9260 hold that dcsctp 0.1.16 doesn't keep. A shutdown sends first what
+ *   waits, data that finds no room or fills a gap is answered at once, and the peer is told when a
+ *   full receive window opens. At 0 all is as in dcsctp 0.1.16. docs/DIFFERENCES.md has a row for
+ *   each rule. */
 typedef struct dcsctp_options {
     size_t mtu;                                          /* longest packet that is sent: 1,191 */
     size_t max_message_size;                             /* longest message to send: 262,144 */
@@ -214,7 +220,7 @@ typedef struct dcsctp_options {
     uint16_t announced_maximum_outgoing_streams;         /* 65,535 */
     uint16_t default_stream_priority;                    /* 256 */
     uint16_t reserved;                                   /* write 0; not read yet */
-    uint32_t reserved_word;                              /* the same */
+    uint32_t follow_rfc;                                 /* switch, see above: 1 */
 } dcsctp_options;
 
 /* Writes the default options. */
@@ -238,13 +244,14 @@ void dcsctp_destroy(dcsctp_socket *socket) DCSCTP_CALL;
  * isn't closed it changes nothing. Errors: NO_SOCKET, FAILED, OUT_OF_MEMORY. */
 int32_t dcsctp_connect(dcsctp_socket *socket) DCSCTP_CALL;
 
-/* Ends the association in an orderly way: all that was sent is acknowledged first. From now on no
- * message is taken, and those that still wait may be lost. DCSCTP_EVENT_CLOSED follows when the
- * peer has answered. If it hasn't answered the first INIT, the association ends at once, and while
- * the handshake isn't over it never connects. On a closed socket it changes nothing. To lose
- * nothing, first wait until dcsctp_buffered_amount is 0. A peer's SHUTDOWN acknowledges nothing
- * here: where it sends no SACK, both ends wait for minutes, until one gives up. dcsctp_close ends
- * that.
+/* Ends the association in an orderly way: all that was sent is acknowledged first, and with
+ * `follow_rfc` what waits is sent before that. From now on no message is taken. Those that wait for
+ * a reset of their stream may be lost, and without `follow_rfc` all that wait: to lose nothing,
+ * first wait until dcsctp_buffered_amount is 0. DCSCTP_EVENT_CLOSED follows when the peer has
+ * answered. If it hasn't answered the first INIT, the association ends at once, and while the
+ * handshake isn't over it never connects. On a closed socket it changes nothing. A peer's SHUTDOWN
+ * acknowledges nothing here: where it sends no SACK, both ends wait for minutes, until one gives
+ * up. dcsctp_close ends that.
  * Errors: NO_SOCKET, FAILED, OUT_OF_MEMORY. */
 int32_t dcsctp_shutdown(dcsctp_socket *socket) DCSCTP_CALL;
 
@@ -257,8 +264,9 @@ int32_t dcsctp_close(dcsctp_socket *socket) DCSCTP_CALL;
 
 /* Handles a packet from the peer, of any bytes. One that can't be read, or has a wrong verification
  * tag, adds a DCSCTP_EVENT_ERROR. It is counted, and changes nothing else. Each chunk may bring a
- * packet: 290 SHUTDOWN ACK in one of 1,172 bytes bring 290, even from a closed socket, whatever the
- * tag. So hand in only what your peer has sent, as DTLS tells.
+ * packet: 290 HEARTBEAT in one of 1,172 bytes bring 290. Without `follow_rfc` so do 290 SHUTDOWN
+ * ACK, even from a closed socket, whatever the tag; with it they bring one. So hand in only what
+ * your peer has sent, as DTLS tells.
  * Errors: NO_SOCKET, FAILED, OUT_OF_MEMORY. */
 int32_t dcsctp_handle_input(dcsctp_socket *socket, const uint8_t *packet, size_t length)
     DCSCTP_CALL;
@@ -342,7 +350,8 @@ int32_t dcsctp_messages_ready_count(dcsctp_socket *socket, size_t *count) DCSCTP
 /* Takes the message that became ready first and writes what it is: 1. Where none is ready: 0, and
  * its length is 0. Its bytes leave the receive window. They can be copied until the next call of
  * dcsctp_get_next_message. Messages that weren't taken are lost when the next association begins.
- * It allocates nothing. Error: NO_SOCKET. */
+ * With `follow_rfc` the deadline is the present moment once a full window opens, so that
+ * dcsctp_advance_time tells the peer. It allocates nothing. Error: NO_SOCKET. */
 int32_t dcsctp_get_next_message(dcsctp_socket *socket, dcsctp_message *message) DCSCTP_CALL;
 
 /* Copies the bytes of the message that was taken last, and writes its length.
@@ -375,8 +384,9 @@ typedef struct dcsctp_send_options {
  * after a DCSCTP_EVENT_LIFECYCLE_END where the message has a name. If there is no memory for the
  * copy, it is OUT_OF_MEMORY, nothing has changed, and the call may be tried again.
  *
- * A message that is longer than nine tenths of the peer's receive window may never arrive. Nothing
- * tells, and those after it wait.
+ * A message that is longer than nine tenths of the peer's receive window may never arrive, and one
+ * that needs more than all of it can't, whatever `follow_rfc` is at either end. Nothing tells, and
+ * those after it wait.
  *
  * Errors: NO_SOCKET, EMPTY_PAYLOAD, MESSAGE_TOO_LARGE, SHUTTING_DOWN, RESOURCE_EXHAUSTION, FAILED,
  * OUT_OF_MEMORY. */

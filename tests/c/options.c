@@ -49,7 +49,7 @@ static void defaults(void) {
         {"announced_maximum_outgoing_streams", options.announced_maximum_outgoing_streams, 65535},
         {"default_stream_priority", options.default_stream_priority, 256},
         {"reserved", options.reserved, 0},
-        {"reserved_word", options.reserved_word, 0},
+        {"follow_rfc", options.follow_rfc, 1},
     };
     for (size_t i = 0; i < sizeof rows / sizeof rows[0]; i++)
         EQUAL(rows[i].name, rows[i].value, rows[i].expected);
@@ -91,7 +91,7 @@ static const dcsctp_options DIFFERENT = {
     .announced_maximum_outgoing_streams = 1031,
     .default_stream_priority = 1032,
     .reserved = 1033,
-    .reserved_word = 1034,
+    .follow_rfc = 0,
 };
 
 /* Options come back as they were given, but for switches, which come back as 0 or 1. */
@@ -102,7 +102,6 @@ static void given_back(void) {
     expected.disable_checksum_verification = 1;
     expected.enable_handover_with_outstanding_data = 1;
     expected.reserved = 0;
-    expected.reserved_word = 0;
     memset(&options, 77, sizeof options);
     EQUAL("create", create(&end, &DIFFERENT, 1, BEGIN), DCSCTP_OK);
     EQUAL("options", dcsctp_get_options(&end.socket, &options), DCSCTP_OK);
@@ -141,7 +140,7 @@ static void given_back(void) {
     SAME(announced_maximum_outgoing_streams);
     SAME(default_stream_priority);
     SAME(reserved);
-    SAME(reserved_word);
+    SAME(follow_rfc);
     EQUAL("set", dcsctp_set_max_message_size(&end.socket, 5), DCSCTP_OK);
     EQUAL("options", dcsctp_get_options(&end.socket, &options), DCSCTP_OK);
     EQUAL("as it was set last", options.max_message_size, 5);
@@ -567,6 +566,28 @@ static void handover(void) {
     }
 }
 
+/* A shutdown sends first what waits (RFC 9260, section 9.2), where any number but 0 says so. */
+static void following(void) {
+    dcsctp_options options = quiet_options();
+    options.max_burst = 1;
+    for (uint32_t number = 0; number <= 2; number++) {
+        uint32_t kind;
+        options.follow_rfc = number;
+        connect_pair(&pair, &options, &options);
+        EQUAL("send", send_bytes(&pair.a, 1, 2000), DCSCTP_OK);
+        EQUAL("shutdown", dcsctp_shutdown(&pair.a.socket), DCSCTP_OK);
+        EQUAL("a part", carry(&pair.a, &pair.b), 1);
+        EQUAL("a SACK", carry(&pair.b, &pair.a), 1);
+        do
+            kind = take(&pair.a);
+        while (kind == DCSCTP_EVENT_BUFFERED_AMOUNT_LOW);
+        EQUAL("the next packet", kind, DCSCTP_EVENT_SEND_PACKET);
+        /* DATA is chunk 0, and SHUTDOWN is 7 (RFC 9260, section 3.2) */
+        EQUAL("follow_rfc", pair.a.packet[12], number ? 0 : 7);
+        destroy_pair(&pair);
+    }
+}
+
 /* ---- Metrics -------------------------------------------------------------------------------- */
 
 static void counts(void) {
@@ -652,6 +673,7 @@ int main(void) {
     acknowledgements();
     heartbeats();
     handover();
+    following();
     counts();
     implementations();
     puts("options: each does what dcsctp.h says");

@@ -66,6 +66,7 @@ static void make(struct side *side) {
     options.enable_message_interleaving = (uint32_t)below(2);
     options.disable_checksum_verification = 1;
     options.enable_handover_with_outstanding_data = (uint32_t)below(2);
+    options.follow_rfc = (uint32_t)below(2);
     options.zero_checksum_method = (uint32_t)below(2);
     options.max_retransmissions = below(2) ? DCSCTP_NO_LIMIT : (uint32_t)below(4);
     for (size_t i = 0; i < sizeof seed; i++)

@@ -83,8 +83,9 @@ fn default_times_limits_and_features(rt: HostRuntime) {
         options.heartbeat_interval_include_rtt,
         options.disable_checksum_verification,
         options.enable_handover_with_outstanding_data,
+        options.follow_rfc,
     );
-    let expected = "(true, false, true, false, false)";
+    let expected = "(true, false, true, false, false, false)";
     shows(&rt, rt.alloc(), "features", &features, expected);
 }
 

@@ -5,12 +5,12 @@ use Rattle.rand_core.specs.Stream.{Stream}
 use Rattle.dcsctp_transfer.specs.types.Settings.{Ports, ports_of}
 use Rattle.dcsctp_transfer.specs.api.Calls.{user_event}
 use Rattle.dcsctp_transfer.specs.spec.queues.Transfer.{Transfer}
-use Rattle.dcsctp_transfer.specs.spec.queues.Reassembly.{with_ready}
+use Rattle.dcsctp_transfer.specs.types.declared.options.Options.{Options}
 use Rattle.dcsctp_transfer.specs.types.queues.Messages.{message_content}
 use Rattle.dcsctp_transfer.specs.spec.endpoint.Endpoint.{Endpoint}
 use Rattle.dcsctp_transfer.specs.spec.endpoint.Outcome.{Outcome, still}
 use Rattle.dcsctp_transfer.specs.spec.endpoint.TimeTurns.{own_timer, has_come, loss_deadline}
-use Rattle.dcsctp_transfer.specs.spec.endpoint.DataOutcomes.{with_transfer, LossTurn}
+use Rattle.dcsctp_transfer.specs.spec.endpoint.DataOutcomes.{with_transfer, taken_to, LossTurn}
 use Rattle.dcsctp_transfer.specs.spec.endpoint.OwnTimers.{retransmission}
 use Rattle.dcsctp_transfer.specs.spec.endpoint.HeartbeatOutcomes.{error_counted}
 use Rattle.dcsctp_transfer.specs.wire.Content.{SackContent}
@@ -117,19 +117,19 @@ sacks_lent now sack old tcb after told telling result holds h =
 
 -- ---- a message that is taken
 
-takes_first : (result : Option Message) (old new : Transfer) → IfSome result (λ message. old.reassembly.incoming.ready ≡ message_content message ∷ new.reassembly.incoming.ready)
-    → IfSome result (λ message. new ≡ record old { reassembly = with_ready new.reassembly.incoming.ready old.reassembly })
-    → IfNone result ((old.reassembly.incoming.ready ≡ []) × (new ≡ old)) → TakesFirst result old new
-takes_first None old new first left none = none
-takes_first (Some message) old new first left none = (first, left)
+takes_first : (options : Options) (moment : ℕ) (result : Option Message) (old new : Transfer) → IfSome result (λ message. old.reassembly.incoming.ready ≡ message_content message ∷ new.reassembly.incoming.ready)
+    → IfSome result (λ message. new ≡ taken_to options moment new.reassembly.incoming.ready old)
+    → IfNone result ((old.reassembly.incoming.ready ≡ []) × (new ≡ old)) → TakesFirst options moment result old new
+takes_first options moment None old new first left none = none
+takes_first options moment (Some message) old new first left none = (first, left)
 
-pub takes_lent : (old : State) (tcb : TransmissionControlBlock) (after : Transfer) (result : Option Message) → Some tcb ≡ tcb_of old
+pub takes_lent : (options : Options) (moment : ℕ) (old : State) (tcb : TransmissionControlBlock) (after : Transfer) (result : Option Message) → Some tcb ≡ tcb_of old
     → IfSome result (λ message. tcb.transfer.reassembly.incoming.ready ≡ message_content message ∷ after.reassembly.incoming.ready)
-    → IfSome result (λ message. after ≡ record tcb.transfer { reassembly = with_ready after.reassembly.incoming.ready tcb.transfer.reassembly })
-    → IfNone result ((tcb.transfer.reassembly.incoming.ready ≡ []) × (after ≡ tcb.transfer)) → TakesReady (transfer_of old) old result (left_with old tcb after)
-takes_lent old tcb after result holds first left none =
-    subst (λ (f : Option Transfer). TakesReady f old result (left_with old tcb after)) (sym (found old tcb holds))
-    (after, lent old tcb after holds, takes_first result tcb.transfer after first left none)
+    → IfSome result (λ message. after ≡ taken_to options moment after.reassembly.incoming.ready tcb.transfer)
+    → IfNone result ((tcb.transfer.reassembly.incoming.ready ≡ []) × (after ≡ tcb.transfer)) → TakesReady options moment (transfer_of old) old result (left_with old tcb after)
+takes_lent options moment old tcb after result holds first left none =
+    subst (λ (f : Option Transfer). TakesReady options moment f old result (left_with old tcb after)) (sym (found old tcb holds))
+    (after, lent old tcb after holds, takes_first options moment result tcb.transfer after first left none)
 
-pub takes_nobody : (old : State) → None ≡ tcb_of old → TakesReady (transfer_of old) old None old
-takes_nobody old none = subst (λ (f : Option Transfer). TakesReady f old None old) (sym (nobody old none)) (refl, refl)
+pub takes_nobody : (options : Options) (moment : ℕ) (old : State) → None ≡ tcb_of old → TakesReady options moment (transfer_of old) old None old
+takes_nobody options moment old none = subst (λ (f : Option Transfer). TakesReady options moment f old None old) (sym (nobody old none)) (refl, refl)

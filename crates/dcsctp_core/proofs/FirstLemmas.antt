@@ -5,10 +5,9 @@ use Rattle.std.proofs.lemmas.List.{append-nil, map-append}
 use Rattle.dcsctp_transfer.specs.wire_build.Building.{Building, bytes_remaining}
 use Rattle.dcsctp_transfer.specs.spec.endpoint.Event.{Event}
 use Rattle.dcsctp_transfer.specs.spec.Packet.{Plain, plain, Content, chunk_out, Emission, plain_out}
-use Rattle.dcsctp_transfer.specs.spec.queues.Reassembly.{remaining_bytes}
 use Rattle.dcsctp_transfer.specs.spec.queues.Tracker.{sack_of, TrackerState, sacked}
 use Rattle.dcsctp_transfer.specs.spec.queues.SendQueue.{SendQueueState, has_data}
-use Rattle.dcsctp_transfer.specs.spec.queues.Transfer.{Transfer, may_give}
+use Rattle.dcsctp_transfer.specs.spec.queues.Transfer.{Transfer, window_told, may_give}
 use Rattle.dcsctp_transfer.specs.spec.queues.Retransmission.{RetransmissionState}
 use Rattle.dcsctp_transfer.specs.spec.endpoint.Endpoint.{Endpoint, Core, OutstandingRequest, held_in}
 use Rattle.dcsctp_transfer.specs.spec.endpoint.Timers.{RunningTimer, started}
@@ -114,7 +113,7 @@ acked : (e : Endpoint) (draft : Emission) (b : Bool) (transfer mid : Transfer) (
 acked e draft false transfer mid before packet is h =
     record { sacks = []; tracker = transfer.tracker; acknowledges = (refl, refl); mid_is = h.0; is = h.1 ∙ is ∙ ap (packet_for e.options) (sym (same_draft draft)) }
 acked e draft true transfer mid before packet is h =
-    let sack = sack_of transfer.tracker (remaining_bytes transfer.reassembly) in
+    let sack = sack_of transfer.tracker (window_told transfer) in
     record {
       sacks = where_fits (room_in e draft) (own_sack transfer);
       tracker = sacked transfer.tracker;

@@ -4,17 +4,17 @@ use Rattle.std.specs.declared.alloc.AllocError.{AllocError}
 use Rattle.dcsctp_transfer.specs.wire.Content.{SackContent}
 use Rattle.dcsctp_transfer.specs.wire_build.Building.{Building}
 use Rattle.dcsctp_transfer.specs.types.declared.association.Held.{Held}
+use Rattle.dcsctp_transfer.specs.types.declared.options.Options.{Options}
 use Rattle.dcsctp_transfer.specs.types.declared.message.Message.{Message}
 use Rattle.dcsctp_transfer.specs.spec.endpoint.Event.{Event}
 use Rattle.dcsctp_transfer.specs.spec.endpoint.Endpoint.{Endpoint, held_in}
 use Rattle.dcsctp_transfer.specs.spec.endpoint.Outcome.{Outcome, still}
-use Rattle.dcsctp_transfer.specs.spec.endpoint.DataOutcomes.{FastRetransmits}
+use Rattle.dcsctp_transfer.specs.spec.endpoint.DataOutcomes.{FastRetransmits, taken_to}
 use Rattle.dcsctp_transfer.specs.spec.endpoint.TransferMoves.{lost_all}
 use Rattle.dcsctp_transfer.specs.Sacks.{HandlesSack, FillsAtOnce}
 use Rattle.dcsctp_transfer.specs.declared.sacks.HandledSack.{HandledSack}
 use Rattle.dcsctp_transfer.specs.spec.queues.Transfer.{Transfer}
 use Rattle.dcsctp_transfer.specs.types.queues.Messages.{message_content}
-use Rattle.dcsctp_transfer.specs.spec.queues.Reassembly.{with_ready}
 use Rattle.dcsctp_transfer.specs.spec.queues.Retransmission.{has_fast_retransmit}
 use Rattle.dcsctp_transfer.specs.spec.queues.Tracker.{after_packet_end, is_acknowledgement_due}
 use Rattle.dcsctp_core.specs.declared.state.State.{State}
@@ -31,16 +31,17 @@ abbrev pub ChangesWhere : Bool → (Transfer → Transfer → Type 0) → Option
 ChangesWhere true Changes found old new = ChangesBelow Changes found old new
 ChangesWhere false Changes found old new = new ≡ old
 
--- The first of the messages that are ready is taken, if one is ready.
-abbrev pub TakesFirst : Option Message → Transfer → Transfer → Type 0
-TakesFirst None old new = (old.reassembly.incoming.ready ≡ []) × (new ≡ old)
-TakesFirst (Some message) old new =
+-- The first of the messages that are ready is taken at this moment, if one is ready.
+abbrev pub TakesFirst : Options → ℕ → Option Message → Transfer → Transfer → Type 0
+TakesFirst options moment None old new = (old.reassembly.incoming.ready ≡ []) × (new ≡ old)
+TakesFirst options moment (Some message) old new =
     (old.reassembly.incoming.ready ≡ message_content message ∷ new.reassembly.incoming.ready)
-    × (new ≡ record old { reassembly = with_ready new.reassembly.incoming.ready old.reassembly })
+    × (new ≡ taken_to options moment new.reassembly.incoming.ready old)
 
-abbrev pub TakesReady : Option Transfer → State → Option Message → State → Type 0
-TakesReady None old result new = (result ≡ None) × (new ≡ old)
-TakesReady (Some transfer) old result new = (after : Transfer) × (new ≡ state_with old after) × TakesFirst result transfer after
+abbrev pub TakesReady : Options → ℕ → Option Transfer → State → Option Message → State → Type 0
+TakesReady options moment None old result new = (result ≡ None) × (new ≡ old)
+TakesReady options moment (Some transfer) old result new =
+    (after : Transfer) × (new ≡ state_with old after) × TakesFirst options moment result transfer after
 
 -- All that is in flight is lost, at this moment.
 abbrev pub LosesAt : ℕ → Transfer → Transfer → Type 0

@@ -7,14 +7,14 @@ use Rattle.std.specs.declared.alloc.AllocError.{AllocError}
 use Rattle.rand_core.specs.Stream.{Stream}
 use Rattle.dcsctp_core.specs.types.declared.kinds.ErrorKind.TheVariants.{NotConnected}
 use Rattle.dcsctp_core.specs.spec.queues.Tracker.{is_valid_tsn, is_new_tsn, observed, is_forward, after_forward}
-use Rattle.dcsctp_core.specs.spec.queues.Reassembly.{ReassemblyState, is_above_watermark}
+use Rattle.dcsctp_core.specs.spec.queues.Reassembly.{ReassemblyState}
 use Rattle.dcsctp_core.specs.types.declared.arrivals.SkippedTo.{SkippedTo}
 use Rattle.dcsctp_core.specs.spec.queues.Arrivals.{Arrival}
 use Rattle.dcsctp_core.proofs.spec_lemmas.ReassemblyLemmas.{any_added, any_skipped}
 use Rattle.dcsctp_core.specs.spec.queues.Transfer.{Transfer}
 use Rattle.dcsctp_core.specs.spec.endpoint.Endpoint.{Endpoint, held_in}
 use Rattle.dcsctp_core.specs.spec.endpoint.Outcome.{Outcome, still, reports}
-use Rattle.dcsctp_core.specs.spec.endpoint.TransferMoves.{AddsWhere, ReceivesWhere, ReceivesData, SkipsWhere, MovesWhere, MovesForward}
+use Rattle.dcsctp_core.specs.spec.endpoint.TransferMoves.{has_room, dropping, AddsWhere, ReceivesWhere, ReceivesData, SkipsWhere, MovesWhere, MovesForward}
 use Rattle.dcsctp_core.specs.spec.endpoint.DataOutcomes.{with_transfer, no_user_data_outcome, not_connected_text, ReceiveTurn, DataWhere, ForwardTurn}
 use Rattle.dcsctp_core.specs.declared.context.Context.{Context}
 use Rattle.dcsctp_core.specs.View.{View, tcb_of, transfer_of, endpoint_of, view_of}
@@ -36,12 +36,12 @@ any_where : (b : Bool) (arrived : Arrival) (transfer : Transfer) → (left : Tra
 any_where true arrived transfer =
     let any = any_adds (is_new_tsn arrived.tsn transfer.tracker) arrived transfer.reassembly in
     (record transfer { tracker = observed arrived.tsn arrived.immediate_ack transfer.tracker; reassembly = any.0 }, record { reassembly = any.1; rest = refl })
-any_where false arrived transfer = (transfer, refl)
+any_where false arrived transfer = (dropping (transfer.tracker.follows_rfc && is_valid_tsn transfer.tracker.cumulative arrived.tsn) transfer, refl)
 
 any_received : (e : Endpoint) (found : Option Transfer) (arrived : Arrival) → (o : Outcome) × ReceiveTurn e found arrived o
 any_received e None arrived = (reports e NotConnected not_connected_text, refl)
 any_received e (Some transfer) arrived =
-    let any = any_where (not (is_above_watermark transfer.reassembly) && is_valid_tsn transfer.tracker.cumulative arrived.tsn) arrived transfer in
+    let any = any_where (has_room arrived.tsn transfer && is_valid_tsn transfer.tracker.cumulative arrived.tsn) arrived transfer in
     (still (with_transfer e any.0), (any.0, any.1, refl))
 
 any_data : (e : Endpoint) (arrived : Arrival) (payload : List ℕ) → (o : Outcome) × DataWhere e arrived payload o

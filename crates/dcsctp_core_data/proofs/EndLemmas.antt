@@ -4,9 +4,8 @@ use Rattle.rand_core.specs.Stream.{Stream}
 use Rattle.dcsctp_core.specs.wire_build.Building.{Building}
 use Rattle.dcsctp_core.specs.wire.Content.{sack_chunk}
 use Rattle.dcsctp_core.specs.types.declared.association.Held.{Held}
-use Rattle.dcsctp_core.specs.spec.queues.Reassembly.{remaining_bytes}
 use Rattle.dcsctp_core.specs.spec.queues.Tracker.{TrackerState, after_packet_end, is_acknowledgement_due, owes_acknowledgement, delayed_acknowledgement, delay_over, sack_of, sacked}
-use Rattle.dcsctp_core.specs.spec.queues.Transfer.{Transfer}
+use Rattle.dcsctp_core.specs.spec.queues.Transfer.{Transfer, window_told}
 use Rattle.dcsctp_core.specs.spec.endpoint.Endpoint.{Endpoint, held_in}
 use Rattle.dcsctp_core.specs.spec.endpoint.Outcome.{Outcome, still}
 use Rattle.dcsctp_core.specs.spec.endpoint.FlushOutcomes.{own_sack, draft_to, flush_of, first_ask, packets_allowed}
@@ -42,7 +41,7 @@ record Sacked (e : Endpoint) (held : Held) (transfer mid : Transfer) (filled : B
 sack_put : (e : Endpoint) (held : Held) (transfer mid : Transfer) (packet filled : Building) → packet ≡ packet_for e.options (draft_to held) → Acknowledges true transfer packet mid filled
     → Sacked e held transfer mid filled
 sack_put e held transfer mid packet filled is h =
-    let sack = sack_of transfer.tracker (remaining_bytes transfer.reassembly) in
+    let sack = sack_of transfer.tracker (window_told transfer) in
     record { left = h.0; packet = h.1 ∙ ap (λ (b : Building). with_chunk b (sack_chunk sack)) is ∙ chunk_packet e (draft_to held) (sack_chunk sack) }
 
 -- what the flush does, from the endpoint at which all is acknowledged

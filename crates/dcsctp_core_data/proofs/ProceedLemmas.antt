@@ -9,7 +9,7 @@ use Rattle.dcsctp_core.specs.spec.queues.Transfer.{Transfer}
 use Rattle.dcsctp_core.specs.spec.endpoint.Endpoint.{Endpoint, Core, closed, cookie_wait, cookie_echoed, open_in, OpenPhase, established, shutdown_pending, shutdown_sent, shutdown_received, shutdown_ack_sent, held_in}
 use Rattle.dcsctp_core.specs.spec.endpoint.Outcome.{Outcome, behind}
 use Rattle.dcsctp_core.specs.spec.endpoint.FlushOutcomes.{draft_to, flush_of, first_ask, packets_allowed}
-use Rattle.dcsctp_core.specs.spec.endpoint.ShutdownOutcomes.{is_all_acknowledged, step_by, step_outcome}
+use Rattle.dcsctp_core.specs.spec.endpoint.ShutdownOutcomes.{may_go_on, step_by, step_outcome}
 use Rattle.dcsctp_core.proofs.spec_lemmas.AnswerLemmas.{any_answers}
 use Rattle.dcsctp_core.specs.declared.context.Context.{Context}
 use Rattle.dcsctp_core.specs.View.{View, core_of, transfer_of, endpoint_of, view_of, Moves}
@@ -45,7 +45,7 @@ step_keeps : (e : Endpoint) (core : Core) → e.core ≡ core → StepKeeps e (s
 step_keeps e closed is = record { words = refl; effects = refl; holds = refl; below = refl; options = refl }
 step_keeps e (cookie_wait my) is = record { words = refl; effects = refl; holds = refl; below = refl; options = refl }
 step_keeps e (cookie_echoed my held cookie) is = record { words = refl; effects = refl; holds = refl; below = refl; options = refl }
-step_keeps e (open_in phase my held) is = by_keeps (is_all_acknowledged e.below.transfer) e phase my held (ap held_in is)
+step_keeps e (open_in phase my held) is = by_keeps (may_go_on e) e phase my held (ap held_in is)
 
 -- ---- what follows it
 

@@ -1,5 +1,5 @@
 -- A SACK comes in.
-use Rattle.std.proofs.Common.{◌≡◌, ℕ, Bool, true, false, if◌then◌else◌, Option, None, Some, Result, Ok, Err, List, [], ◌∷◌, ◌++◌, map, take, length, refl, sym, ap, subst, ◌∙◌, append_assoc}
+use Rattle.std.proofs.Common.{◌≡◌, ◌||◌, ℕ, Bool, true, false, if◌then◌else◌, Option, None, Some, Result, Ok, Err, List, [], ◌∷◌, ◌++◌, map, take, length, refl, sym, ap, subst, ◌∙◌, append_assoc}
 use Rattle.std.specs.Prelude.{is_some}
 use Rattle.std.proofs.lemmas.List.{append-nil, map-append}
 use Rattle.std.specs.declared.alloc.AllocError.{AllocError}
@@ -14,9 +14,9 @@ use Rattle.dcsctp_core.specs.spec.queues.Transfer.{Transfer}
 use Rattle.dcsctp_core.specs.spec.endpoint.Endpoint.{Endpoint, held_in}
 use Rattle.dcsctp_core.specs.spec.endpoint.Outcome.{Outcome, still, reports}
 use Rattle.dcsctp_core.specs.spec.endpoint.FlushOutcomes.{draft_to, flush_of}
-use Rattle.dcsctp_core.specs.spec.endpoint.TransferMoves.{TakesSack}
-use Rattle.dcsctp_core.specs.spec.endpoint.DataOutcomes.{with_transfer, no_tcb_text, sack_taken, AcknowledgesBy, SackWhere, SackBy, SackTurn}
-use Rattle.dcsctp_core.specs.spec.queues.Acknowledging.{is_sack_valid, ends_delivery, told_by, delivered, delivered_by}
+use Rattle.dcsctp_core.specs.spec.endpoint.TransferMoves.{TakesSack, timed_by}
+use Rattle.dcsctp_core.specs.spec.endpoint.DataOutcomes.{with_transfer, no_tcb_text, heeds_window, shows_peer, sack_taken, AcknowledgesBy, SackWhere, SackBy, SackTurn}
+use Rattle.dcsctp_core.specs.spec.queues.Acknowledging.{is_sack_valid, has_acknowledged, ends_delivery, told_by, delivered, delivered_by}
 use Rattle.dcsctp_core.specs.spec.queues.Items.{Item}
 use Rattle.dcsctp_core.specs.spec.queues.Outstanding.{acknowledged_by}
 use Rattle.dcsctp_core.specs.spec.queues.Retransmission.{RetransmissionState}
@@ -133,36 +133,51 @@ abbrev with_both : {R : Type 0} → Context R → State → List SocketEvent →
 with_both old state events = record (view_of (record old { state = state })) { events = map event_content events }
 
 abbrev heeded : {R : Type 0} → Bool → View R → View R
-heeded acknowledges view = record view { endpoint = record view.endpoint { error_count = if acknowledges then 0 else view.endpoint.error_count } }
+heeded shows view = record view { endpoint = record view.endpoint { error_count = if shows then 0 else view.endpoint.error_count } }
+
+-- the window that a SACK tells counts from then on
+timed_window : (round_trip : Option ℕ) (transfer : Transfer) → (timed_by round_trip transfer).retransmission.peer_window ≡ transfer.retransmission.peer_window
+timed_window None transfer = refl
+timed_window (Some measured) transfer = refl
+
+window_taken : (now : ℕ) (sack : SackContent) (old new : Transfer) → TakesSack now sack old new → new.retransmission.peer_window ≡ sack.a_rwnd
+window_taken now sack old new takes =
+    ap (λ (t : Transfer). t.retransmission.peer_window) takes.is ∙ timed_window takes.round_trip (record old { retransmission = takes.left })
+    ∙ ap (λ (s : RetransmissionState). s.peer_window) takes.acknowledges.is
 
 -- A SACK that was taken into account.
-pub record Taken {R : Type 0} (old : Context R) (sack : SackContent) (acknowledges : Bool) (state : State) (events : List SocketEvent) : Type 0 where
+pub record Taken {R : Type 0} (old : Context R) (sack : SackContent) (shows : Bool) (state : State) (events : List SocketEvent) : Type 0 where
   pub b : Below old.state
   pub after : Transfer
   pub valid : is_sack_valid b.transfer.retransmission sack.cumulative_tsn_ack ≡ true
   pub takes : TakesSack old.moment sack b.transfer after
-  pub view : heeded acknowledges (with_both old state events) ≡ sacked_view (view_of old) b.transfer after sack.cumulative_tsn_ack
+  pub view : heeded shows (with_both old state events) ≡ sacked_view (view_of old) b.transfer after sack.cumulative_tsn_ack
 
-taken_by : {R : Type 0} (old : Context R) (sack : SackContent) (acknowledges : Bool) (state : State) (events : List SocketEvent) (b : Below old.state)
-    → SacksBelow old.moment sack (Some b.transfer) old.state (map event_content old.events) state (map event_content events) (Ok (Valid acknowledges)) → Taken old sack acknowledges state events
-taken_by {R = R} old sack acknowledges state events b h =
+taken_by : {R : Type 0} (old : Context R) (sack : SackContent) (acknowledges shows : Bool) (state : State) (events : List SocketEvent) (b : Below old.state)
+    → shows ≡ (acknowledges || heeds_window old.options sack.a_rwnd)
+    → SacksBelow old.moment sack (Some b.transfer) old.state (map event_content old.events) state (map event_content events) (Ok (Valid acknowledges)) → Taken old sack shows state events
+taken_by {R = R} old sack acknowledges shows state events b is h =
     let after : Transfer = h.0 in
+    let seen : shows ≡ shows_peer old.options b.transfer after =
+    is ∙ ap (λ (x : Bool). x || heeds_window old.options sack.a_rwnd) h.2.3
+    ∙ ap (λ (n : ℕ). has_acknowledged b.transfer.retransmission after.retransmission || heeds_window old.options n) (sym (window_taken old.moment sack b.transfer after h.2.1)) in
     let same = below_view old state b.transfer after b.below h.1 in
     record {
       b = b;
       after = after;
       valid = h.2.0;
       takes = h.2.1;
-      view = ap (λ (v : View R). heeded acknowledges (record v { events = map event_content events })) same
-          ∙ ap (λ (es : List (Event (List ℕ))). heeded acknowledges (record (view_of old) { endpoint = with_transfer (endpoint_of old) after; events = es })) h.2.2
-          ∙ ap (λ (x : Bool). heeded x (record (view_of old) { endpoint = with_transfer (endpoint_of old) after; events = (view_of old).events ++ delivered_by sack.cumulative_tsn_ack b.transfer.retransmission })) h.2.3;
+      view = ap (λ (v : View R). heeded shows (record v { events = map event_content events })) same
+          ∙ ap (λ (es : List (Event (List ℕ))). heeded shows (record (view_of old) { endpoint = with_transfer (endpoint_of old) after; events = es })) h.2.2
+          ∙ ap (λ (x : Bool). heeded x (record (view_of old) { endpoint = with_transfer (endpoint_of old) after; events = (view_of old).events ++ delivered_by sack.cumulative_tsn_ack b.transfer.retransmission })) seen;
     }
 
-pub taken : {R : Type 0} (old : Context R) (sack : SackContent) (acknowledges : Bool) (state : State) (events : List SocketEvent) → is_some (transfer_of old.state) ≡ true
-    → SacksBelow old.moment sack (transfer_of old.state) old.state (map event_content old.events) state (map event_content events) (Ok (Valid acknowledges)) → Taken old sack acknowledges state events
-taken old sack acknowledges state events some h =
+pub taken : {R : Type 0} (old : Context R) (sack : SackContent) (acknowledges shows : Bool) (state : State) (events : List SocketEvent) → is_some (transfer_of old.state) ≡ true
+    → shows ≡ (acknowledges || heeds_window old.options sack.a_rwnd)
+    → SacksBelow old.moment sack (transfer_of old.state) old.state (map event_content old.events) state (map event_content events) (Ok (Valid acknowledges)) → Taken old sack shows state events
+taken old sack acknowledges shows state events some is h =
     let b = below_of old.state some in
-    taken_by old sack acknowledges state events b
+    taken_by old sack acknowledges shows state events b is
     (subst (λ (f : Option Transfer). SacksBelow old.moment sack f old.state (map event_content old.events) state (map event_content events) (Ok (Valid acknowledges))) b.below h)
 
 -- a peer is still held then

@@ -1,15 +1,16 @@
 //! SACK (RFC 9260, sections 3.3.4 and 6.2.1) that is received.
 
-ghost use Rattle.std.specs.Prelude.{◌≡◌, if◌then◌else◌};
+ghost use Rattle.std.specs.Prelude.{◌≡◌, ◌||◌, if◌then◌else◌};
 ghost use Rattle.dcsctp_core.specs.wire.Content.{sack_content};
-ghost use Rattle.dcsctp_core.specs.spec.endpoint.DataOutcomes.{no_tcb_text};
+ghost use Rattle.dcsctp_core.specs.spec.endpoint.DataOutcomes.{no_tcb_text, heeds_window};
 ghost use Rattle.dcsctp_core.specs.View.{view_of, endpoint_of};
 ghost use Rattle.dcsctp_core.specs.Handling.{TakesOne, Tries, report_turn};
 ghost use Rattle.dcsctp_core_data.specs.Sacks.{SackAt, ProceedsWhereHeld, ResendsWhereHeld};
 
 use dcsctp_core::Context;
 use dcsctp_core::api::ErrorKind;
-use dcsctp_core::transfer::HandledSack;
+use dcsctp_core::transfer::{HandledSack, packet_size_limit};
+use dcsctp_core::types::Options;
 use dcsctp_core::wire::SackChunk;
 use dcsctp_core_ends::step_shutdown;
 use rand_core::Rng;
@@ -26,16 +27,25 @@ fn report_no_tcb<R: Rng>(context: &mut Context<R>) -> Result<(), AllocError>
     Ok(())
 }
 
-// No error counts if the peer has acknowledged something that it hadn't before (RFC 9260, section 8.1).
-fn heed_answer<R: Rng>(context: &mut Context<R>, acknowledges: bool)
+// Does a SACK show that the peer is there? It does if it acknowledges something that none did before (RFC
+// 9260, section 8.1). With `Options::follow_rfc` it also does if it answers a probe of a closed window
+// (section 6.1, rule A): one that is smaller than a packet.
+fn shows_peer(options: &Options, acknowledges: bool, window: u32) -> bool
+    ensures { result ≡ (acknowledges || heeds_window options.now window) }
+{
+    acknowledges || (options.follow_rfc && (window as usize) < packet_size_limit(options))
+}
+
+// If the peer is there, no error counts.
+fn heed_answer<R: Rng>(context: &mut Context<R>, shows_peer: bool)
     ensures { view_of context.new ≡ record (view_of context.old) {
       endpoint = record
           (endpoint_of context.old) {
-            error_count = if acknowledges then 0 else (endpoint_of context.old).error_count;
+            error_count = if shows_peer then 0 else (endpoint_of context.old).error_count;
           };
     } }
 {
-    if acknowledges {
+    if shows_peer {
         context.reset_errors();
     }
 }
@@ -81,7 +91,8 @@ pub fn handle_sack<R: Rng>(
     match handled {
         HandledSack::Invalid => {}
         HandledSack::Valid { acknowledges } => {
-            heed_answer(context, acknowledges);
+            let is_there = shows_peer(&context.options, acknowledges, chunk.a_rwnd);
+            heed_answer(context, is_there);
             proceed(context)?;
         }
     }

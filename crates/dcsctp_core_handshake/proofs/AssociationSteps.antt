@@ -1,5 +1,5 @@
 -- The steps of an association that a cookie makes.
-use Rattle.std.proofs.Common.{◌≡◌, ℕ, Option, Some, List, [], ◌∷◌, ◌++◌, map, refl, sym, ap, subst, ◌∙◌}
+use Rattle.std.proofs.Common.{◌≡◌, ℕ, false, Option, Some, List, [], ◌∷◌, ◌++◌, map, refl, sym, ap, subst, ◌∙◌}
 use Rattle.std.proofs.lemmas.List.{append-nil}
 use Rattle.rand_core.specs.Stream.{Stream, next_u64}
 use Rattle.dcsctp_core.specs.types.declared.association.Held.{Held}
@@ -14,7 +14,7 @@ use Rattle.dcsctp_core.specs.spec.endpoint.Outcome.{Outcome}
 use Rattle.dcsctp_core.specs.spec.association.Effect.{Effect, holds, connects, link_of}
 use Rattle.dcsctp_core.specs.spec.association.CookieEchoChanges.{held_by_cookie}
 use Rattle.dcsctp_core.specs.spec.endpoint.FlushOutcomes.{Answer, first_ask, flush_answered, packets_allowed}
-use Rattle.dcsctp_core.specs.spec.endpoint.CookieEchoOutcomes.{established_by, acknowledgement, establish_by, queue_kept, queue_begun, EstablishAnswers}
+use Rattle.dcsctp_core.specs.spec.endpoint.CookieEchoOutcomes.{established_by, acknowledgement, establish_by, queue_where, queue_begun, EstablishAnswers}
 use Rattle.dcsctp_core.proofs.spec_lemmas.AnswerLemmas.{any_answers}
 use Rattle.dcsctp_core.specs.api.Calls.{user_event}
 use Rattle.dcsctp_core.specs.api.declared.events.SocketEvent.{SocketEvent}
@@ -116,7 +116,7 @@ pub establishes : {R : Type 0} (stream : R → Stream) (old drawn : Context R) (
 establishes {R = R} stream old drawn added cookie tie mid new d one made t =
     let same : drawn.pairs ≡ old.pairs = d.pairs in
     let same_pairs : (view_of drawn).pairs ≡ (view_of old).pairs = cc in
-    let all = associates stream (view_of old) mid new cookie (queue_kept (endpoint_of old) cookie) tie (connected ∷ []) d.from_stream
+    let all = associates stream (view_of old) mid new cookie (queue_where false (endpoint_of old) cookie) tie (connected ∷ []) d.from_stream
     (made_endpoint stream old drawn added cookie tie mid d made) (made_events stream old drawn added cookie tie mid d one made)
     (record {
       words = ap (λ (v : View R). v.words) made ∙ d.kept;
@@ -129,13 +129,13 @@ pub establishes_cut : {R : Type 0} (stream : R → Stream) (old drawn : Context 
     → DrawsNext stream next_u64 U64 old tie drawn → added ≡ drawn.events ++ OnConnected ∷ [] → Made drawn added cookie tie mid
     → CutIn AcknowledgementAt mid es → CutIn (EstablishAt stream cookie) (view_of old) es
 establishes_cut stream old drawn added cookie tie mid es d one made t =
-    let all = associates_cut stream (view_of old) mid es cookie (queue_kept (endpoint_of old) cookie) tie (connected ∷ []) d.from_stream
+    let all = associates_cut stream (view_of old) mid es cookie (queue_where false (endpoint_of old) cookie) tie (connected ∷ []) d.from_stream
     (made_endpoint stream old drawn added cookie tie mid d made) (made_events stream old drawn added cookie tie mid d one made) t in
     record { outcome = all.outcome; turn = all.turn; cut = all.cut }
 
 pub establish_unmade : {R : Type 0} (stream : R → Stream) (old : View R) (es : List (Event (List ℕ))) (cookie : Cookie) → es ≡ old.events → CutIn (EstablishAt stream cookie) old es
 establish_unmade stream old es cookie same =
-    let all = association_unmade stream old es cookie (queue_kept old.endpoint cookie) (connected ∷ []) same in
+    let all = association_unmade stream old es cookie (queue_where false old.endpoint cookie) (connected ∷ []) same in
     record { outcome = all.outcome; turn = all.turn; cut = all.cut }
 
 -- ---- in place of another

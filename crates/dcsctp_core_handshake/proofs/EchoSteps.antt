@@ -27,7 +27,7 @@ use Rattle.dcsctp_core.specs.Handling.{TakesIn, CutIn, HandlesIn, WorksOne}
 use Rattle.dcsctp_core.proofs.Composing.{cut_first}
 use Rattle.dcsctp_core.proofs.Moving.{moves_still}
 use Rattle.dcsctp_core_handshake.specs.Handshake.{CookieEchoAt}
-use Rattle.dcsctp_core_handshake.specs.Echoes.{EstablishAt, ReplaceAt, RestartWhereAt, MaintainAt, maintained_by, MaintainedAnswers}
+use Rattle.dcsctp_core_handshake.specs.Echoes.{EstablishNewAt, ReplaceAt, RestartWhereAt, MaintainAt, maintained_by, MaintainedAnswers}
 use Rattle.dcsctp_core_handshake.proofs.FlushSteps.{flush_following}
 
 -- ---- which case it is
@@ -56,7 +56,7 @@ turn_of e header bytes cookie word resolution answers o c allowed is = subst (Co
 -- ---- an association is made
 
 pub works_new : {R : Type 0} (stream : R → Stream) (old new : View R) (header : ℕ) (bytes : List ℕ) (cookie : Cookie) → IsCase old.endpoint header bytes cookie establish_new
-    → TakesIn stream (EstablishAt stream cookie) old new → HandlesIn stream (CookieEchoAt header bytes) old NextChunk new
+    → TakesIn stream (EstablishNewAt stream cookie) old new → HandlesIn stream (CookieEchoAt header bytes) old NextChunk new
 works_new stream old new header bytes cookie c t =
     record {
       outcome = t.outcome;
@@ -66,7 +66,7 @@ works_new stream old new header bytes cookie c t =
     }
 
 pub works_new_cut : {R : Type 0} (stream : R → Stream) (old : View R) (es : List (Event (List ℕ))) (header : ℕ) (bytes : List ℕ) (cookie : Cookie) → IsCase old.endpoint header bytes cookie establish_new
-    → CutIn (EstablishAt stream cookie) old es → CutIn (CookieEchoAt header bytes) old es
+    → CutIn (EstablishNewAt stream cookie) old es → CutIn (CookieEchoAt header bytes) old es
 works_new_cut stream old es header bytes cookie c t =
     record {
       outcome = t.outcome;

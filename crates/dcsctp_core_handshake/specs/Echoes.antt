@@ -11,7 +11,7 @@ use Rattle.dcsctp_core.specs.spec.endpoint.Outcome.{Outcome, still, noting}
 use Rattle.dcsctp_core.specs.spec.association.Effect.{connects, link_of}
 use Rattle.dcsctp_core.specs.spec.endpoint.FlushOutcomes.{Answer, FlushAnswers, FlushKind, flush_answered}
 use Rattle.dcsctp_core.specs.spec.endpoint.HandshakeOutcomes.{connected_after}
-use Rattle.dcsctp_core.specs.spec.endpoint.CookieEchoOutcomes.{refused_echo_outcome, refused_restart_outcome, restart_by_where, RestartAnswers, established_by, queue_kept, queue_begun, establish_by, EstablishAnswers}
+use Rattle.dcsctp_core.specs.spec.endpoint.CookieEchoOutcomes.{refused_echo_outcome, refused_restart_outcome, restart_by_where, RestartAnswers, established_by, queue_kept, queue_where, queue_begun, establish_by, EstablishAnswers}
 use Rattle.dcsctp_core.specs.View.{View}
 use Rattle.dcsctp_core.specs.Drawing.{long_word}
 
@@ -44,7 +44,7 @@ AcknowledgementAt view o =
 
 -- the endpoint that holds its association; what waits to be sent stays
 abbrev pub established_with : Endpoint → Cookie → ℕ → Endpoint
-established_with e cookie tie = established_by e cookie (queue_kept e cookie) tie
+established_with e cookie tie = established_by e cookie (queue_where false e cookie) tie
 
 -- An association is made of a cookie, with this queue and after these events. The tie tag is the word that the generator gives next.
 abbrev pub AssociationAt : {R : Type 0} → (R → Stream) → Cookie → SendQueueState → List (Event Emission) → View R → Outcome → Type 0
@@ -55,7 +55,11 @@ AssociationAt stream cookie queue events view o =
 
 -- What waits to be sent is kept.
 abbrev pub EstablishAt : {R : Type 0} → (R → Stream) → Cookie → View R → Outcome → Type 0
-EstablishAt stream cookie view o = AssociationAt stream cookie (queue_kept view.endpoint cookie) (connected ∷ []) view o
+EstablishAt stream cookie view o = AssociationAt stream cookie (queue_where false view.endpoint cookie) (connected ∷ []) view o
+
+-- That is so where there was no association, unless its numbers start anew by the RFC.
+abbrev pub EstablishNewAt : {R : Type 0} → (R → Stream) → Cookie → View R → Outcome → Type 0
+EstablishNewAt stream cookie view o = AssociationAt stream cookie (queue_kept view.endpoint cookie) (connected ∷ []) view o
 
 -- instead of the existing one
 abbrev pub ReplaceAt : {R : Type 0} → (R → Stream) → Cookie → View R → Outcome → Type 0

@@ -6,7 +6,7 @@ ghost use Rattle.dcsctp_core.specs.api.Cookie.{cookie_of};
 ghost use Rattle.dcsctp_core.specs.View.{core_of, view_of, endpoint_of};
 ghost use Rattle.dcsctp_core.specs.Handling.{Tries, TakesOne, Works, WorksOne};
 ghost use Rattle.dcsctp_core_handshake.specs.Handshake.{CookieEchoAt};
-ghost use Rattle.dcsctp_core_handshake.specs.Echoes.{awaits_complete, established_with, AcknowledgementAt, EstablishAt, ReplaceAt, RestartAt, MaintainAt, RestartWhereAt, refuse_turn, refused_restart_turn};
+ghost use Rattle.dcsctp_core_handshake.specs.Echoes.{awaits_complete, established_with, AcknowledgementAt, EstablishAt, EstablishNewAt, ReplaceAt, RestartAt, MaintainAt, RestartWhereAt, refuse_turn, refused_restart_turn};
 
 use crate::cookie_resolution::{CookieResolution, peer_by_cookie, resolve_now};
 use crate::texts::{INVALID_TAG, SHUTTING_DOWN, STALE};
@@ -79,6 +79,21 @@ fn replace<R: Rng>(context: &mut Context<R>, cookie: &StateCookie) -> Result<(),
     context.send_queue.reset();
     establish(context, cookie)?;
     Ok(())
+}
+
+/// Makes the association that a cookie shows where there is none. What waits to be sent is kept; with
+/// `Options::follow_rfc` its numbers start anew (RFC 9260, section 6.5).
+///
+/// `Err`: an allocation failed; the first of its events may already have been added.
+fn establish_new<R: Rng>(context: &mut Context<R>, cookie: &StateCookie) -> Result<(), AllocError>
+    ensures { TakesOne R.stream (EstablishNewAt R.stream (cookie_of cookie.now)) context.old result
+        context.new }
+{
+    if context.options.follow_rfc {
+        replace(context, cookie)
+    } else {
+        establish(context, cookie)
+    }
 }
 
 /// Makes the association anew, since the peer began it anew.
@@ -196,7 +211,7 @@ pub fn handle_cookie_echo<R: Rng>(
         }
     };
     match resolve_now(context, header_tag, &cookie) {
-        CookieResolution::EstablishNew => establish(context, &cookie)?,
+        CookieResolution::EstablishNew => establish_new(context, &cookie)?,
         CookieResolution::RestartDetected => return restart_where_open(context, &cookie),
         CookieResolution::SimultaneousInit => replace(context, &cookie)?,
         CookieResolution::Discard => return Ok(Following::DroppedRest),

@@ -22,7 +22,7 @@ record Takes (e : Endpoint) (transfer after : Transfer) (result : Option Message
   turn : TakeWhere e transfer transfer.reassembly.incoming.ready outcome
   after_is : outcome.after ≡ with_transfer e after
 
-takes_where : (e : Endpoint) (transfer after : Transfer) (result : Option Message) → e ≡ with_transfer e transfer → TakesFirst result transfer after → Takes e transfer after result
+takes_where : (e : Endpoint) (transfer after : Transfer) (result : Option Message) → e ≡ with_transfer e transfer → TakesFirst e.options e.moment result transfer after → Takes e transfer after result
 takes_where e transfer after None same h =
     record {
       first = h.0;
@@ -63,12 +63,12 @@ some_taken {R = R} old state result transfer after holds same taken =
 below_is : (e : Endpoint) (transfer : Transfer) → e.below.transfer ≡ Some transfer → e ≡ with_transfer e transfer
 below_is e transfer holds = ap (λ (t : Option Transfer). let x : Endpoint = record e { below = record e.below { transfer = t } } in x) holds
 
-taken_by : {R : Type 0} (old : Context R) (state : State) (result : Option Message) (found : Option Transfer) → transfer_of old.state ≡ found → TakesReady found old.state result state
+taken_by : {R : Type 0} (old : Context R) (state : State) (result : Option Message) (found : Option Transfer) → transfer_of old.state ≡ found → TakesReady old.options old.moment found old.state result state
     → TakesNextOf (view_of old) result (view_of (record old { state = state }))
 taken_by old state result None holds h = none_taken old state result holds h.0 h.1
 taken_by old state result (Some transfer) holds h =
     some_taken old state result transfer h.0 holds h.1 (takes_where (endpoint_of old) transfer h.0 result (below_is (endpoint_of old) transfer holds) h.2)
 
-pub taken_next : {R : Type 0} (old : Context R) (state : State) (result : Option Message) → TakesReady (transfer_of old.state) old.state result state
+pub taken_next : {R : Type 0} (old : Context R) (state : State) (result : Option Message) → TakesReady old.options old.moment (transfer_of old.state) old.state result state
     → TakesNextOf (view_of old) result (view_of (record old { state = state }))
 taken_next old state result h = taken_by old state result (transfer_of old.state) refl h

@@ -8,12 +8,15 @@ use dcsctp_core::api::Message;
 use rand_core::Rng;
 
 /// Takes the message that became ready first, if one is ready, and gives its bytes back to the receive window
-/// (RFC 9260, section 6.2). Allocates nothing.
+/// (RFC 9260, section 6.2). With `Options::follow_rfc` an acknowledgement is due now if a small window opens by
+/// that. Allocates nothing.
 pub fn get_next_message<R: Rng>(context: &mut Context<R>) -> Option<Message>
     ensures { TakesNextOf (view_of context.old) result (view_of context.new) }
 {
     match context.state.tcb_mut() {
         None => None,
-        Some(tcb) => tcb.transfer.get_next_message(),
+        Some(tcb) => tcb
+            .transfer
+            .get_next_message(&context.options, context.moment),
     }
 }

@@ -10,10 +10,10 @@ use Rattle.dcsctp_spec_lemmas.specs.spec.queues.Arrivals.{Arrival}
 use Rattle.dcsctp_spec_lemmas.specs.spec.queues.Incoming.{IncomingModel, stream_on, TakesChunk, TakesData, skipped_on, skipped_by, MovesOn, is_named, ResetsStreams}
 use Rattle.dcsctp_spec_lemmas.specs.spec.queues.IncomingStreams.{ChunkModel, StreamModel, new_stream, skipped_stream, skipped}
 use Rattle.dcsctp_spec_lemmas.specs.types.queues.Messages.{MessageContent}
-use Rattle.dcsctp_spec_lemmas.specs.spec.queues.Reassembly.{WaitingModel, WaitingSkips, DeferralModel, ReassemblyState, can_count, entries_within, entries_beside, names_stream, is_deferred, is_forward_deferred, is_above_watermark, with_waiting, entered, deferring, with_ready, AddsData, SkipsData, SkipsThen, HandlesAll, waiting_of, skips_of, Leaves}
+use Rattle.dcsctp_spec_lemmas.specs.spec.queues.Reassembly.{WaitingModel, WaitingSkips, DeferralModel, ReassemblyState, can_count, entries_within, entries_beside, names_stream, is_deferred, is_forward_deferred, with_waiting, entered, deferring, with_ready, AddsData, SkipsData, SkipsThen, HandlesAll, waiting_of, skips_of, Leaves}
 use Rattle.dcsctp_spec_lemmas.specs.spec.queues.Tracker.{TrackerState, has_received, number_of, is_new_tsn, is_forward, is_valid_tsn}
 use Rattle.dcsctp_spec_lemmas.specs.spec.queues.Transfer.{Transfer}
-use Rattle.dcsctp_spec_lemmas.specs.spec.endpoint.TransferMoves.{AddsWhere, ReceivesWhere, SkipsWhere, MovesWhere, ReceivesData, MovesForward}
+use Rattle.dcsctp_spec_lemmas.specs.spec.endpoint.TransferMoves.{AddsWhere, has_room, dropping, ReceivesWhere, SkipsWhere, MovesWhere, ReceivesData, MovesForward}
 use Rattle.dcsctp_delivery_sending.specs.Places.{Has, at_place}
 use Rattle.dcsctp_delivery_sending.specs.Log.{Message, Piece, Mark, History, Resets}
 use Rattle.dcsctp_delivery_sending.specs.Numbers.{AreOfKind}
@@ -139,7 +139,7 @@ pub clear_through_data : (queued : List Message) (history : History) (first id :
     → Received queued history first read old.tracker old.reassembly → IsOver history first old.tracker.cumulative id → Carries history.log first offset arrival.tsn arrival.chunk → IsClear id old.reassembly
     → ReceivesData arrival old new → IsClear id new.reassembly
 clear_through_data queued history first id read offset arrival old new few r over c clear receives =
-    go (not (is_above_watermark old.reassembly) && is_valid_tsn old.tracker.cumulative arrival.tsn) receives
+    go (has_room arrival.tsn old && is_valid_tsn old.tracker.cumulative arrival.tsn) receives
   where
     elsewhere : is_new_tsn arrival.tsn old.tracker ≡ true → arrival.chunk.stream ≢ id
     elsewhere new_tsn e =
@@ -150,9 +150,13 @@ clear_through_data queued history first id read offset arrival old new few r ove
     added true is adds = added_elsewhere id arrival.tsn arrival.chunk old.reassembly new.reassembly (elsewhere is) clear adds
     added false is same = subst (λ (s : ReassemblyState). IsClear id s) (sym same) clear
 
+    dropped : (b : Bool) → IsClear id (dropping b old).reassembly
+    dropped true = clear
+    dropped false = clear
+
     go : (b : Bool) → ReceivesWhere b arrival old new → IsClear id new.reassembly
     go true takes = added (is_new_tsn arrival.tsn old.tracker) refl takes.reassembly
-    go false same = subst (λ (t : Transfer). IsClear id t.reassembly) (sym same) clear
+    go false same = subst (λ (t : Transfer). IsClear id t.reassembly) (sym same) (dropped (old.tracker.follows_rfc && is_valid_tsn old.tracker.cumulative arrival.tsn))
 
 -- ---- what is skipped
 

@@ -1,14 +1,14 @@
 -- A DATA chunk and a FORWARD-TSN, with the tracker.
-use Rattle.std.proofs.Common.{◌≡◌, ℕ, Bool, true, false, ◌<◌, ◌≤◌, ◌+◌, ◌%◌, ◌^◌, List, [], ◌∷◌, ◌++◌, length, refl, sym, ◌∙◌, ap, subst, inl, inr}
+use Rattle.std.proofs.Common.{◌≡◌, ℕ, Bool, true, false, ◌<◌, ◌≤◌, ◌+◌, ◌%◌, ◌^◌, List, [], ◌∷◌, ◌++◌, length, refl, sym, ◌∙◌, ap, arith, subst, inl, inr}
 use Rattle.std.specs.Prelude.{◌&&◌, not, if◌then◌else◌, Option, Some}
 use Rattle.std.proofs.lemmas.List.{append-nil}
 use Rattle.dcsctp_spec_lemmas.specs.types.declared.arrivals.SkippedTo.{SkippedTo}
 use Rattle.dcsctp_spec_lemmas.specs.spec.queues.Arrivals.{Arrival}
 use Rattle.dcsctp_spec_lemmas.specs.spec.queues.IncomingStreams.{ChunkModel, skipped_stream}
-use Rattle.dcsctp_spec_lemmas.specs.spec.queues.Reassembly.{DeferralModel, ReassemblyState, can_count, entries_beside, is_deferred, is_forward_deferred, is_above_watermark, names_stream, AddsData, SkipsData, waiting_of}
+use Rattle.dcsctp_spec_lemmas.specs.spec.queues.Reassembly.{DeferralModel, ReassemblyState, can_count, entries_beside, is_deferred, is_forward_deferred, names_stream, AddsData, SkipsData, waiting_of}
 use Rattle.dcsctp_spec_lemmas.specs.spec.queues.Tracker.{TrackerState, is_new_tsn, observed, is_forward, is_valid_tsn, after_forward, delay_over, moved_forward}
 use Rattle.dcsctp_spec_lemmas.specs.spec.queues.Transfer.{Transfer}
-use Rattle.dcsctp_spec_lemmas.specs.spec.endpoint.TransferMoves.{AddsWhere, ReceivesWhere, SkipsWhere, GoesForward, MovesWhere, ReceivesData, MovesForward, TakesData as TakesArrival}
+use Rattle.dcsctp_spec_lemmas.specs.spec.endpoint.TransferMoves.{AddsWhere, has_room, dropping, ReceivesWhere, SkipsWhere, GoesForward, MovesWhere, ReceivesData, MovesForward, TakesData as TakesArrival}
 use Rattle.dcsctp_delivery_sending.specs.Places.{Has}
 use Rattle.dcsctp_delivery_sending.specs.Log.{Message, History, Cut}
 use Rattle.dcsctp_delivery_receiving.specs.Ready.{AreDistinct, AreNamed, IsNamed, SkipAll}
@@ -150,13 +150,20 @@ module _ (queued : List Message) (history : History) (first : ℕ) (cut : Cut qu
   same_transfer : (old new : Transfer) → new ≡ old → Received queued history first read old.tracker old.reassembly → Received queued history first read new.tracker new.reassembly
   same_transfer old new same r = subst (λ (t : Transfer). Received queued history first read t.tracker t.reassembly) (sym same) r
 
+  -- Data that is dropped leaves what was received.
+  dropped_keeps : (b : Bool) (old new : Transfer) → new ≡ dropping b old → Received queued history first read old.tracker old.reassembly → Received queued history first read new.tracker new.reassembly
+  dropped_keeps true old new same r =
+      same_transfer (dropping true old) new same
+      (tracked_on old.tracker (delay_over old.tracker) old.reassembly r r.taken (λ k h. h) (omega arith) (delayed_tracks first (length history.log) r.taken old.tracker r.tracks))
+  dropped_keeps false old new same r = same_transfer old new same r
+
   pub receiving_keeps : (offset : ℕ) (arrival : Arrival) (old new : Transfer) → Carries history.log first offset arrival.tsn arrival.chunk → Received queued history first read old.tracker old.reassembly → ReceivesData arrival old new
       → Received queued history first read new.tracker new.reassembly
-  receiving_keeps offset arrival old new c r receives = go (not (is_above_watermark old.reassembly) && is_valid_tsn old.tracker.cumulative arrival.tsn) receives
+  receiving_keeps offset arrival old new c r receives = go (has_room arrival.tsn old && is_valid_tsn old.tracker.cumulative arrival.tsn) receives
     where
       go : (b : Bool) → ReceivesWhere b arrival old new → Received queued history first read new.tracker new.reassembly
       go true takes = taken_keeps offset arrival old new c r takes
-      go false same = same_transfer old new same r
+      go false same = dropped_keeps (old.tracker.follows_rfc && is_valid_tsn old.tracker.cumulative arrival.tsn) old new same r
 
   -- ---- a FORWARD-TSN
 

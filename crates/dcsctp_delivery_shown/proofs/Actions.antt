@@ -17,6 +17,7 @@ use Rattle.dcsctp_spec_lemmas.specs.spec.endpoint.TransferMoves.{ReceivesWhere, 
 use Rattle.dcsctp_theorem_sockets.proofs.Bursts.{packets_in-append, told_none}
 use Rattle.dcsctp_delivery_turns.specs.Actions.{Ledger, Action, Actions, nothing, further}
 use Rattle.dcsctp_delivery_turns.specs.Actions as actions
+use Rattle.dcsctp_delivery_turns.proofs.Received.{data_where}
 use Rattle.dcsctp_delivery_sending.proofs.Packets.{out_below}
 use Rattle.dcsctp_delivery_shown.proofs.InFlight.{IsOf, fills_where_is, begun_is, at_once_is, sack_is}
 use Rattle.dcsctp_delivery_shown.proofs.Allowed.{MayGo, AllAllowed, AreAllowed, all_append, no_data_goes, plain_go, request_goes, sacks_go, data_goes, forwards_go}
@@ -115,8 +116,7 @@ module _ (kinds : Capabilities) where
   -- ---- data that is received
 
   receives_is : (b : Bool) (arrival : Arrival) (old new : Transfer) → IsOf kinds old.retransmission → ReceivesWhere b arrival old new → IsOf kinds new.retransmission
-  receives_is true arrival old new is does = subst (λ (t : Transfer). IsOf kinds t.retransmission) (sym does.rest) is
-  receives_is false arrival old new is does = subst (λ (t : Transfer). IsOf kinds t.retransmission) (sym does) is
+  receives_is b arrival old new is does = subst (IsOf kinds) (sym (data_where b arrival old new does)) is
 
   moves_is : (b : Bool) (tsn : ℕ) (entries : List SkippedTo) (old new : Transfer) → IsOf kinds old.retransmission → MovesWhere b tsn entries old new → IsOf kinds new.retransmission
   moves_is true tsn entries old new is does = subst (λ (t : Transfer). IsOf kinds t.retransmission) (sym does.rest) is

@@ -1,5 +1,5 @@
 -- The turns of the handshake, and ends, as actions.
-use Rattle.std.proofs.Common.{subst, ap, sym, ◌≡◌, ℕ, Bool, true, false, cond, Option, None, Some, Result, Ok, Err, List, [], ◌∷◌, refl, inl, inr, ◌==◌, ◌∙◌}
+use Rattle.std.proofs.Common.{subst, ap, sym, ◌≡◌, ◌⊎◌, ℕ, Bool, true, false, cond, Option, None, Some, Result, Ok, Err, List, [], ◌∷◌, refl, inl, inr, ◌==◌, ◌∙◌}
 use Rattle.std.specs.Duration.{as_nanos}
 use Rattle.dcsctp_spec_lemmas.proofs.ControlEcho.{kept_by_age}
 use Rattle.dcsctp_spec_lemmas.specs.types.declared.association.Pair.{Pair}
@@ -18,7 +18,7 @@ use Rattle.dcsctp_spec_lemmas.specs.spec.endpoint.EndOutcomes.{abort_outcome, ab
 use Rattle.dcsctp_spec_lemmas.specs.spec.endpoint.HandoverOutcomes.{hand_over_outcome}
 use Rattle.dcsctp_spec_lemmas.specs.spec.endpoint.HandshakeOutcomes.{pair_from, renewed_pair, init_ack_emission, init_outcome, init_emission, awaits_init_ack, connect_outcome, awaits_cookie_ack, echo_emission, EchoAnswers, InitAckAnswers, accepted_init_ack_by, init_ack_by, connected_after, CookieAckAnswers, cookie_ack_by, abort_emission, no_cookie_text}
 use Rattle.dcsctp_spec_lemmas.specs.spec.endpoint.TimerOutcomes.{AgainAnswers, again_by, t1_gives_up_outcome}
-use Rattle.dcsctp_spec_lemmas.specs.spec.endpoint.CookieEchoOutcomes.{established_by, acknowledgement, EstablishAnswers, establish_by, queue_kept, queue_begun, RestartAnswers, restart_by_where, MaintainAnswers, maintain_by, ResolvedAnswers, resolved_by, EchoedAnswers, cookie_echo_by, resolved_now, shutting_down_emission, window_by_cookie}
+use Rattle.dcsctp_spec_lemmas.specs.spec.endpoint.CookieEchoOutcomes.{established_by, acknowledgement, EstablishAnswers, establish_by, interleaves, queue_where, queue_kept, queue_begun, RestartAnswers, restart_by_where, MaintainAnswers, maintain_by, ResolvedAnswers, resolved_by, EchoedAnswers, cookie_echo_by, resolved_now, shutting_down_emission, window_by_cookie}
 use Rattle.dcsctp_spec_lemmas.specs.spec.association.CookieEchoChanges.{held_by_cookie, Resolution, establish_new, restart, simultaneous_init, discard, maintain_existing, invalid_tag, stale, aged, resolve, case_by}
 use Rattle.dcsctp_spec_lemmas.specs.spec.association.HandshakeChanges.{held_by_init_ack}
 use Rattle.std.proofs.lemmas.Bool.{eqb-true}
@@ -39,6 +39,12 @@ is_the_peer false true tie true e = absurd (cc)
 is_the_peer false true tie false e = absurd (cc)
 is_the_peer false false true zero e = absurd (cc)
 is_the_peer false false false zero e = absurd (cc)
+
+-- What waits to be sent is kept, or starts anew.
+pub kept_or_anew : (b : Bool) (e : Endpoint) (cookie : Cookie)
+    → (queue_where b e cookie ≡ numbered_for (interleaves e cookie) e.below.queue) ⊎ (queue_where b e cookie ≡ numbered_for (interleaves e cookie) (restarted e.below.queue))
+kept_or_anew true e cookie = inr refl
+kept_or_anew false e cookie = inl refl
 
 module _ (came : Option Content) (calm : IsCalm came) (to : ℕ) where
   -- ---- the handshake
@@ -121,7 +127,7 @@ module _ (came : Option Content) (calm : IsCalm came) (to : ℕ) where
         later = _;
         noted = refl;
         queue = queue_kept e cookie;
-        keeps = inl refl;
+        keeps = kept_or_anew e.options.follow_rfc e cookie;
       }) opening (flush_link (established_by e cookie (queue_kept e cookie) tie) (acknowledgement (held_by_cookie e.options cookie) cookie) answers allowed) (λ queued. refl) (λ read. refl) (reset_again None) (flushed came cookie.addressee.tag (established_by e cookie (queue_kept e cookie) tie) (acknowledgement (held_by_cookie e.options cookie) cookie) answers refl refl (tt, tt) tt allowed)
 
   anew_goes : IsOpening came → (e : Endpoint) (cookie : Cookie) (tie : ℕ) (told : List (Event Emission)) (answers : List Answer) → packets_in told ≡ [] → EstablishAnswers e cookie (queue_begun e cookie) tie answers

@@ -9,14 +9,15 @@ use Rattle.dcsctp_spec_lemmas.specs.spec.endpoint.Endpoint.{Endpoint, Core, held
 use Rattle.dcsctp_spec_lemmas.specs.spec.endpoint.Outcome.{Outcome}
 use Rattle.dcsctp_spec_lemmas.specs.types.queues.Messages.{MessageContent}
 use Rattle.dcsctp_spec_lemmas.specs.spec.queues.OwnResets.{prepared_all, prepare_all_events}
+use Rattle.dcsctp_spec_lemmas.specs.spec.queues.Tracker.{hastened}
 use Rattle.dcsctp_spec_lemmas.specs.spec.queues.Transfer.{Transfer}
-use Rattle.dcsctp_spec_lemmas.specs.spec.endpoint.DataOutcomes.{TakeWhere, TakeTurn}
+use Rattle.dcsctp_spec_lemmas.specs.spec.endpoint.DataOutcomes.{opens_window, told_open, with_messages, TakeWhere, TakeTurn}
 use Rattle.dcsctp_spec_lemmas.specs.spec.endpoint.FlushOutcomes.{Answer}
 use Rattle.dcsctp_spec_lemmas.specs.spec.endpoint.MessageOutcomes.{MessageRefusal, empty_payload, sending_refusal, Sending, name_of, queue_by, queue_one, queue_all, takes_any, SendAnswers, send_by, SendTurn}
 use Rattle.dcsctp_spec_lemmas.specs.spec.endpoint.PreparedResets.{ResetRefusal, reset_refusal, with_queue, OwnResetsWhere, OwnResetsTurn}
 use Rattle.dcsctp_theorem_sockets.proofs.Bursts.{packets_in-append}
 use Rattle.dcsctp_delivery_sending.specs.Log.{Fits, Message}
-use Rattle.dcsctp_delivery_turns.specs.Actions.{IsCalm, Inside, inside, ledger_of, with_below, Actions, nothing, further, Made, Makes, MakesAlso, Becomes, goes_on, queued_where, queued_together, with_first, read_where}
+use Rattle.dcsctp_delivery_turns.specs.Actions.{IsCalm, Ledger, Inside, inside, ledger_of, with_below, Actions, nothing, further, Made, Makes, MakesAlso, Becomes, goes_on, queued_where, queued_together, with_first, read_where}
 use Rattle.dcsctp_spec_lemmas.specs.spec.association.Effect.{link_in}
 use Rattle.dcsctp_delivery_turns.specs.Tags.{IsPeerTag}
 use Rattle.dcsctp_delivery_turns.specs.Asking.{Own, AsksFit}
@@ -43,6 +44,15 @@ module _ (came : Option Content) (calm : IsCalm came) (to : ℕ) where
 
   -- ---- what the user takes and sends
 
+  -- A message is taken, and an acknowledgement is due then if the window opens.
+  taken_told : (b : Bool) (moment : ℕ) (old : Ledger) (transfer : Transfer) (message : MessageContent) (messages : List MessageContent) → old.below.transfer ≡ Some transfer → transfer.reassembly.incoming.ready ≡ message ∷ messages
+      → Actions came to old (record old { below = with_below (told_open b moment (with_messages messages transfer)) old.below; read = old.read ++ message ∷ [] })
+  taken_told true moment old transfer message messages known ready =
+      let left : Transfer = with_messages messages transfer in
+      let taken : Ledger = record old { below = with_below left old.below; read = old.read ++ message ∷ [] } in
+      further taken _ (further old taken nothing (actions.takes transfer message messages known ready)) (actions.tracks left (hastened moment left.tracker) refl refl refl)
+  taken_told false moment old transfer message messages known ready = further old _ nothing (actions.takes transfer message messages known ready)
+
   take_where_goes : (e : Endpoint) (transfer : Transfer) (messages : List MessageContent) (o : Outcome) → e.below.transfer ≡ Some transfer → transfer.reassembly.incoming.ready ≡ messages
       → TakeWhere e transfer messages o → Becomes came to (λ queued. queued) (with_first messages) e o
   take_where_goes e transfer [] o known ready turn = subst (Becomes came to (λ queued. queued) (with_first []) e) (sym turn) (goes_on calm refl (rests came to (inside e)))
@@ -50,7 +60,7 @@ module _ (came : Option Content) (calm : IsCalm came) (to : ℕ) where
       subst (Becomes came to (λ queued. queued) (with_first (message ∷ messages)) e) (sym turn)
       (goes_on calm refl (λ queued sent read tsn asking fit.
       made_of came to (inside e) _ queued queued sent read (read ++ message ∷ []) tsn asking fit
-      (further (ledger_of queued e.below sent read asking) (ledger_of queued _ sent (read ++ message ∷ []) asking) nothing (actions.takes transfer message messages known ready))))
+      (taken_told (opens_window e.options transfer (with_messages messages transfer)) e.moment (ledger_of queued e.below sent read asking) transfer message messages known ready)))
 
   pub take_goes : (e : Endpoint) (transfer : Option Transfer) (o : Outcome) → e.below.transfer ≡ transfer → TakeTurn e transfer o → Becomes came to (λ queued. queued) (read_where transfer) e o
   take_goes e None o known turn = subst (Becomes came to (λ queued. queued) (read_where None) e) (sym turn) (goes_on calm refl (rests came to (inside e)))

@@ -1,18 +1,24 @@
 -- What leaves what a socket has received as it is.
 use Rattle.std.proofs.Common.{◌≡◌, ℕ, Bool, true, false, Option, None, Some, List, refl, ◌∙◌, ap, subst}
+use Rattle.std.specs.Prelude.{◌&&◌}
 use Rattle.dcsctp_spec_lemmas.specs.spec.endpoint.Endpoint.{Endpoint}
 use Rattle.dcsctp_spec_lemmas.specs.spec.Packet.{Plain, Emission}
-use Rattle.dcsctp_spec_lemmas.specs.spec.queues.Tracker.{TrackerState}
+use Rattle.dcsctp_spec_lemmas.specs.spec.queues.Tracker.{TrackerState, is_valid_tsn}
 use Rattle.dcsctp_spec_lemmas.specs.spec.queues.Transfer.{Transfer, Below, is_idle}
 use Rattle.dcsctp_spec_lemmas.specs.spec.endpoint.FlushOutcomes.{Answer, answer_contents, filled, asked, next_draft, flush_of, Ask, later_ask, room_in, wants_sack, Acknowledges, GivesWhere, AnsweredBelow, Answered, Answers, at_limit, at_empty, after_packet}
-use Rattle.dcsctp_spec_lemmas.specs.spec.endpoint.TransferMoves.{ReceivesWhere, MovesWhere, timed_by}
+use Rattle.dcsctp_spec_lemmas.specs.spec.endpoint.TransferMoves.{dropping, ReceivesWhere, MovesWhere, timed_by}
 use Rattle.dcsctp_delivery_sending.proofs.Packets.{out_below}
 
 -- ---- what data and acknowledgements leave
 
+-- Data that is dropped leaves all but the tracker.
+pub dropped_is : (b : Bool) (transfer : Transfer) → dropping b transfer ≡ record transfer { tracker = (dropping b transfer).tracker }
+dropped_is true transfer = refl
+dropped_is false transfer = refl
+
 pub data_where : (b : Bool) (arrival : _) (old new : Transfer) → ReceivesWhere b arrival old new → new.retransmission ≡ old.retransmission
 data_where true arrival old new does = ap (λ (t : Transfer). t.retransmission) does.rest
-data_where false arrival old new does = ap (λ (t : Transfer). t.retransmission) does
+data_where false arrival old new does = ap (λ (t : Transfer). t.retransmission) (does ∙ dropped_is (old.tracker.follows_rfc && is_valid_tsn old.tracker.cumulative arrival.tsn) old)
 
 pub forward_where : (b : Bool) (tsn : ℕ) (entries : _) (old new : Transfer) → MovesWhere b tsn entries old new → new.retransmission ≡ old.retransmission
 forward_where true tsn entries old new does = ap (λ (t : Transfer). t.retransmission) does.rest

@@ -8,7 +8,7 @@ use Rattle.dcsctp_spec_lemmas.specs.spec.endpoint.Endpoint.{Endpoint, Core, clos
 use Rattle.dcsctp_spec_lemmas.specs.spec.endpoint.Outcome.{Outcome, sends, to_peer}
 use Rattle.dcsctp_spec_lemmas.specs.spec.endpoint.Turn.{BeginTurn}
 use Rattle.dcsctp_spec_lemmas.specs.spec.endpoint.EndOutcomes.{reflected_outcome}
-use Rattle.dcsctp_spec_lemmas.specs.spec.endpoint.ShutdownOutcomes.{phase_at, received_tsn, is_all_acknowledged, step_by, step_outcome, t1_stopped, shut_down_outcome, shutdown_outcome, shutdown_ack_outcome, completed_outcome, shutdown_complete_outcome, t2_goes_on, sent_again, t2_again_outcome}
+use Rattle.dcsctp_spec_lemmas.specs.spec.endpoint.ShutdownOutcomes.{phase_at, received_tsn, may_go_on, step_by, step_outcome, t1_stopped, shut_down_outcome, shutdown_outcome, shutdown_ack_outcome, completed_outcome, shutdown_complete_outcome, t2_goes_on, sent_again, t2_again_outcome}
 use Rattle.dcsctp_spec_lemmas.specs.spec.association.Effect.{link_of, link_in}
 use Rattle.dcsctp_delivery_turns.specs.Tags.{IsPeerTag}
 use Rattle.dcsctp_delivery_turns.specs.Actions.{IsCalm, Inside, inside, Makes, goes_on, ends}
@@ -31,7 +31,7 @@ pub step_below : (e : Endpoint) (core : Core) → (step_outcome e core).after.be
 step_below e closed = refl
 step_below e (cookie_wait my) = refl
 step_below e (cookie_echoed my held cookie) = refl
-step_below e (open_in phase my held) = step_by_below (is_all_acknowledged e.below.transfer) e phase my held
+step_below e (open_in phase my held) = step_by_below (may_go_on e) e phase my held
 
 -- and the peer stays
 step_by_peer : (b : Bool) (e : Endpoint) (phase : OpenPhase) (my : Pair) (held : Held) (to : ℕ) → IsPeerTag e.core to → held.peer.tag ≡ to → IsPeerTag (step_by b e phase my held).after.core to
@@ -46,7 +46,7 @@ pub step_peer : (e : Endpoint) (core : Core) (to : ℕ) → IsPeerTag e.core to 
 step_peer e closed to at is = at
 step_peer e (cookie_wait my) to at is = at
 step_peer e (cookie_echoed my held cookie) to at is = at
-step_peer e (open_in phase my held) to at is = step_by_peer (is_all_acknowledged e.below.transfer) e phase my held to at is
+step_peer e (open_in phase my held) to at is = step_by_peer (may_go_on e) e phase my held to at is
 
 -- and so does the association
 pub step_by_link : (b : Bool) (e : Endpoint) (phase : OpenPhase) (my : Pair) (held : Held) → link_in e.core ≡ Some (link_of my held) → link_in (step_by b e phase my held).after.core ≡ Some (link_of my held)
@@ -61,7 +61,7 @@ pub step_link : (e : Endpoint) (core : Core) → e.core ≡ core → link_in (st
 step_link e closed at = refl
 step_link e (cookie_wait my) at = refl
 step_link e (cookie_echoed my held cookie) at = refl
-step_link e (open_in phase my held) at = step_by_link (is_all_acknowledged e.below.transfer) e phase my held (ap link_in at) ∙ sym (ap link_in at)
+step_link e (open_in phase my held) at = step_by_link (may_go_on e) e phase my held (ap link_in at) ∙ sym (ap link_in at)
 
 module _ (came : Option Content) (calm : IsCalm came) (to : ℕ) where
   says_shutdown : (old : Inside) (e : Endpoint) (held : Held) → Makes came to old (to_peer held (shutdown (received_tsn e.below.transfer)) ∷ []) old
@@ -88,22 +88,22 @@ module _ (came : Option Content) (calm : IsCalm came) (to : ℕ) where
   step_makes e closed at = rests came to (inside e)
   step_makes e (cookie_wait my) at = rests came to (inside e)
   step_makes e (cookie_echoed my held cookie) at = rests came to (inside e)
-  step_makes e (open_in phase my held) at = step_by_makes (is_all_acknowledged e.below.transfer) e phase my held (ap (λ (c : Core). own_in c e.outstanding) at)
+  step_makes e (open_in phase my held) at = step_by_makes (may_go_on e) e phase my held (ap (λ (c : Core). own_in c e.outstanding) at)
 
   -- ---- the user's call
 
   step_from_makes : (e base : Endpoint) (phase : OpenPhase) (my : Pair) (held : Held) → base.below ≡ e.below → own_of e ≡ Some (own_with held base.outstanding)
-      → Makes came to (inside e) (events.packets_in (step_by (is_all_acknowledged base.below.transfer) (phase_at base phase my held) phase my held).events) (inside (step_by (is_all_acknowledged base.below.transfer) (phase_at base phase my held) phase my held).after)
+      → Makes came to (inside e) (events.packets_in (step_by (may_go_on base) (phase_at base phase my held) phase my held).events) (inside (step_by (may_go_on base) (phase_at base phase my held) phase my held).after)
   step_from_makes e base phase my held same is =
       let at : Endpoint = phase_at base phase my held in
-      let o : Outcome = step_by (is_all_acknowledged base.below.transfer) at phase my held in
+      let o : Outcome = step_by (may_go_on base) at phase my held in
       subst (λ (i : Inside). Makes came to i (events.packets_in o.events) (inside o.after))
       (ap (λ (b : Below). record { below = b; own = Some (own_with held base.outstanding) }) same ∙ ap (λ (o : Option Own). record { below = e.below; own = o }) (sym is))
-      (step_by_makes (is_all_acknowledged base.below.transfer) at phase my held refl)
+      (step_by_makes (may_go_on base) at phase my held refl)
 
   from_link : (base : Endpoint) (phase : OpenPhase) (my : Pair) (held : Held)
-      → link_in (step_by (is_all_acknowledged base.below.transfer) (phase_at base phase my held) phase my held).after.core ≡ Some (link_of my held)
-  from_link base phase my held = step_by_link (is_all_acknowledged base.below.transfer) (phase_at base phase my held) phase my held refl
+      → link_in (step_by (may_go_on base) (phase_at base phase my held) phase my held).after.core ≡ Some (link_of my held)
+  from_link base phase my held = step_by_link (may_go_on base) (phase_at base phase my held) phase my held refl
 
   pub shut_down_goes : (e : Endpoint) (core : Core) → e.core ≡ core → Goes came to e (shut_down_outcome e core)
   shut_down_goes e closed at = goes_on calm refl (rests came to (inside e))

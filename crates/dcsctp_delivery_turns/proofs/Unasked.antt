@@ -15,7 +15,7 @@ use Rattle.dcsctp_spec_lemmas.specs.spec.queues.Reassembly.{ReassemblyState}
 use Rattle.dcsctp_spec_lemmas.specs.spec.queues.Retransmission.{has_fast_retransmit}
 use Rattle.dcsctp_spec_lemmas.specs.spec.queues.Tracker.{TrackerState, after_packet_end, is_acknowledgement_due, sacked}
 use Rattle.dcsctp_spec_lemmas.specs.spec.queues.Transfer.{Transfer, Below}
-use Rattle.dcsctp_spec_lemmas.specs.spec.endpoint.DataOutcomes.{with_transfer, with_tracker, flush_by, AnswersTo, FlushTurn, no_user_data_outcome, ReceiveTurn, DataWhere, ForwardTurn, FastRetransmits, sack_taken, AcknowledgesBy, SackWhere, SackBy, SackTurn, acknowledging, EndWhere, EndsBy, TakeWhere, TakeTurn, delay_outcome, LossTurn}
+use Rattle.dcsctp_spec_lemmas.specs.spec.endpoint.DataOutcomes.{with_transfer, with_tracker, flush_by, AnswersTo, FlushTurn, no_user_data_outcome, ReceiveTurn, DataWhere, ForwardTurn, FastRetransmits, sack_taken, AcknowledgesBy, SackWhere, SackBy, SackTurn, acknowledging, EndWhere, EndsBy, opens_window, told_open, with_messages, taken_to, TakeWhere, TakeTurn, delay_outcome, LossTurn}
 use Rattle.dcsctp_spec_lemmas.specs.spec.endpoint.FlushOutcomes.{own_sack, Answer, draft_to}
 use Rattle.dcsctp_spec_lemmas.specs.spec.endpoint.MessageOutcomes.{MessageRefusal, Sending, sending_refusal, queue_by, queue_one, queue_all, takes_any, SendAnswers, send_by, SendTurn}
 use Rattle.dcsctp_spec_lemmas.specs.spec.endpoint.PreparedResets.{ResetRefusal, reset_refusal, with_queue, OwnResetsWhere, OwnResetsTurn}
@@ -116,9 +116,16 @@ end_asks e None o known turn = as_this e.below.transfer o _ turn (rests e)
 end_asks e (Some transfer) o known turn =
     let tracker = after_packet_end e.moment transfer.tracker in end_where_asks (is_acknowledgement_due tracker) e (held_in e.core) transfer tracker o known turn
 
+-- An acknowledgement that is due leaves what waits.
+told_waits : (b : Bool) (moment : ℕ) (transfer : Transfer) → SameWaits transfer.reassembly.deferral (told_open b moment transfer).reassembly.deferral
+told_waits true moment transfer = same_waits transfer.reassembly.deferral
+told_waits false moment transfer = same_waits transfer.reassembly.deferral
+
 take_where_asks : (e : Endpoint) (transfer : Transfer) (messages : List MessageContent) (o : Outcome) → e.below.transfer ≡ Some transfer → TakeWhere e transfer messages o → AsksNothing e.below.transfer o
 take_where_asks e transfer [] o known turn = as_this e.below.transfer o _ turn (rests e)
-take_where_asks e transfer (message ∷ messages) o known turn = as_this e.below.transfer o _ turn (turns_to e transfer _ known (same_waits transfer.reassembly.deferral))
+take_where_asks e transfer (message ∷ messages) o known turn =
+    let left : Transfer = with_messages messages transfer in
+    as_this e.below.transfer o _ turn (turns_to e transfer (taken_to e.options e.moment messages transfer) known (told_waits (opens_window e.options transfer left) e.moment left))
 
 pub take_asks : (e : Endpoint) (transfer : Option Transfer) (o : Outcome) → e.below.transfer ≡ transfer → TakeTurn e transfer o → AsksNothing e.below.transfer o
 take_asks e None o known turn = as_this e.below.transfer o _ turn (rests e)

@@ -12,7 +12,7 @@ use Rattle.dcsctp_spec_lemmas.specs.spec.Packet.{shutdown_complete}
 use Rattle.dcsctp_spec_lemmas.specs.spec.endpoint.Turn.{BeginTurn}
 use Rattle.dcsctp_spec_lemmas.specs.spec.endpoint.EndOutcomes.{abort_outcome, abort_to, aborting_outcome, end_of}
 use Rattle.dcsctp_spec_lemmas.specs.spec.endpoint.HandoverOutcomes.{hand_over_outcome}
-use Rattle.dcsctp_spec_lemmas.specs.spec.endpoint.ShutdownOutcomes.{phase_at, is_all_acknowledged, step_by, step_outcome, step_from, t1_stopped, shut_down_outcome, shutdown_outcome, shutdown_ack_outcome, shutdown_complete_outcome, sent_again}
+use Rattle.dcsctp_spec_lemmas.specs.spec.endpoint.ShutdownOutcomes.{phase_at, may_go_on, step_by, step_outcome, step_from, t1_stopped, shut_down_outcome, shutdown_outcome, shutdown_ack_outcome, shutdown_complete_outcome, sent_again}
 use Rattle.dcsctp_spec_lemmas.specs.spec.endpoint.TimerOutcomes.{t1_gives_up_outcome}
 use Rattle.dcsctp_delivery_turns.proofs.Waiting.{AsksNothing, as_this, rests, said, emitted, ended}
 
@@ -30,10 +30,10 @@ pub step_asks : (e : Endpoint) (core : Core) → AsksNothing e.below.transfer (s
 step_asks e closed = rests e
 step_asks e (cookie_wait my) = rests e
 step_asks e (cookie_echoed my held cookie) = rests e
-step_asks e (open_in phase my held) = step_by_asks (is_all_acknowledged e.below.transfer) e phase my held
+step_asks e (open_in phase my held) = step_by_asks (may_go_on e) e phase my held
 
 from_asks : (e : Endpoint) (phase : OpenPhase) (my : Pair) (held : Held) → AsksNothing e.below.transfer (step_from e phase my held)
-from_asks e phase my held = step_by_asks (is_all_acknowledged e.below.transfer) (phase_at e phase my held) phase my held
+from_asks e phase my held = step_by_asks (may_go_on e) (phase_at e phase my held) phase my held
 
 pub shut_down_asks : (e : Endpoint) (core : Core) → AsksNothing e.below.transfer (shut_down_outcome e core)
 shut_down_asks e closed = rests e

@@ -1,5 +1,5 @@
 -- The turns of the handshake: no request of the peer is accepted or performed.
-use Rattle.std.proofs.Common.{◌≡◌, ◌⊎◌, ℕ, Bool, true, false, cond, Option, None, Some, Result, Ok, Err, List, [], ◌∷◌, refl, inl, inr}
+use Rattle.std.proofs.Common.{◌≡◌, ◌⊎◌, ℕ, Bool, true, false, cond, Option, None, Some, Result, Ok, Err, List, [], ◌∷◌, refl, inr}
 use Rattle.dcsctp_spec_lemmas.specs.spec.Cookie.{Cookie}
 use Rattle.dcsctp_spec_lemmas.specs.types.declared.association.Pair.{Pair}
 use Rattle.dcsctp_spec_lemmas.specs.types.declared.word.Word.{Word}
@@ -17,6 +17,7 @@ use Rattle.dcsctp_spec_lemmas.specs.spec.endpoint.FlushOutcomes.{Answer, draft_t
 use Rattle.dcsctp_spec_lemmas.specs.spec.endpoint.HandshakeOutcomes.{pair_from, renewed_pair, init_ack_emission, init_outcome, init_emission, awaits_init_ack, connect_outcome, awaits_cookie_ack, echo_emission, EchoAnswers, InitAckAnswers, accepted_init_ack_by, init_ack_by, connected_after, CookieAckAnswers, cookie_ack_by, abort_emission, no_cookie_text}
 use Rattle.dcsctp_spec_lemmas.specs.spec.endpoint.TimerOutcomes.{AgainAnswers, again_by}
 use Rattle.dcsctp_delivery_turns.specs.Actions.{Begun, begun_transfer, IsOpening}
+use Rattle.dcsctp_delivery_turns.proofs.Handshake.{kept_or_anew}
 use Rattle.dcsctp_delivery_turns.proofs.Tags.{flush_link}
 use Rattle.dcsctp_delivery_turns.proofs.Waiting.{AsksNothing, rests, said, emitted, flushed, flushed_behind, ended}
 
@@ -136,7 +137,7 @@ module _ (came : Option Content) (opening : IsOpening came) (e : Endpoint) where
 
   resolved_calm : (cookie : Cookie) (core : Core) (word : ℕ) (resolution : Resolution) (answers : List Answer) → ResolvedAnswers e cookie core word resolution answers
       → CalmTurns came e (resolved_by (flush_answered answers) e cookie core word resolution)
-  resolved_calm cookie core word establish_new answers allowed = established_calm cookie (queue_kept e cookie) word (connected ∷ []) answers (inl refl) allowed
+  resolved_calm cookie core word establish_new answers allowed = established_calm cookie (queue_kept e cookie) word (connected ∷ []) answers (kept_or_anew e.options.follow_rfc e cookie) allowed
   resolved_calm cookie core word restart answers allowed = restarted_calm cookie word core answers allowed
   resolved_calm cookie core word simultaneous_init answers allowed = anew_calm cookie word (connected ∷ []) answers allowed
   resolved_calm cookie core word discard answers allowed = goes_on (said e _ tt refl)

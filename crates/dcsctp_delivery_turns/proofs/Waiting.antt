@@ -10,18 +10,18 @@ use Rattle.dcsctp_spec_lemmas.specs.spec.Packet.{Emission}
 use Rattle.dcsctp_spec_lemmas.specs.spec.association.Effect.{Effect}
 use Rattle.dcsctp_spec_lemmas.specs.spec.queues.Arrivals.{Arrival}
 use Rattle.dcsctp_spec_lemmas.specs.spec.queues.IncomingStreams.{ChunkModel}
-use Rattle.dcsctp_spec_lemmas.specs.spec.queues.Reassembly.{DeferralModel, WaitingModel, ReassemblyState, can_count, is_deferred, is_forward_deferred, with_waiting, AddsData, SkipsData, is_above_watermark}
+use Rattle.dcsctp_spec_lemmas.specs.spec.queues.Reassembly.{DeferralModel, WaitingModel, ReassemblyState, can_count, is_deferred, is_forward_deferred, with_waiting, AddsData, SkipsData}
 use Rattle.dcsctp_spec_lemmas.specs.spec.queues.Tracker.{is_new_tsn, is_forward, is_valid_tsn}
 use Rattle.dcsctp_spec_lemmas.specs.spec.queues.Transfer.{Transfer, Below}
 use Rattle.dcsctp_spec_lemmas.specs.spec.endpoint.BegunResets.{BegunReset, begun_effects}
 use Rattle.dcsctp_spec_lemmas.specs.spec.endpoint.EndOutcomes.{ended_outcome}
 use Rattle.dcsctp_spec_lemmas.specs.spec.endpoint.FlushOutcomes.{Answer, answer_contents, filled, asked, next_draft, flush_of, FlushAnswers, Ask, first_ask, later_ask, AnsweredBelow, Answered, Answers, at_limit, at_empty, after_packet, packets_allowed}
-use Rattle.dcsctp_spec_lemmas.specs.spec.endpoint.TransferMoves.{AddsWhere, ReceivesWhere, ReceivesData, SkipsWhere, MovesWhere, MovesForward}
+use Rattle.dcsctp_spec_lemmas.specs.spec.endpoint.TransferMoves.{AddsWhere, has_room, ReceivesWhere, ReceivesData, SkipsWhere, MovesWhere, MovesForward}
 use Rattle.dcsctp_spec_lemmas.proofs.FlushKeeps.{begun_by, flush_keeps}
 use Rattle.dcsctp_delivery_sending.proofs.Packets.{out_below}
 use Rattle.dcsctp_delivery_turns.specs.PeerRequests.{NoneAsked, SameWaits}
-use Rattle.dcsctp_delivery_turns.proofs.Received.{flush_left}
-use Rattle.std.specs.Prelude.{not, ◌&&◌}
+use Rattle.dcsctp_delivery_turns.proofs.Received.{dropped_is, flush_left}
+use Rattle.std.specs.Prelude.{◌&&◌}
 
 -- ---- effects
 
@@ -77,10 +77,12 @@ adds_where_wait false tsn chunk old new does = waits_as old old new does (same_w
 
 receives_where_wait : (b : Bool) (arrival : Arrival) (old new : Transfer) → ReceivesWhere b arrival old new → Waits old.reassembly new.reassembly
 receives_where_wait true arrival old new does = adds_where_wait (is_new_tsn arrival.tsn old.tracker) arrival.tsn arrival.chunk old.reassembly new.reassembly does.reassembly
-receives_where_wait false arrival old new does = waits_as old.reassembly old.reassembly new.reassembly (ap (λ (t : Transfer). t.reassembly) does) (same_waits old.reassembly.deferral)
+receives_where_wait false arrival old new does =
+    waits_as old.reassembly old.reassembly new.reassembly
+    (ap (λ (t : Transfer). t.reassembly) (does ∙ dropped_is (old.tracker.follows_rfc && is_valid_tsn old.tracker.cumulative arrival.tsn) old)) (same_waits old.reassembly.deferral)
 
 pub receives_wait : (arrival : Arrival) (old new : Transfer) → ReceivesData arrival old new → SameWaits old.reassembly.deferral new.reassembly.deferral
-receives_wait arrival old new does = receives_where_wait (not (is_above_watermark old.reassembly) && is_valid_tsn old.tracker.cumulative arrival.tsn) arrival old new does
+receives_wait arrival old new does = receives_where_wait (has_room arrival.tsn old && is_valid_tsn old.tracker.cumulative arrival.tsn) arrival old new does
 
 -- What is skipped on the streams of a reset waits with that.
 beside_waits : (tsn : ℕ) (entries : List SkippedTo) (old new : ReassemblyState) (deferral : Option DeferralModel) → old.deferral ≡ deferral → is_forward_deferred tsn old.deferral ≡ true → SkipsData tsn entries old new → Waits old new

@@ -63,7 +63,7 @@ impl fmt::Debug for ReassemblyQueue {
 
 impl ReassemblyQueue {
     ghost use Rattle.std.specs.Prelude.{◌*◌, nat_le, ◌∷◌, IfSome, IfNone};
-    ghost use Rattle.dcsctp_api.specs.spec.queues.Reassembly.{new_reassembly, is_above_watermark, with_ready, queued_bytes, remaining_bytes, can_count, is_deferred, with_deferred, AddsData, SkipsData, DeferralModel, ForwardsBeside, is_forward_deferred, deferring, Leaves, StaysDeferred};
+    ghost use Rattle.dcsctp_api.specs.spec.queues.Reassembly.{new_reassembly, is_above_watermark, bytes_to_watermark, with_ready, queued_bytes, remaining_bytes, can_count, is_deferred, with_deferred, AddsData, SkipsData, DeferralModel, ForwardsBeside, is_forward_deferred, deferring, Leaves, StaysDeferred};
     ghost use Rattle.dcsctp_api.specs.spec.queues.Readiness.{reassembly_readiness};
     ghost use Rattle.dcsctp_api.specs.spec.queues.ReceivedParts.{with_reassembly, RestoresReassembly};
     ghost use Rattle.dcsctp_api.specs.types.Snapshot.{received_part};
@@ -149,6 +149,14 @@ impl ReassemblyQueue {
         self.max_size.saturating_sub(self.incoming.queued_bytes)
     }
 
+    /// How many more bytes can be kept until nine tenths of the receive window are in use.
+    pub fn bytes_to_watermark(&self) -> usize
+        ensures { result ≡ bytes_to_watermark self.now }
+    {
+        let watermark = (9 * (self.max_size as u128) + 9) / 10;
+        (watermark as usize).saturating_sub(self.incoming.queued_bytes)
+    }
+
     /// Is nothing left of the receive window?
     pub fn is_full(&self) -> bool
         ensures { result ≡ nat_le self.now.max_size (queued_bytes self.now) }
@@ -230,8 +238,9 @@ impl ReassemblyQueue {
     /// stream that it names, the ordered messages up to its number are skipped. Those that aren't whole are
     /// dropped, and whole ones that waited for them become ready. Parts of unordered DATA messages are
     /// dropped if they begin at the new cumulative TSN or before it. Those of I-DATA are dropped if their
-    /// message is at most the number named. In a deferred reset a chunk beyond its last TSN waits on
-    /// the streams that it names. Of what waits for the same messages the newest counts.
+    /// message is at most the number named. While a reset is deferred, a chunk beyond its last TSN waits on
+    /// the streams that the reset names; on the others it is handled. Of entries that wait for the same
+    /// messages the one that came last counts.
     ///
     /// `Err`: an allocation failed, and nothing has changed.
     pub fn handle_forward_tsn(
@@ -259,7 +268,7 @@ impl ReassemblyQueue {
     }
 
     // A FORWARD TSN was received while a reset is deferred. On the streams of the reset it waits, and on the
-    // others it is handled. All memory is allocated first.
+    // others it is handled. All memory is allocated before anything changes.
     fn forward_beside(&mut self, tsn: u32, skipped: &[SkippedTo]) -> Result<(), AllocError>
         requires { is_forward_deferred tsn self.old.deferral ≡ true }
         ensures ok { OnOk result ((deferral : DeferralModel) → self.old.deferral ≡ Some deferral → ForwardsBeside tsn skipped.now deferral self.old self.new) }

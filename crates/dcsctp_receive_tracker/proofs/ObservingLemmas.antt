@@ -1,10 +1,10 @@
 -- What is received from now on, as the machine says it.
-use Rattle.std.proofs.Common.{◌≡◌, ◌==◌, ◌<◌, ◌-◌, ◌^◌, ℕ, nat_lt, Bool, true, false, not, ◌||◌, List, [], ◌∷◌, map, length, refl, sym, ap, ◌∙◌, arith}
+use Rattle.std.proofs.Common.{◌≡◌, ◌==◌, ◌<◌, ◌-◌, ◌^◌, ◌+◌, ℕ, zero, suc, nat_lt, slice_get, Option, Some, Bool, true, false, not, ◌||◌, List, [], ◌∷◌, map, length, refl, sym, ap, ◌∙◌, arith}
 use Rattle.std.specs.Bool.{IsTrue}
 use Rattle.std.proofs.lemmas.Bool.Decides.{nat_tests}
 use Rattle.dcsctp_spec_lemmas.specs.types.declared.tracking.TsnRange.{TsnRange}
 use Rattle.dcsctp_spec_lemmas.specs.spec.queues.Ranges.{IsBeyond, is_received, received, forwarded}
-use Rattle.dcsctp_spec_lemmas.specs.spec.queues.Tracker.{TrackerState, number_of, after_arrival, with_duplicate, has_ranges, stopped, is_new_tsn, is_urgent, observed, has_numbers_left, after_forward}
+use Rattle.dcsctp_spec_lemmas.specs.spec.queues.Tracker.{TrackerState, number_of, highest, after_arrival, with_duplicate, has_ranges, stopped, is_new_tsn, is_urgent, observed, has_numbers_left, after_forward}
 use Rattle.dcsctp_spec_lemmas.proofs.RangesLemmas.{same_numbers, received_beyond, received_members, forwarded_beyond, forwarded_members}
 use Rattle.dcsctp_receive_tracker.specs.Received.{range_of, Receives, Advances}
 
@@ -68,3 +68,15 @@ has_entries true [] is = refl
 has_entries true (entry ∷ entries) is = absurd (omega (arith, is.0 refl))
 has_entries false [] is = absurd (let empty = is.1 refl in cc)
 has_entries false (entry ∷ entries) is = refl
+
+-- The last entry of the map ends at the highest number.
+highest_at : (cumulative k : ℕ) (entries : List (ℕ × ℕ)) (first last : ℕ) → k + 1 ≡ length entries → slice_get entries k ≡ Some (first, last) → last ≡ highest cumulative (map range_of entries)
+highest_at cumulative k [] first last count is = absurd (omega (arith, count))
+highest_at cumulative zero (entry ∷ []) first last count is = grind arith
+highest_at cumulative (suc k) (entry ∷ []) first last count is = absurd (omega (arith, count))
+highest_at cumulative zero (entry ∷ next ∷ entries) first last count is = absurd (omega (arith, count))
+highest_at cumulative (suc k) (entry ∷ next ∷ entries) first last count is = highest_at entry.1 k (next ∷ entries) first last (omega (arith, count)) is
+
+pub highest_is : (cumulative : ℕ) (entries : List (ℕ × ℕ)) (first last : ℕ) → slice_get entries (length entries - 1) ≡ Some (first, last) → last ≡ highest cumulative (map range_of entries)
+highest_is cumulative [] first last is = absurd (cc)
+highest_is cumulative (entry ∷ entries) first last is = highest_at cumulative (length (entry ∷ entries) - 1) (entry ∷ entries) first last (omega arith) is

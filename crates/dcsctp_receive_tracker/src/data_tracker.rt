@@ -8,7 +8,7 @@ ghost use Rattle.std.specs.Int.{w32, to_be_bytes};
 ghost use Rattle.dcsctp_receive_tracker.specs.Received.{ranges_of};
 ghost use Rattle.dcsctp_spec_lemmas.specs.spec.queues.Ranges.{IsBeyond};
 ghost use Rattle.dcsctp_receive_tracker.specs.Acknowledging.{IsWithinReach};
-ghost use Rattle.dcsctp_spec_lemmas.specs.spec.queues.Tracker.{number_of, block_bytes, acknowledgement_delay, after_arrival, is_due, with_duplicate};
+ghost use Rattle.dcsctp_spec_lemmas.specs.spec.queues.Tracker.{number_of, heeds_gap, block_bytes, acknowledgement_delay, after_arrival, is_due, with_duplicate};
 
 use crate::received::{Received, advance};
 use dcsctp_send_timer::Timer;
@@ -46,11 +46,28 @@ fn after_arrival(state: AckState, is_urgent: bool) -> AckState
 }
 
 // Is data to be acknowledged at once? Yes if it came before, has the I flag, is the association's first, or
-// leaves a gap (RFC 9260, sections 5.1, 6.2 and 6.7).
-fn is_urgent(is_new: bool, immediate_ack: bool, has_seen_data: bool, has_gap: bool) -> bool
-    ensures { result ≡ (not is_new || immediate_ack || not has_seen_data || has_gap) }
+// leaves a gap; also if it closes one that counts (RFC 9260, sections 5.1, 6.2 and 6.7).
+fn is_urgent(
+    is_new: bool,
+    immediate_ack: bool,
+    has_seen_data: bool,
+    has_gap: bool,
+    heeds_gap: bool,
+) -> bool
+    ensures { result ≡ (not is_new || immediate_ack || not has_seen_data || has_gap || heeds_gap) }
 {
-    !is_new || immediate_ack || !has_seen_data || has_gap
+    !is_new || immediate_ack || !has_seen_data || has_gap || heeds_gap
+}
+
+// Does data that comes now come into a gap, and does that count (RFC 9260, section 6.7)?
+fn heeds_gap(follows_rfc: bool, received: &Received) -> bool
+    ensures { result ≡ heeds_gap follows_rfc (ranges_of received.now.ranges) }
+{
+    if follows_rfc {
+        !received.ranges.is_empty()
+    } else {
+        false
+    }
 }
 
 // Keeps a TSN that came again for the next SACK, if there is room for it.
@@ -176,6 +193,9 @@ pub struct DataTracker {
     acknowledgement: AckState,
     delay: Timer,
     longest_delay: Duration,
+
+    // Is the RFC followed where the port doesn't?
+    follows_rfc: bool,
 }
 
 impl Model for DataTracker {
@@ -195,6 +215,7 @@ impl Model for DataTracker {
       acknowledgement = tracker.acknowledgement;
       delay = tracker.delay;
       longest_delay = as_nanos tracker.longest_delay;
+      follows_rfc = tracker.follows_rfc;
     } };
 
     ghost invariant = { IsKept };
@@ -203,7 +224,7 @@ impl Model for DataTracker {
 impl DataTracker {
     ghost use Rattle.std.specs.Prelude.{◌%◌, []};
     ghost use Rattle.dcsctp_receive_tracker.specs.Acknowledging.{RunsWhereDelayed};
-    ghost use Rattle.dcsctp_spec_lemmas.specs.spec.queues.Tracker.{new_tracker, is_valid_tsn, is_new_tsn, observed, is_forward, after_forward, after_packet_end, is_acknowledgement_due, acknowledged, after_moment, stopped, owes_acknowledgement, with_timeout};
+    ghost use Rattle.dcsctp_spec_lemmas.specs.spec.queues.Tracker.{new_tracker, is_valid_tsn, is_new_tsn, observed, is_below_highest, delay_over, hastened, is_forward, after_forward, after_packet_end, is_acknowledgement_due, acknowledged, after_moment, stopped, owes_acknowledgement, with_timeout};
     ghost use Rattle.dcsctp_spec_lemmas.specs.spec.endpoint.Timers.{running_deadline, expires_at};
 
     /// Nothing was received yet, and `peer_initial_tsn` is the TSN that is to come first. The one before it
@@ -228,6 +249,7 @@ impl DataTracker {
                 None,
             ),
             longest_delay,
+            follows_rfc: options.follow_rfc,
         }
     }
 
@@ -248,11 +270,43 @@ impl DataTracker {
         cumulative <= LAST_CUMULATIVE && number_of(cumulative, tsn) <= cumulative + MAX_TSN_DISTANCE
     }
 
+    /// Is the RFC followed where the port doesn't (`Options::follow_rfc`)?
+    pub fn follows_rfc(&self) -> bool
+        ensures { result ≡ self.now.follows_rfc }
+    {
+        self.follows_rfc
+    }
+
+    /// Was a later TSN received than this one?
+    pub fn is_below_highest(&self, tsn: u32) -> bool
+        requires { is_valid_tsn self.now.cumulative tsn ≡ true }
+        ensures { result ≡ is_below_highest tsn self.now }
+    {
+        number_of(self.received.cumulative, tsn) < self.received.highest()
+    }
+
+    /// An acknowledgement is due at once.
+    pub fn demand_acknowledgement(&mut self)
+        ensures { self.new ≡ delay_over self.old }
+    {
+        self.acknowledgement = AckState::Immediate;
+        self.delay.stop();
+    }
+
+    /// An acknowledgement is due at the moment `now`: `handle_timeout` at that moment says so.
+    pub fn hasten_acknowledgement(&mut self, now: SocketTime)
+        ensures { self.new ≡ hastened now self.old }
+    {
+        self.acknowledgement = AckState::Delayed;
+        self.delay.start_due(now);
+    }
+
     /// Adds the TSN of a DATA chunk, and returns whether it is new (RFC 9260, section 6.2).
     ///
     /// It is acknowledged at once if it is the first of the association, has the I flag, comes again, or
-    /// leaves a gap. So it is if another packet waits already (RFC 9260, sections 5.1, 6.2 and 6.7). A TSN
-    /// that comes again is reported in the next SACK, unless that has 20 already.
+    /// leaves a gap. So it is if another packet waits already, and with `Options::follow_rfc` if it closes a
+    /// gap (RFC 9260, sections 5.1, 6.2 and 6.7). A TSN that comes again is reported in the next SACK, unless
+    /// that has 20 already.
     ///
     /// `Err`: an allocation failed, and nothing has changed.
     pub fn observe(&mut self, tsn: u32, immediate_ack: bool) -> Result<bool, AllocError>
@@ -262,6 +316,7 @@ impl DataTracker {
         ensures err { OnErr result (self.new ≡ self.old) }
     {
         let number = number_of(self.received.cumulative, tsn);
+        let heeds_gap = heeds_gap(self.follows_rfc, &self.received);
         let is_new = self.received.receive(number)?;
         keep_duplicate(&mut self.duplicates, tsn, is_new)?;
         let is_urgent = is_urgent(
@@ -269,6 +324,7 @@ impl DataTracker {
             immediate_ack,
             self.has_seen_data,
             !self.received.ranges.is_empty(),
+            heeds_gap,
         );
         self.has_seen_data = true;
         self.acknowledgement = after_arrival(self.acknowledgement, is_urgent);
@@ -350,8 +406,7 @@ impl DataTracker {
     {
         let cumulative = self.received.cumulative;
         if cumulative > LAST_CUMULATIVE || number_of(cumulative, new_cumulative_tsn) <= cumulative {
-            self.acknowledgement = AckState::Immediate;
-            self.delay.stop();
+            self.demand_acknowledgement();
             return false;
         }
         let number = number_of(cumulative, new_cumulative_tsn);

@@ -20,6 +20,7 @@ ghost use Rattle.dcsctp_receive_ordered_map.specs.Entries.{count_up_to};
 ghost use Rattle.dcsctp_spec_lemmas.specs.spec.queues.Runs.{entry_before};
 ghost use Rattle.dcsctp_receive_tracker.specs.Received.{range_of, ranges_of, IsSpaced, Joins, Adds, Advances, Receives};
 ghost use Rattle.dcsctp_spec_lemmas.specs.spec.queues.Ranges.{IsBeyond, is_in};
+ghost use Rattle.dcsctp_spec_lemmas.specs.spec.queues.Tracker.{highest};
 
 use dcsctp_spec_lemmas::types::TsnRange;
 use std::alloc::AllocError;
@@ -160,6 +161,16 @@ pub struct Received {
 }
 
 impl Received {
+    /// The highest number that was received.
+    pub fn highest(&self) -> u64
+        ensures { result ≡ highest self.now.cumulative (ranges_of self.now.ranges) }
+    {
+        match self.ranges.last_key_value() {
+            None => self.cumulative,
+            Some((_, last)) => *last,
+        }
+    }
+
     // Adds a number that leaves a gap after the cumulative one, and returns whether it is new. `Err`: an
     // allocation failed, and nothing has changed.
     fn add(&mut self, number: u64) -> Result<bool, AllocError>

@@ -154,6 +154,7 @@ fn set_flag(options: &mut Options, name: &str, value: &str) -> bool
         "disable_checksum_verification" => options.disable_checksum_verification = flag,
         "enable_handover_with_outstanding_data" => options.enable_handover_with_outstanding_data =
             flag,
+        "follow_rfc" => options.follow_rfc = flag,
         _ => return false,
     }
     true

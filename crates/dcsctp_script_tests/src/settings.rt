@@ -121,16 +121,17 @@ fn times_are_set_by_their_names(rt: HostRuntime) {
     );
 }
 
-static FLAGS: [(&str, &str); 5] = [
+static FLAGS: [(&str, &str); 6] = [
     ("enable_partial_reliability", "true"),
     ("enable_message_interleaving", "true"),
     ("heartbeat_interval_include_rtt", "true"),
     ("disable_checksum_verification", "true"),
     ("enable_handover_with_outstanding_data", "true"),
+    ("follow_rfc", "true"),
 ];
 
 // Clears this flag if all are set: they have to be so then.
-fn clears(rt: &impl Abort, name: &str, expected: [bool; 5]) {
+fn clears(rt: &impl Abort, name: &str, expected: [bool; 6]) {
     let mut options = options_with(rt, &FLAGS);
     holds(rt, name, set_option(&mut options, name, "false"));
     let flags = [
@@ -139,32 +140,34 @@ fn clears(rt: &impl Abort, name: &str, expected: [bool; 5]) {
         options.heartbeat_interval_include_rtt,
         options.disable_checksum_verification,
         options.enable_handover_with_outstanding_data,
+        options.follow_rfc,
     ];
     same(rt, name, flags, expected);
 }
 
 // Flags, and how all are where this one alone is cleared.
-static CLEARED: [(&str, [bool; 5]); 5] = [
+static CLEARED: [(&str, [bool; 6]); 6] = [
     (
         "enable_partial_reliability",
-        [false, true, true, true, true],
+        [false, true, true, true, true, true],
     ),
     (
         "enable_message_interleaving",
-        [true, false, true, true, true],
+        [true, false, true, true, true, true],
     ),
     (
         "heartbeat_interval_include_rtt",
-        [true, true, false, true, true],
+        [true, true, false, true, true, true],
     ),
     (
         "disable_checksum_verification",
-        [true, true, true, false, true],
+        [true, true, true, false, true, true],
     ),
     (
         "enable_handover_with_outstanding_data",
-        [true, true, true, true, false],
+        [true, true, true, true, false, true],
     ),
+    ("follow_rfc", [true, true, true, true, true, false]),
 ];
 
 #[test]

@@ -8,7 +8,7 @@ mod producing;
 mod resetting;
 mod restoring;
 
-use dcsctp_api::{Events, SocketEvent, StreamId};
+use dcsctp_api::{Events, SocketEvent, SocketTime, StreamId};
 use dcsctp_send_streams::{OutgoingStream, QueuedMessage, Streams, UnderWay};
 use std::alloc::{AllocError, Global};
 
@@ -41,7 +41,7 @@ pub struct Backlog {
 
 impl Backlog {
     ghost use Rattle.dcsctp_send_queue.specs.Backlog.{queue_of};
-    ghost use Rattle.dcsctp_api.specs.spec.queues.SendQueue.{CanGoOn, IsUnderWay, has_data, changed, used, put_back, with_threshold, with_priority, may_send};
+    ghost use Rattle.dcsctp_api.specs.spec.queues.SendQueue.{CanGoOn, IsUnderWay, has_data, waits_at, changed, used, put_back, with_threshold, with_priority, may_send};
     ghost use Rattle.dcsctp_api.specs.spec.queues.OwnResets.{with_used, count_under_way};
     ghost use Rattle.dcsctp_api.specs.types.Setting.{stream_priority, stream_low_threshold};
     ghost use Rattle.dcsctp_api.specs.spec.endpoint.SettingOutcomes.{set_in_queue};
@@ -137,6 +137,13 @@ impl Backlog {
             Some(_) => true,
             None => self.streams.has_turn(),
         }
+    }
+
+    /// Does a message wait at the moment `now` that can be sent?
+    pub fn waits_at(&self, now: SocketTime) -> bool
+        ensures { result ≡ waits_at now (queue_of self.now) }
+    {
+        self.streams.waits_at(now, self.under_way)
     }
 
     /// The place of the stream of the message under way.

@@ -44,7 +44,7 @@ impl SendQueue {
     ghost use Rattle.dcsctp_api.specs.spec.queues.OwnResets.{queue_committed, queue_rolled_back, queue_handing_out, ready_streams, handing_out, prepared, prepare_events};
     ghost use Rattle.dcsctp_send_streams.specs.Fragment.{HasSize};
     ghost use Rattle.std.specs.Prelude.{◌≡◌, ◌+◌, ◌-◌, ◌<◌, ◌++◌, vec_len, true, IfSome, OnOk, OnErr, IfOk, take, not};
-    ghost use Rattle.dcsctp_api.specs.spec.queues.SendQueue.{empty_queue, IsWellFormed, restarted, has_data, changed, used, stream_of, numbered_for, queued, with_added, may_send, with_threshold, with_priority};
+    ghost use Rattle.dcsctp_api.specs.spec.queues.SendQueue.{empty_queue, IsWellFormed, restarted, has_data, waits_at, changed, used, stream_of, numbered_for, queued, with_added, may_send, with_threshold, with_priority};
     ghost use Rattle.dcsctp_api.specs.spec.queues.Transfer.{is_none_ready};
     ghost use Rattle.dcsctp_api.specs.types.Setting.{stream_priority, stream_low_threshold};
     ghost use Rattle.dcsctp_api.specs.spec.endpoint.SettingOutcomes.{set_in_queue};
@@ -146,6 +146,14 @@ impl SendQueue {
         ensures { result ≡ has_data self.now }
     {
         self.backlog.may_send()
+    }
+
+    /// Does a message wait at the moment `now` that can be sent? One on a paused stream can't, unless it is
+    /// under way; nor can one whose lifetime is over.
+    pub fn waits_at(&self, now: SocketTime) -> bool
+        ensures { result ≡ waits_at now self.now }
+    {
+        self.backlog.waits_at(now)
     }
 
     /// Says whether messages are numbered as for interleaving (RFC 8260, section 2.1): with it message

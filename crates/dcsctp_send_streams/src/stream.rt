@@ -1,7 +1,7 @@
 //! What waits on one stream.
 
 use crate::message::QueuedMessage;
-use dcsctp_api::types::{HandoverOutgoingStream, HandoverStreamMessage, Pause, Turn};
+use dcsctp_api::types::{HandoverOutgoingStream, HandoverStreamMessage, Pause, Turn, UnderWay};
 use dcsctp_api::{Events, SocketTime, StreamId};
 use std::alloc::{AllocError, Global};
 use std::collections::VecDeque;
@@ -59,7 +59,7 @@ impl OutgoingStream {
     ghost use Rattle.dcsctp_api.specs.spec.queues.SendEvents.{expiries};
     ghost use Rattle.dcsctp_api.specs.types.queues.SendStreams.{size_of, unused, is_pausing, front_of, with_message, without_front, paused, resumed, handed_out, begun_anew, raised, next_numbers, counted, committed, rolled_back, turn_of};
     ghost use Rattle.std.specs.Option.{option_copied};
-    ghost use Rattle.dcsctp_api.specs.spec.queues.SendQueue.{HaveBytes};
+    ghost use Rattle.dcsctp_api.specs.spec.queues.SendQueue.{HaveBytes, can_go_on, has_live};
     ghost use Rattle.dcsctp_api.specs.spec.queues.Readiness.{is_paused};
     ghost use Rattle.std.specs.Prelude.{map, IfOk};
     ghost use Rattle.dcsctp_api.specs.types.SnapshotItems.{queued_part};
@@ -134,6 +134,23 @@ impl OutgoingStream {
         match self.pause {
             Pause::Pausing => 1,
             Pause::Open | Pause::HandedOut => 0,
+        }
+    }
+
+    /// Is there a message at the moment `now` whose lifetime isn't over?
+    pub fn has_live(&self, now: SocketTime) -> bool
+        ensures { result ≡ has_live now self.now.messages }
+    {
+        self.messages.iter().any(|message| !message.is_expired(now))
+    }
+
+    /// Can a message be sent: is it under way, or may it be started?
+    pub fn can_go_on(&self, under_way: Option<UnderWay>) -> bool
+        ensures { result ≡ can_go_on under_way self.now }
+    {
+        match under_way {
+            None => self.turn().is_some(),
+            Some(under_way) => self.turn().is_some() || under_way.stream_id.0 == self.id.0,
         }
     }
 

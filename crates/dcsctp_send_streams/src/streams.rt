@@ -3,8 +3,8 @@
 use crate::message::QueuedMessage;
 use crate::stream::OutgoingStream;
 use crate::turns::move_turn;
-use dcsctp_api::StreamId;
-use dcsctp_api::types::{HandoverOutgoingStream, Turn};
+use dcsctp_api::types::{HandoverOutgoingStream, Turn, UnderWay};
+use dcsctp_api::{SocketTime, StreamId};
 use std::alloc::{AllocError, Global};
 use std::marker::Model;
 
@@ -34,9 +34,9 @@ impl Model for Streams {
 
 impl Streams {
     ghost use Rattle.std.specs.List.{list_any, AllByRecursion};
-    ghost use Rattle.std.specs.Prelude.{◌≡◌, ◌-◌, ◌<◌, [], length, is_some, map, slice_set, insert, OnOk, OnErr, IfSome, IfNone};
+    ghost use Rattle.std.specs.Prelude.{◌≡◌, ◌-◌, ◌<◌, ◌&&◌, [], length, is_some, map, slice_set, insert, OnOk, OnErr, IfSome, IfNone};
     ghost use Rattle.dcsctp_api.specs.types.queues.SendStreams.{front_of, with_message, without_front, paused, handed_out, begun_anew, raised, counted, committed, rolled_back, stream_at, turn_of, turns_of, IsNext, IsAscending};
-    ghost use Rattle.dcsctp_api.specs.spec.queues.SendQueue.{HaveBytes};
+    ghost use Rattle.dcsctp_api.specs.spec.queues.SendQueue.{HaveBytes, can_go_on, has_live};
     ghost use Rattle.dcsctp_api.specs.spec.queues.Readiness.{has_messages, is_paused};
     ghost use Rattle.dcsctp_send_streams.specs.Ranking.{count_pausing, IsFound};
     ghost use Rattle.dcsctp_api.specs.spec.queues.QueuedParts.{emptied, stream_restored, with_rest};
@@ -132,6 +132,13 @@ impl Streams {
         ensures { result ≡ list_any (λ stream. is_some (turn_of stream)) self.now }
     {
         !self.turns.as_slice().is_empty()
+    }
+
+    /// Does a message wait at the moment `now` that can be sent, if this one is under way?
+    pub fn waits_at(&self, now: SocketTime, under_way: Option<UnderWay>) -> bool
+        ensures { result ≡ list_any (λ stream. can_go_on under_way stream && has_live now stream.messages) self.now }
+    {
+        self.items.iter().any(|stream| stream.can_go_on(under_way) && stream.has_live(now))
     }
 
     /// Does a message wait on any stream, or is one under way?

@@ -142,6 +142,17 @@ impl Timer {
         });
     }
 
+    /// Starts the timer so that it expires at the moment `now`, whether it runs or not.
+    pub fn start_due(&mut self, now: SocketTime)
+        ensures { self.new ≡ record self.old { running = started now (record self.old.settings { duration = 0 }) } }
+    {
+        self.running = Some(Running {
+            deadline: now + Duration::ZERO,
+            wait: Duration::ZERO,
+            expiries: 0,
+        });
+    }
+
     /// How long the timer runs once it is started next. One that runs backs off from the duration that it
     /// was started with.
     pub fn set_duration(&mut self, duration: Duration)

@@ -96,6 +96,7 @@ pub record SaysOffers (numbers : OptionsRecord) (options : Options) : Type 0 whe
   pub message_interleaving : options.enable_message_interleaving ≡ flag numbers.enable_message_interleaving
   pub checksum_verification : options.disable_checksum_verification ≡ flag numbers.disable_checksum_verification
   pub handover : options.enable_handover_with_outstanding_data ≡ flag numbers.enable_handover_with_outstanding_data
+  pub follow_rfc : options.follow_rfc ≡ flag numbers.follow_rfc
 
 -- The numbers say these options, as far as options have an effect.
 pub record SaysOptions (numbers : OptionsRecord) (options : Options) : Type 0 where
@@ -114,8 +115,8 @@ pub record ShowsFlags (numbers : OptionsRecord) (options : Options) : Type 0 whe
   pub message_interleaving : numbers.enable_message_interleaving ≡ flag_number options.enable_message_interleaving
   pub checksum_verification : numbers.disable_checksum_verification ≡ flag_number options.disable_checksum_verification
   pub handover : numbers.enable_handover_with_outstanding_data ≡ flag_number options.enable_handover_with_outstanding_data
+  pub follow_rfc : numbers.follow_rfc ≡ flag_number options.follow_rfc
   pub reserved : numbers.reserved ≡ 0
-  pub reserved_word : numbers.reserved_word ≡ 0
 
 -- The numbers are written for these options.
 pub record ShowsOptions (numbers : OptionsRecord) (options : Options) : Type 0 where
@@ -124,10 +125,10 @@ pub record ShowsOptions (numbers : OptionsRecord) (options : Options) : Type 0 w
   pub offers : SaysOffers numbers options
   pub flags : ShowsFlags numbers options
 
--- The numbers are written for the default options.
+-- The numbers are written for the default options, but that the RFCs are followed where the port doesn't.
 pub record ShowsDefault (numbers : OptionsRecord) : Type 0 where
   pub options : Options
-  pub shows : ShowsOptions numbers options
+  pub shows : ShowsOptions numbers (record options { follow_rfc = true })
   pub default : IsDefault options
 
 -- a value that counts if the bit is set

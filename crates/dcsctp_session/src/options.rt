@@ -53,7 +53,7 @@ pub struct OptionsRecord {
     pub announced_maximum_outgoing_streams: u16,
     pub default_stream_priority: u16,
     pub reserved: u16,
-    pub reserved_word: u32,
+    pub follow_rfc: u32,
 }
 
 // The nanoseconds of a time; those that don't fit are cut.
@@ -114,11 +114,14 @@ fn limit(number: u32) -> Option<u32>
 }
 
 impl OptionsRecord {
-    /// The numbers that stand for the default options.
+    /// The numbers that stand for the default options, but that `follow_rfc` is on: a caller in C has no port
+    /// to follow.
     pub fn standard() -> OptionsRecord
         ensures { ShowsDefault result }
     {
-        OptionsRecord::of(&Options::default())
+        let mut options = Options::default();
+        options.follow_rfc = true;
+        OptionsRecord::of(&options)
     }
 
     /// The numbers that stand for the options.
@@ -161,7 +164,7 @@ impl OptionsRecord {
             announced_maximum_outgoing_streams: options.announced_maximum_outgoing_streams,
             default_stream_priority: options.default_stream_priority,
             reserved: 0,
-            reserved_word: 0,
+            follow_rfc: options.follow_rfc as u32,
         }
     }
 
@@ -206,6 +209,7 @@ impl OptionsRecord {
             announced_maximum_incoming_streams: self.announced_maximum_incoming_streams,
             announced_maximum_outgoing_streams: self.announced_maximum_outgoing_streams,
             default_stream_priority: self.default_stream_priority,
+            follow_rfc: self.follow_rfc != 0,
             ..Options::default()
         }
     }

@@ -347,7 +347,9 @@ impl<R: Rng + Drop> DcSctpSocket for Socket<R> {
         ensures failed { self.new.failed ≡ self.old.failed }
     {
         calls_keep_soundness();
-        dcsctp_socket_calls::get_next_message(&mut self.context)
+        let message = dcsctp_socket_calls::get_next_message(&mut self.context);
+        list_deadlines(&self.context, &mut self.deadlines);
+        message
     }
 
     fn messages_ready_count(&self) -> usize {

@@ -10,12 +10,13 @@ use Rattle.dcsctp_core.specs.spec.Packet.{Packet, Content, init, init_ack, cooki
 use Rattle.dcsctp_core.specs.types.declared.association.Pair.{Pair}
 use Rattle.dcsctp_core.specs.types.declared.association.Held.{Held}
 use Rattle.dcsctp_core.specs.spec.endpoint.Endpoint.{Endpoint, Core, closed, cookie_wait, cookie_echoed, open_in, OpenPhase}
-use Rattle.dcsctp_core.specs.spec.endpoint.Following.{next_chunk}
+use Rattle.dcsctp_core.specs.spec.endpoint.Following.{next_chunk, packet_end}
 use Rattle.dcsctp_core.specs.spec.Admission.{shutdown_acks_alone, shutdown_acks_in, admitted_where, admits_by, admits}
-use Rattle.dcsctp_core.specs.spec.endpoint.CallTurns.{Turned, ChunkTurns, after_all}
-use Rattle.dcsctp_spec_laws.proofs.TurnLemmas.{GoOn, further, and_further}
+use Rattle.dcsctp_core.specs.spec.endpoint.CallTurns.{Turned, IsTurn, ChunkTurns, after_all}
+use Rattle.dcsctp_core.specs.spec.endpoint.Turn.{chunk_input}
+use Rattle.dcsctp_spec_laws.proofs.TurnLemmas.{GoOn, further, and_further, chunk_turns-cut}
 use Rattle.dcsctp_core_ends.specs.Shutdown.{is_open}
-use Rattle.dcsctp_socket_calls.proofs.ChunkLoop.{contents_of, contents_append, contents_more}
+use Rattle.dcsctp_socket_calls.proofs.ChunkLoop.{contents_of, contents_append, contents_more, contents_split}
 
 -- ---- where they are worked alone
 
@@ -109,6 +110,21 @@ ack_more e now tag list i chunk ts us below is goes_on first here second =
     subst (λ (contents : List Content). ChunkTurns e tag contents [] (ts ++ us)) (sym (acks_more list i chunk below is))
     (turns_append e tag (acks_of (take i list)) (shutdown_acks_in (content_in (chunk_content chunk) ∷ [])) ts us goes_on first
     (subst (λ (x : Endpoint). ChunkTurns x tag (shutdown_acks_in (content_in (chunk_content chunk) ∷ [])) [] us) here second))
+
+-- One chunk more had its turn, a SHUTDOWN ACK behind which no other has one.
+pub acks_cut : (e now : Endpoint) (tag : ℕ) (list : List Chunk) (i : ℕ) (chunk : Chunk) (ts : List Turned) (last : Turned) → i < length list → chunk ≡ get_or list i chunk
+    → GoOn ts → ChunkTurns e tag (acks_of (take i list)) [] ts → now ≡ after_all e ts → content_in (chunk_content chunk) ≡ shutdown_ack
+    → IsTurn now (chunk_input tag (content_in (chunk_content chunk))) last → last.outcome.following ≡ packet_end
+    → ChunkTurns e tag (acks_of list) [] (ts ++ last ∷ [])
+acks_cut e now tag list i chunk ts last below is goes_on first here ack comes ends =
+    let content : Content = content_in (chunk_content chunk) in
+    let front : List Content = acks_of (take i list) in
+    let rest : List Content = contents_of (drop (i + 1) list) in
+    let split : acks_of list ≡ front ++ content ∷ shutdown_acks_in rest =
+    ap shutdown_acks_in (contents_split list i chunk below is) ∙ acks_append (contents_of (take i list)) (content ∷ rest)
+    ∙ ap (λ (c : Content). front ++ shutdown_acks_in (c ∷ rest)) ack ∙ ap (λ (c : Content). front ++ c ∷ shutdown_acks_in rest) (sym ack) in
+    subst (λ (contents : List Content). ChunkTurns e tag contents [] (ts ++ last ∷ [])) (sym split)
+    (chunk_turns-cut e tag front [] ts content last (shutdown_acks_in rest) [] goes_on first (subst (λ (x : Endpoint). IsTurn x (chunk_input tag content) last) here comes) ends tt)
 
 -- those of the first chunks are the first of them
 pub acks_first : (chunks : List Chunk) (i : ℕ) → acks_of (take i chunks) ≡ take (length (acks_of (take i chunks))) (acks_of chunks)

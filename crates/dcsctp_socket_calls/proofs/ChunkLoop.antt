@@ -28,7 +28,7 @@ contents_more chunks i chunk below is =
     ap contents_of one ∙ contents_append (take i chunks) (chunk ∷ [])
 
 -- what all chunks say, from those up to one place on
-contents_split : (chunks : List Chunk) (i : ℕ) (chunk : Chunk) → i < length chunks → chunk ≡ get_or chunks i chunk
+pub contents_split : (chunks : List Chunk) (i : ℕ) (chunk : Chunk) → i < length chunks → chunk ≡ get_or chunks i chunk
     → contents_of chunks ≡ contents_of (take i chunks) ++ content_in (chunk_content chunk) ∷ contents_of (drop (i + 1) chunks)
 contents_split chunks i chunk below is =
     let after = contents_of (drop (i + 1) chunks) in

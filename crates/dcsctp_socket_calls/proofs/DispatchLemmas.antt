@@ -1,5 +1,6 @@
 -- Turns of chunks that break the protocol, of those of a shutdown, heartbeats, an ERROR and of those that aren't known.
-use Rattle.std.proofs.Common.{◌≡◌, ◌==◌, ℕ, Bool, true, false, cond, Option, None, Some, List, [], ◌∷◌, refl, sym, ap, subst, ◌∙◌}
+use Rattle.std.proofs.Common.{◌≡◌, ◌==◌, ℕ, Bool, true, false, cond, Option, None, Some, Result, Ok, Err, OnErr, List, [], ◌∷◌, refl, sym, ap, subst, ◌∙◌}
+use Rattle.std.specs.Prelude.{if◌then◌else◌}
 use Rattle.std.proofs.lemmas.List.{append-nil}
 use Rattle.rand_core.specs.Stream.{Stream}
 use Rattle.dcsctp_core.specs.wire.declared.chunk.Chunk.{Chunk}
@@ -15,22 +16,24 @@ use Rattle.dcsctp_core.specs.spec.endpoint.HeartbeatOutcomes.{heartbeat_outcome,
 use Rattle.dcsctp_core_heartbeat.specs.Heartbeats.{heartbeat_turn, heartbeat_ack_turn}
 use Rattle.dcsctp_core.specs.spec.endpoint.Endpoint.{Endpoint, Core, closed, cookie_wait, cookie_echoed, open_in, OpenPhase, established, shutdown_pending, shutdown_sent, shutdown_received, shutdown_ack_sent}
 use Rattle.dcsctp_core.specs.spec.endpoint.Outcome.{Outcome, still, quiet, sends, fits, to_peer}
-use Rattle.dcsctp_core.specs.spec.endpoint.Following.{next_chunk, dropped_rest}
+use Rattle.dcsctp_core.specs.spec.endpoint.Following.{next_chunk, packet_end, dropped_rest}
 use Rattle.dcsctp_core.specs.spec.endpoint.Turn.{ContentTurn}
 use Rattle.dcsctp_core.specs.spec.endpoint.CallTurns.{Turned, ChunkTurns}
 use Rattle.dcsctp_core.specs.types.declared.association.Pair.{Pair}
 use Rattle.dcsctp_core.specs.types.declared.association.Held.{Held}
 use Rattle.dcsctp_core.specs.spec.endpoint.EndOutcomes.{aborting_outcome, reflected_outcome}
-use Rattle.dcsctp_core.specs.spec.endpoint.ShutdownOutcomes.{is_all_acknowledged, step_by, phase_at, shutdown_outcome, shutdown_ack_outcome}
+use Rattle.dcsctp_core.specs.spec.endpoint.ShutdownOutcomes.{may_go_on, step_by, phase_at, shutdown_outcome, shutdown_ack_outcome}
 use Rattle.dcsctp_core.specs.spec.endpoint.PlainOutcomes.{violation_at, PlainTurnBy, PlainTurn, error_outcome}
 use Rattle.dcsctp_core.specs.declared.context.Context.{Context}
-use Rattle.dcsctp_core.specs.declared.following.Following.TheVariants.{NextChunk, DroppedRest}
+use Rattle.dcsctp_core.specs.declared.following.Following.TheVariants.{NextChunk, PacketEnd, DroppedRest}
+use Rattle.dcsctp_core.specs.declared.following.Following.{Following}
 use Rattle.dcsctp_core.specs.View.{View, core_of, endpoint_of, view_of, Moves, MovesAll, CutTurn}
-use Rattle.dcsctp_core.specs.Handling.{TakesIn, CutIn}
+use Rattle.dcsctp_core.specs.Handling.{TakesIn, CutIn, Handles, Works}
 use Rattle.dcsctp_core.proofs.Moving.{moves_one}
+use Rattle.dcsctp_spec_laws.proofs.TurnLemmas.{and_further}
 use Rattle.dcsctp_core_ends.specs.Ends.{violation_in, aborting_turn, error_turn}
 use Rattle.dcsctp_core_ends.specs.Shutdown.{is_open, reflected_turn, shutdown_turn}
-use Rattle.dcsctp_socket_calls.specs.Parts.{ChunkMoves, ChunkCut, AckMoves}
+use Rattle.dcsctp_socket_calls.specs.Parts.{ChunkMoves, ChunkCut, AckMoves, AckEnds, WorksAck}
 use Rattle.dcsctp_socket_calls.specs.Unknown.{unknown_turn}
 use Rattle.dcsctp_socket_calls.proofs.AckLoop.{no_ack}
 use Rattle.dcsctp_socket_calls.proofs.ChunkLoop.{worked_as}
@@ -95,8 +98,8 @@ shutdown_follows : (e : Endpoint) (core : Core) → (shutdown_outcome e core).fo
 shutdown_follows e closed = refl
 shutdown_follows e (cookie_wait my) = refl
 shutdown_follows e (cookie_echoed my held cookie) = refl
-shutdown_follows e (open_in established my held) = step_follows (is_all_acknowledged e.below.transfer) (phase_at e shutdown_received my held) shutdown_received my held
-shutdown_follows e (open_in shutdown_pending my held) = step_follows (is_all_acknowledged e.below.transfer) (phase_at e shutdown_received my held) shutdown_received my held
+shutdown_follows e (open_in established my held) = step_follows (may_go_on e) (phase_at e shutdown_received my held) shutdown_received my held
+shutdown_follows e (open_in shutdown_pending my held) = step_follows (may_go_on e) (phase_at e shutdown_received my held) shutdown_received my held
 shutdown_follows e (open_in shutdown_sent my held) = refl
 shutdown_follows e (open_in shutdown_received my held) = refl
 shutdown_follows e (open_in shutdown_ack_sent my held) = refl
@@ -119,18 +122,45 @@ pub moves_none : {R : Type 0} (stream : R → Stream) (view : View R) → MovesA
 moves_none stream view = record { endpoint = refl; events = sym (append-nil view.events); words = sym (append-nil view.words); pairs = sym (append-nil view.pairs); drawn = refl }
 
 -- as a packet's one
-pub ack_done : {R : Type 0} (stream : R → Stream) (old new : View R) (tag : ℕ) (chunk : Chunk) → is_open old.endpoint.core ≡ false → chunk ≡ kinds.ShutdownAck
-    → Moves stream old (reflected_turn tag old) new → AckMoves stream tag (content_in (chunk_content chunk)) old new
-ack_done stream old new tag chunk shut is moves =
+ack_goes_on : {R : Type 0} (stream : R → Stream) (old new : View R) (tag : ℕ) → is_open old.endpoint.core ≡ false
+    → Handles stream old (reflected_turn tag old) NextChunk new → AckMoves stream tag shutdown_ack old new
+ack_goes_on stream old new tag shut h =
     let turn : Turned = worked_as tag shutdown_ack (reflected_turn tag old) in
-    subst (λ (c : Chunk). AckMoves stream tag (content_in (chunk_content c)) old new) (sym is)
-    (record {
+    record {
       turns = turn ∷ [];
-      goes_on = (refl, tt);
-      are = (record { is = refl; comes = reflects old.endpoint old.endpoint.core tag shut }, tt);
-      moves = moves_one stream old new turn moves;
-      core = ap (λ (e : Endpoint). e.core) moves.endpoint;
-    })
+      goes_on = (h.following, tt);
+      are = and_further old.endpoint tag shutdown_ack [] [] turn [] h.following (record { is = refl; comes = reflects old.endpoint old.endpoint.core tag shut }) tt;
+      moves = moves_one stream old new turn h.moves;
+      core = ap (λ (e : Endpoint). e.core) h.moves.endpoint;
+    }
+
+ack_ends : {R : Type 0} (stream : R → Stream) (old new : View R) (tag : ℕ) → is_open old.endpoint.core ≡ false
+    → Handles stream old (reflected_turn tag old) PacketEnd new → AckEnds stream tag shutdown_ack old new
+ack_ends stream old new tag shut h =
+    let turn : Turned = worked_as tag shutdown_ack (reflected_turn tag old) in
+    record {
+      is = refl;
+      turn = turn;
+      comes = record { is = refl; comes = reflects old.endpoint old.endpoint.core tag shut };
+      ends = h.following;
+      moves = moves_one stream old new turn h.moves;
+    }
+
+never_drops : (b : Bool) → (if b then packet_end else next_chunk) ≡ dropped_rest → ⊥
+never_drops true is = cc
+never_drops false is = cc
+
+ack_by : {R E : Type 0} (stream : R → Stream) (old new : Context R) (tag : ℕ) (result : Result Following E) → is_open (core_of old.state) ≡ false
+    → Works stream (reflected_turn tag) old result new → OnErr result (view_of new ≡ view_of old) → WorksAck stream tag shutdown_ack old result new
+ack_by stream old new tag (Ok NextChunk) shut h same = ack_goes_on stream (view_of old) (view_of new) tag shut h
+ack_by stream old new tag (Ok PacketEnd) shut h same = ack_ends stream (view_of old) (view_of new) tag shut h
+ack_by stream old new tag (Ok DroppedRest) shut h same = absurd (never_drops old.options.follow_rfc h.following)
+ack_by stream old new tag (Err error) shut h same = same
+
+pub ack_done : {R E : Type 0} (stream : R → Stream) (old new : Context R) (tag : ℕ) (chunk : Chunk) (result : Result Following E) → is_open (core_of old.state) ≡ false → chunk ≡ kinds.ShutdownAck
+    → Works stream (reflected_turn tag) old result new → OnErr result (view_of new ≡ view_of old) → WorksAck stream tag (content_in (chunk_content chunk)) old result new
+ack_done stream old new tag chunk result shut is h same =
+    subst (λ (c : Chunk). WorksAck stream tag (content_in (chunk_content c)) old result new) (sym is) (ack_by stream old new tag result shut h same)
 
 pub not_ack : {R : Type 0} (stream : R → Stream) (view : View R) (tag : ℕ) (chunk : Chunk) → (chunk ≡ kinds.ShutdownAck → ⊥) → AckMoves stream tag (content_in (chunk_content chunk)) view view
 not_ack stream view tag chunk other =

@@ -4,13 +4,13 @@ use Rattle.std.specs.List.{AllByRecursion}
 use Rattle.rand_core.specs.Stream.{Stream}
 use Rattle.dcsctp_core.specs.wire.Content.{PacketContent}
 use Rattle.dcsctp_core.specs.spec.Admission.{admits, shutdown_acks_in}
-use Rattle.dcsctp_core.specs.spec.Packet.{Content, Packet, packet_in}
+use Rattle.dcsctp_core.specs.spec.Packet.{Content, Packet, packet_in, shutdown_ack}
 use Rattle.dcsctp_core.specs.spec.endpoint.Endpoint.{Endpoint}
-use Rattle.dcsctp_core.specs.spec.endpoint.Following.{next_chunk}
+use Rattle.dcsctp_core.specs.spec.endpoint.Following.{next_chunk, packet_end}
 use Rattle.dcsctp_core.specs.spec.endpoint.Outcome.{Outcome, still}
 use Rattle.dcsctp_core.specs.types.Settings.{ports_of}
 use Rattle.dcsctp_core.specs.spec.endpoint.Event.{Event}
-use Rattle.dcsctp_core.specs.spec.endpoint.Turn.{ContentTurn, act_input, packet_ends, has_data}
+use Rattle.dcsctp_core.specs.spec.endpoint.Turn.{ContentTurn, act_input, chunk_input, packet_ends, has_data}
 use Rattle.dcsctp_core.specs.spec.association.Acts.{Act, connect}
 use Rattle.dcsctp_core.specs.types.Setting.{Setting}
 use Rattle.dcsctp_core.specs.spec.endpoint.SettingOutcomes.{endpoint_with}
@@ -19,6 +19,7 @@ use Rattle.dcsctp_core.specs.api.Calls.{AddsFront}
 use Rattle.dcsctp_core.specs.declared.context.Context.{Context}
 use Rattle.dcsctp_core.specs.View.{View, view_of, call_start, Moves, MovesAll, CallMoves, CutTurn}
 use Rattle.dcsctp_core.specs.declared.following.Following.{Following}
+use Rattle.dcsctp_core.specs.declared.following.Following.TheVariants.{NextChunk, PacketEnd, DroppedRest}
 use Rattle.dcsctp_core.specs.Handling.{following_of, OnlyDrew}
 use Rattle.dcsctp_core_ends.specs.Shutdown.{answer_turn}
 
@@ -66,6 +67,14 @@ pub record WholeMoves {R : Type 0} (stream : R → Stream) (packet : PacketConte
   pub turns : List Turned
   pub are : WholeTurns old.endpoint (packet_in packet) turns
   pub moves : MovesAll stream old turns new
+
+-- A SHUTDOWN ACK had its turn, and no other chunk of the packet has one.
+pub record AckEnds {R : Type 0} (stream : R → Stream) (tag : ℕ) (content : Content) (old new : View R) : Type 0 where
+  pub is : content ≡ shutdown_ack
+  pub turn : Turned
+  pub comes : IsTurn old.endpoint (chunk_input tag content) turn
+  pub ends : turn.outcome.following ≡ packet_end
+  pub moves : MovesAll stream old (turn ∷ []) new
 
 -- A chunk had its turn, if it is a SHUTDOWN ACK, and those after it may have theirs.
 pub record AckMoves {R : Type 0} (stream : R → Stream) (tag : ℕ) (content : Content) (old new : View R) : Type 0 where
@@ -179,8 +188,10 @@ WorksWhole stream packet old (Ok done) new = WholeMoves stream packet (view_of o
 WorksWhole stream packet old (Err error) new = WholeCut packet (view_of old) (view_of new).events
 
 -- If an allocation failed, nothing has changed.
-abbrev pub WorksAck : {R E : Type 0} → (R → Stream) → ℕ → Content → Context R → Result (Unit {0}) E → Context R → Type 0
-WorksAck stream tag content old (Ok done) new = AckMoves stream tag content (view_of old) (view_of new)
+abbrev pub WorksAck : {R E : Type 0} → (R → Stream) → ℕ → Content → Context R → Result Following E → Context R → Type 0
+WorksAck stream tag content old (Ok NextChunk) new = AckMoves stream tag content (view_of old) (view_of new)
+WorksAck stream tag content old (Ok PacketEnd) new = AckEnds stream tag content (view_of old) (view_of new)
+WorksAck stream tag content old (Ok DroppedRest) new = ⊥
 WorksAck stream tag content old (Err error) new = view_of new ≡ view_of old
 
 abbrev pub WorksAcks : {R E : Type 0} → (R → Stream) → PacketContent → Context R → Result (Unit {0}) E → Context R → Type 0

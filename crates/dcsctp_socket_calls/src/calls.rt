@@ -91,24 +91,24 @@ fn handle_whole<R: Rng>(context: &mut Context<R>, packet: &SctpPacket<'_>) -> Re
     handle_chunks(context, packet)
 }
 
-// Answers a chunk if it is a SHUTDOWN ACK: during a handshake none is awaited.
+// Answers a chunk if it is a SHUTDOWN ACK: during a handshake none is awaited. Returns what follows it.
 fn answer_shutdown_ack<R: Rng>(
     context: &mut Context<R>,
     header_tag: u32,
     chunk: &Chunk<'_>,
-) -> Result<(), AllocError>
+) -> Result<Following, AllocError>
     requires { is_open (core_of context.old.state) ≡ false }
     ensures { WorksAck R.stream header_tag (content_in (chunk_content chunk.now)) context.old result
         context.new }
 {
     if let Chunk::ShutdownAck = chunk {
-        reflect_shutdown_ack(context, header_tag)?;
-        return Ok(());
+        return reflect_shutdown_ack(context, header_tag);
     }
-    Ok(())
+    Ok(Following::NextChunk)
 }
 
-// Handles the SHUTDOWN ACK chunks of a packet, and nothing else of it.
+// Handles the SHUTDOWN ACK chunks of a packet, and nothing else of it, until one says that the others aren't
+// handled.
 fn handle_shutdown_acks<R: Rng>(
     context: &mut Context<R>,
     packet: &SctpPacket<'_>,
@@ -118,7 +118,10 @@ fn handle_shutdown_acks<R: Rng>(
 {
     let header_tag = packet.common_header.verification_tag;
     for chunk in &packet.chunks {
-        answer_shutdown_ack(context, header_tag, chunk)?;
+        match answer_shutdown_ack(context, header_tag, chunk)? {
+            Following::NextChunk => {}
+            Following::PacketEnd | Following::DroppedRest => return Ok(()),
+        }
     }
     Ok(())
 }

@@ -15,7 +15,7 @@ use Rattle.dcsctp_spec.specs.endpoint.Endpoint.{Endpoint, closed, cookie_echoed,
 use Rattle.dcsctp_spec.specs.endpoint.Following.{next_chunk, dropped_rest}
 use Rattle.dcsctp_spec.specs.association.Effect.{holds, connects}
 use Rattle.dcsctp_spec.specs.endpoint.CookieEchoOutcomes.{window_by_cookie, cookie_echo_outcome}
-use Rattle.dcsctp_spec.proofs.HandshakeTurnFacts.{configured, queue_renumbered, queue_at_start, socket, heartbeats_due, mine, held, transfer_begun, link, packet_of}
+use Rattle.dcsctp_spec.proofs.HandshakeTurnFacts.{configured, queue_renumbered, queue_at_start, socket, heartbeats_due, mine, held, transfer_begun, link, packet_of, by_rfc}
 
 -- made by this socket under tag 7 for the INIT of a peer under tag 9, with this tie tag
 abbrev own_cookie : ℕ → List ℕ
@@ -40,6 +40,11 @@ echo_where_closed : (e : Endpoint) → cookie_echo_outcome (socket e 1191 (pos 4
     ≡ record { words = U64 55 ∷ []; effects = holds link ∷ connects link ∷ []; after = made e queue_renumbered 5; events = connected ∷ packet_of false 9 (cookie_ack ∷ []) ∷ []; following = next_chunk }
 unfolding cookie_at
 echo_where_closed e = refl
+
+-- By the RFC's rules it begins again.
+echo_where_closed_by_rfc : (e : Endpoint) → (cookie_echo_outcome (by_rfc (socket e 1191 (pos 4) closed 4)) closed 7 (cookie_at (own_cookie 0)) 55).after.below.queue ≡ queue_at_start
+unfolding cookie_at
+echo_where_closed_by_rfc e = refl
 
 echo_under_wrong_tag : (e : Endpoint) → cookie_echo_outcome (socket e 1191 (pos 4) closed 4) closed 8 (cookie_at (own_cookie 0)) 55
     ≡ record { words = []; effects = []; after = socket e 1191 (pos 4) closed 4; events = error ParseFailed (codes "Received CookieEcho with invalid verification tag") ∷ []; following = dropped_rest }

@@ -38,6 +38,7 @@ configured options mtu max_burst =
       announced_maximum_outgoing_streams = 20;
       max_receiver_window_buffer_size = 5242880;
       max_send_buffer_size = 2000000;
+      follow_rfc = false;
       rto_initial = record { secs = 0; nanos = 500_000_000 };
       rto_min = record { secs = 0; nanos = 400_000_000 };
       rto_max = record { secs = 60; nanos = 0 };
@@ -109,6 +110,10 @@ socket e mtu max_burst core packets_sent =
       below = record { queue = queue; transfer = None };
     }
 
+-- with the RFC's rules
+abbrev pub by_rfc : Endpoint → Endpoint
+by_rfc e = record e { options = record e.options { follow_rfc = true } }
+
 -- T1, just started: it is doubled each time, and goes on eight times
 abbrev t1_due : ℕ → ℕ → Option RunningTimer
 t1_due deadline duration = Some (record { deadline = deadline; wait = duration; expiries = 0; terms = record { backoff = Exponential; max_restarts = Some 8; max_backoff = None } })
@@ -179,6 +184,7 @@ transfer_begun mtu cwnd least =
         acknowledgement = Idle;
         delay = record { running = None; settings = record { duration = 200_000_000; terms = record { backoff = Fixed; max_restarts = Some 0; max_backoff = None } } };
         longest_delay = 200_000_000;
+        follows_rfc = false;
       };
       reassembly = record { incoming = record { messages_received = 0; ready = []; streams = []; unordered = []; last_tsn_number = 4294967296 }; max_size = 5242880; deferral = None };
     })

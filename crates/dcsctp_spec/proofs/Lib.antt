@@ -6,6 +6,7 @@ pub mod ChunkFacts
 pub mod CookieEchoFacts
 pub mod ErrorFacts
 pub mod FlushFacts
+pub mod FollowRfcFacts
 pub mod HandshakeFacts
 pub mod HandshakeTurnFacts
 pub mod HeartbeatFacts

@@ -1,6 +1,7 @@
 -- Outside examples of how an association is shut down, worked by hand and computed by the definitions: a wrong rule in specs/
 -- would not check here. Moments and durations are nanoseconds.
 use Rattle.std.proofs.Common.{◌≡◌, ◌+◌, ◌^◌, ℕ, zero, suc, true, false, Option, None, Some, List, [], ◌∷◌, refl}
+use Rattle.std.specs.Prelude.{pos, map}
 use Rattle.dcsctp_types.specs.declared.ends.AbortReason.TheVariants.{TooManyErrors}
 use Rattle.dcsctp_types.specs.declared.kinds.BackoffAlgorithm.TheVariants.{Exponential}
 use Rattle.dcsctp_types.specs.declared.progress.ItemState.TheVariants.{InFlight}
@@ -9,9 +10,12 @@ use Rattle.dcsctp_spec.specs.endpoint.Event as events
 use Rattle.dcsctp_spec.specs.Packet.{Emission, shutdown, shutdown_ack, shutdown_complete}
 use Rattle.dcsctp_spec.specs.queues.Items.{Item}
 use Rattle.dcsctp_spec.specs.queues.Transfer.{Transfer}
+use Rattle.dcsctp_spec.specs.queues.SendQueue.{waits_at}
+use Rattle.dcsctp_types.specs.queues.SendStreams.{Waiting, Stream}
+use Rattle.dcsctp_types.specs.declared.sending.Pause.TheVariants.{Pausing}
 use Rattle.dcsctp_spec.specs.endpoint.Endpoint.{Endpoint, Core, closed, cookie_wait, cookie_echoed, open_in, OpenPhase, established, shutdown_pending, shutdown_sent, shutdown_received, shutdown_ack_sent}
 use Rattle.dcsctp_spec.specs.endpoint.Timers.{RunningTimer}
-use Rattle.dcsctp_spec.specs.endpoint.Following.{next_chunk, dropped_rest}
+use Rattle.dcsctp_spec.specs.endpoint.Following.{next_chunk, packet_end, dropped_rest}
 use Rattle.dcsctp_spec.specs.endpoint.Outcome.{Outcome, still}
 use Rattle.dcsctp_spec.specs.endpoint.Turn.{act_input}
 use Rattle.dcsctp_spec.specs.endpoint.TimeTurns.{t2_timer, deadline, has_come, expiry_input}
@@ -48,11 +52,26 @@ abbrev at : Endpoint → Core → Transfer → ℕ → Endpoint
 at e core transfer items =
     record e {
       moment = 1_000_000_000;
-      options = record e.options { max_retransmissions = Some 2 };
+      options = record e.options { max_retransmissions = Some 2; follow_rfc = false };
       core = core;
       counts = record e.counts { packets_sent = 4 };
       below = record { queue = queue; transfer = Some (moved transfer items) };
     }
+
+-- by the RFC's rules, with this `max_burst`
+abbrev by_rfc : Endpoint → ℕ → Endpoint
+by_rfc e burst = record e { options = record e.options { follow_rfc = true; max_burst = pos burst } }
+
+-- a stream that is to be reset
+abbrev pausing : Stream → Stream
+pausing stream = record stream { pause = Pausing }
+
+-- a stream whose messages have a lifetime until this moment
+abbrev lives_until : ℕ → Waiting → Waiting
+lives_until moment message = record message { expires_at = Some moment }
+
+abbrev expired_at_9 : Stream → Stream
+expired_at_9 stream = record stream { messages = map (lives_until 9) stream.messages }
 
 -- T2, with its deadline and its wait
 abbrev t2 : ℕ → ℕ → ℕ → Option RunningTimer
@@ -100,6 +119,26 @@ answer_then : (e : Endpoint) (transfer : Transfer) → step_outcome (at e (in_ph
     ≡ went (waiting (at e (in_phase shutdown_received) transfer 0) shutdown_ack_sent) answer
 answer_then e transfer = refl
 
+-- By the RFC's rules what waits is sent first,
+waits_by_rfc : (e : Endpoint) (transfer : Transfer) → step_outcome (by_rfc (at e (in_phase shutdown_pending) transfer 0) 4) (in_phase shutdown_pending)
+    ≡ still (by_rfc (at e (in_phase shutdown_pending) transfer 0) 4)
+waits_by_rfc e transfer = refl
+
+-- if packets may be sent.
+waits_for_no_packet : (e : Endpoint) (transfer : Transfer) → (step_outcome (by_rfc (at e (in_phase shutdown_pending) transfer 0) 0) (in_phase shutdown_pending)).events
+    ≡ request ∷ []
+waits_for_no_packet e transfer = refl
+
+-- What waits on a stream that is paused, or past its lifetime, isn't waited for.
+nothing_waits_by_rfc : waits_at 10 (record queue { streams = map pausing queue.streams; under_way = None }) ≡ false
+nothing_waits_by_rfc = refl
+
+no_live_message : waits_at 10 (record queue { streams = map expired_at_9 queue.streams }) ≡ false
+no_live_message = refl
+
+a_live_message : waits_at 8 (record queue { streams = map expired_at_9 queue.streams }) ≡ true
+a_live_message = refl
+
 -- Without a peer the association ends.
 ends_in_cookie_wait : (e : Endpoint) → (shut_down_outcome e (cookie_wait mine)).events ≡ events.closed ∷ []
 ends_in_cookie_wait e = refl
@@ -145,6 +184,13 @@ asked_in_cookie_echoed e cookie = refl
 completes : (e : Endpoint) → let o : Outcome = shutdown_ack_outcome e (in_phase shutdown_sent) 7 in
     (o.events ≡ packet_of false 9 (shutdown_complete false ∷ []) ∷ events.closed ∷ []) × (o.after.core ≡ closed) × (o.following ≡ dropped_rest)
 completes e = (refl, refl, refl)
+
+-- By the RFC's rules one answers a packet.
+reflects_once : (e : Endpoint) (transfer : Transfer) (burst : ℕ) → (shutdown_ack_outcome (by_rfc (at e (in_phase established) transfer 0) burst) (in_phase established) 7).following ≡ packet_end
+reflects_once e transfer burst = refl
+
+reflects_each : (e : Endpoint) (transfer : Transfer) → (shutdown_ack_outcome (at e (in_phase established) transfer 0) (in_phase established) 7).following ≡ next_chunk
+reflects_each e transfer = refl
 
 -- One that isn't is reflected under its own tag.
 reflects : (e : Endpoint) → (shutdown_ack_outcome e (in_phase shutdown_pending) 7).events ≡ packet_of true 7 (shutdown_complete true ∷ []) ∷ []

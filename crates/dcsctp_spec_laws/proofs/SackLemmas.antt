@@ -23,7 +23,7 @@ use Rattle.dcsctp_spec_lemmas.specs.spec.queues.Items.{Item}
 use Rattle.dcsctp_spec_lemmas.specs.spec.queues.Outstanding.{acknowledged_by}
 use Rattle.dcsctp_spec_lemmas.specs.spec.queues.Retransmission.{RetransmissionState, has_fast_retransmit}
 use Rattle.dcsctp_spec_lemmas.specs.wire.Content.{SackContent}
-use Rattle.dcsctp_spec_lemmas.specs.spec.endpoint.ShutdownOutcomes.{received_tsn, is_all_acknowledged}
+use Rattle.dcsctp_spec_lemmas.specs.spec.endpoint.ShutdownOutcomes.{received_tsn, may_go_on}
 use Rattle.dcsctp_spec_lemmas.proofs.ControlHandshake.{ControlledAt}
 use Rattle.dcsctp_spec_lemmas.proofs.FlushKeeps.{emitted_then, emitted_notes, signs_append, signs_then, goes_out_signs, goes_out_keeps}
 use Rattle.dcsctp_spec_laws.proofs.DataLemmas.{chosen, FlushedAt, plain_flushes, flushed_as, quiet_at, still_at, sent_at}
@@ -31,7 +31,7 @@ use Rattle.dcsctp_spec_laws.proofs.ShutdownLemmas.{step_at}
 
 -- ---- what it chooses
 
--- a step of shutdown, where all is acknowledged, these packets, and a flush that gets these answers
+-- a step of shutdown, where it may go on, these packets, and a flush that gets these answers
 abbrev stepped : Endpoint → ℕ → Bool → List (List Plain) → List Answer → Choices
 stepped e tsn is_acknowledged packets answers = record (chosen e packets answers) { tsn = tsn; is_acknowledged = is_acknowledged }
 
@@ -139,7 +139,7 @@ acknowledges_at : (e : Endpoint) (held : Held) (transfer : Transfer) (sack : Sac
 acknowledges_at e held transfer sack o holds turn =
     let base : Endpoint = sack_taken e transfer turn.left in
     let tsn : ℕ = received_tsn base.below.transfer in
-    let is_acknowledged : Bool = is_all_acknowledged base.below.transfer in
+    let is_acknowledged : Bool = may_go_on base in
     let change : Change = shutdown_step_change e.core tsn is_acknowledged in
     let step : IsControlled e turn.stepped change = subst (λ (x : Outcome). IsControlled e x change) (sym turn.steps) (step_at e base e.core refl refl) in
     let is : StepIs e.core change = step_is e.core tsn is_acknowledged in

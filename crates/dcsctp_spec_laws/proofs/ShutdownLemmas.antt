@@ -6,17 +6,21 @@ use Rattle.dcsctp_spec_lemmas.specs.types.Settings.{SameOptions}
 use Rattle.dcsctp_spec_lemmas.specs.spec.Packet.{shutdown, shutdown_ack, shutdown_complete}
 use Rattle.dcsctp_spec_lemmas.specs.spec.endpoint.Endpoint.{Endpoint, Core, closed, cookie_wait, cookie_echoed, open_in, OpenPhase, established, shutdown_pending, shutdown_sent, shutdown_received, shutdown_ack_sent}
 use Rattle.dcsctp_spec_lemmas.specs.spec.endpoint.Outcome.{Outcome}
-use Rattle.dcsctp_spec_lemmas.specs.spec.endpoint.EndOutcomes.{reflected_outcome}
-use Rattle.dcsctp_spec_lemmas.specs.spec.endpoint.ShutdownOutcomes.{received_tsn, phase_at, is_all_acknowledged, step_by, step_outcome, t1_stopped, shut_down_outcome, shutdown_outcome, shutdown_ack_outcome, shutdown_complete_outcome, t2_goes_on, sent_again, t2_again_outcome, shutdown_repeated}
+use Rattle.dcsctp_spec_lemmas.specs.spec.endpoint.EndOutcomes.{after_reflected, reflected_outcome}
+use Rattle.dcsctp_spec_lemmas.specs.spec.endpoint.ShutdownOutcomes.{received_tsn, phase_at, may_go_on, step_by, step_outcome, t1_stopped, shut_down_outcome, shutdown_outcome, shutdown_ack_outcome, shutdown_complete_outcome, t2_goes_on, sent_again, t2_again_outcome, shutdown_repeated}
 use Rattle.dcsctp_spec_lemmas.specs.spec.association.Choices.{Choices}
 use Rattle.dcsctp_spec_lemmas.specs.spec.association.ShutdownChanges.{shutdown_step_change_in, shutdown_step_change, shutdown_call_change, shutdown_again_change, shutdown_change, reflected_change, shutdown_ack_change, shutdown_complete_change}
 use Rattle.dcsctp_spec_lemmas.specs.spec.association.Acts.{shut_down, step_of_shutdown, shutdown_repeats}
 use Rattle.dcsctp_spec_lemmas.specs.spec.association.Controlled.{IsControlled, ControlledChunk, ControlledAct}
 use Rattle.dcsctp_spec_lemmas.proofs.ControlHandshake.{no_choices, still_controlled}
 
--- what such a turn chooses: whether all is acknowledged, and what a SHUTDOWN tells
+-- what such a turn chooses: whether the shutdown may go on, and what a SHUTDOWN tells
 abbrev pub stepping : Endpoint → Choices
-stepping e = record (no_choices e true) { is_acknowledged = is_all_acknowledged e.below.transfer; tsn = received_tsn e.below.transfer }
+stepping e = record (no_choices e true) { is_acknowledged = may_go_on e; tsn = received_tsn e.below.transfer }
+
+-- what the turn of a SHUTDOWN ACK chooses: what follows one that isn't awaited
+abbrev reflecting : Endpoint → Choices
+reflecting e = record (no_choices e true) { following = after_reflected e.options }
 
 -- ---- a step of it
 
@@ -35,25 +39,25 @@ step_by_at false e base shutdown_received my held is same = record { core = is; 
 step_by_at false e base shutdown_ack_sent my held is same = record { core = is; options = same; signs = refl; effects = refl; following = refl }
 
 pub step_at : (e base : Endpoint) (core : Core) → base.core ≡ core → SameOptions e.options base.options
-    → IsControlled e (step_outcome base core) (shutdown_step_change core (received_tsn base.below.transfer) (is_all_acknowledged base.below.transfer))
+    → IsControlled e (step_outcome base core) (shutdown_step_change core (received_tsn base.below.transfer) (may_go_on base))
 step_at e base closed is same = record { core = is; options = same; signs = refl; effects = refl; following = refl }
 step_at e base (cookie_wait my) is same = record { core = is; options = same; signs = refl; effects = refl; following = refl }
 step_at e base (cookie_echoed my held cookie) is same = record { core = is; options = same; signs = refl; effects = refl; following = refl }
-step_at e base (open_in phase my held) is same = step_by_at (is_all_acknowledged base.below.transfer) e base phase my held is same
+step_at e base (open_in phase my held) is same = step_by_at (may_go_on base) e base phase my held is same
 
 pub step_controlled : (e : Endpoint) (o : Outcome) → o ≡ step_outcome e e.core → ControlledAct e step_of_shutdown o
 step_controlled e o turn = subst (ControlledAct e step_of_shutdown) (sym turn) (stepping e, step_at e e e.core refl refl)
 
 -- the association in another phase, and a step from there
 step_from_at : (e base : Endpoint) (phase : OpenPhase) (my : Pair) (held : Held) → SameOptions e.options base.options
-    → IsControlled e (step_by (is_all_acknowledged base.below.transfer) (phase_at base phase my held) phase my held)
-    (shutdown_step_change_in phase my held (received_tsn base.below.transfer) (is_all_acknowledged base.below.transfer))
-step_from_at e base phase my held same = step_by_at (is_all_acknowledged base.below.transfer) e (phase_at base phase my held) phase my held refl same
+    → IsControlled e (step_by (may_go_on base) (phase_at base phase my held) phase my held)
+    (shutdown_step_change_in phase my held (received_tsn base.below.transfer) (may_go_on base))
+step_from_at e base phase my held same = step_by_at (may_go_on base) e (phase_at base phase my held) phase my held refl same
 
 -- ---- the user's call
 
 call_at : (e : Endpoint) (core : Core) → e.core ≡ core
-    → IsControlled e (shut_down_outcome e core) (shutdown_call_change core (received_tsn e.below.transfer) (is_all_acknowledged e.below.transfer))
+    → IsControlled e (shut_down_outcome e core) (shutdown_call_change core (received_tsn e.below.transfer) (may_go_on e))
 call_at e closed is = still_controlled e closed is
 call_at e (cookie_wait my) is = record { core = refl; options = refl; signs = refl; effects = refl; following = refl }
 call_at e (cookie_echoed my held cookie) is = step_from_at e (t1_stopped e) shutdown_pending my held refl
@@ -69,7 +73,7 @@ shut_down_controlled e o turn = subst (ControlledAct e shut_down) (sym turn) (st
 -- ---- chunks
 
 shutdown_at : (e : Endpoint) (core : Core) → e.core ≡ core
-    → IsControlled e (shutdown_outcome e core) (shutdown_change core (received_tsn e.below.transfer) (is_all_acknowledged e.below.transfer))
+    → IsControlled e (shutdown_outcome e core) (shutdown_change core (received_tsn e.below.transfer) (may_go_on e))
 shutdown_at e closed is = still_controlled e closed is
 shutdown_at e (cookie_wait my) is = still_controlled e (cookie_wait my) is
 shutdown_at e (cookie_echoed my held cookie) is = still_controlled e (cookie_echoed my held cookie) is
@@ -82,10 +86,10 @@ shutdown_at e (open_in shutdown_ack_sent my held) is = record { core = refl; opt
 pub shutdown_controlled : (e : Endpoint) (tag tsn : ℕ) (o : Outcome) → o ≡ shutdown_outcome e e.core → ControlledChunk e tag (shutdown tsn) o
 shutdown_controlled e tag tsn o turn = subst (ControlledChunk e tag (shutdown tsn)) (sym turn) (_, (stepping e, tt, refl), shutdown_at e e.core refl)
 
-reflects : (e : Endpoint) (core : Core) (tag : ℕ) → e.core ≡ core → IsControlled e (reflected_outcome e tag) (reflected_change core tag)
+reflects : (e : Endpoint) (core : Core) (tag : ℕ) → e.core ≡ core → IsControlled e (reflected_outcome e tag) (reflected_change core tag (after_reflected e.options))
 reflects e core tag is = record { core = is; options = refl; signs = refl; effects = refl; following = refl }
 
-shutdown_ack_at : (e : Endpoint) (core : Core) (tag : ℕ) → e.core ≡ core → IsControlled e (shutdown_ack_outcome e core tag) (shutdown_ack_change core tag)
+shutdown_ack_at : (e : Endpoint) (core : Core) (tag : ℕ) → e.core ≡ core → IsControlled e (shutdown_ack_outcome e core tag) (shutdown_ack_change core tag (after_reflected e.options))
 shutdown_ack_at e closed tag is = reflects e closed tag is
 shutdown_ack_at e (cookie_wait my) tag is = reflects e (cookie_wait my) tag is
 shutdown_ack_at e (cookie_echoed my held cookie) tag is = reflects e (cookie_echoed my held cookie) tag is
@@ -96,7 +100,7 @@ shutdown_ack_at e (open_in shutdown_received my held) tag is = reflects e (open_
 shutdown_ack_at e (open_in shutdown_ack_sent my held) tag is = record { core = refl; options = refl; signs = refl; effects = refl; following = refl }
 
 pub shutdown_ack_controlled : (e : Endpoint) (tag : ℕ) (o : Outcome) → o ≡ shutdown_ack_outcome e e.core tag → ControlledChunk e tag shutdown_ack o
-shutdown_ack_controlled e tag o turn = subst (ControlledChunk e tag shutdown_ack) (sym turn) (_, (no_choices e true, tt, refl), shutdown_ack_at e e.core tag refl)
+shutdown_ack_controlled e tag o turn = subst (ControlledChunk e tag shutdown_ack) (sym turn) (_, (reflecting e, tt, refl), shutdown_ack_at e e.core tag refl)
 
 shutdown_complete_at : (e : Endpoint) (core : Core) → e.core ≡ core → IsControlled e (shutdown_complete_outcome e core) (shutdown_complete_change core)
 shutdown_complete_at e closed is = still_controlled e closed is

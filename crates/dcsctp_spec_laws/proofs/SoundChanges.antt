@@ -75,6 +75,6 @@ module _ (p : Options) where
   chunk_sound core header (re_config parameters) choices said h = re_config_sound p core parameters choices h
   chunk_sound core header (abort reflected causes) choices said h = abort_sound p core h
   chunk_sound core header (shutdown tsn) choices said h = shutdown_sound p core choices.tsn choices.is_acknowledged h
-  chunk_sound core header shutdown_ack choices said h = shutdown_ack_sound p core header h
+  chunk_sound core header shutdown_ack choices said h = shutdown_ack_sound p core header choices.following h
   chunk_sound core header (shutdown_complete reflected) choices said h = shutdown_complete_sound p core h
   chunk_sound core header (plain chunk) choices said h = plain_sound core choices.is_violation choices h

@@ -5,6 +5,7 @@ use Rattle.dcsctp_spec_lemmas.specs.types.declared.association.Held.{Held}
 use Rattle.dcsctp_spec_lemmas.specs.types.declared.options.Options.{Options}
 use Rattle.dcsctp_spec_lemmas.specs.spec.endpoint.Cause.{Cause}
 use Rattle.dcsctp_spec_lemmas.specs.spec.endpoint.Endpoint.{Core, closed, cookie_wait, cookie_echoed, open_in, OpenPhase, established, shutdown_pending, shutdown_sent, shutdown_received, shutdown_ack_sent}
+use Rattle.dcsctp_spec_lemmas.specs.spec.endpoint.Following.{Following}
 use Rattle.dcsctp_spec_lemmas.specs.spec.Soundness.{IsSoundCore}
 use Rattle.dcsctp_spec_lemmas.specs.spec.association.Acts.{hand_over_change}
 use Rattle.dcsctp_spec_lemmas.specs.spec.association.ShutdownChanges.{shutdown_step_change, shutdown_step_change_in, shutdown_call_change, abort_call_change, shutdown_again_change, abort_change, shutdown_change, shutdown_ack_change, shutdown_complete_change}
@@ -68,15 +69,15 @@ module _ (p : Options) where
   shutdown_sound (open_in shutdown_received my held) tsn is_acknowledged h = h
   shutdown_sound (open_in shutdown_ack_sent my held) tsn is_acknowledged h = h
 
-  pub shutdown_ack_sound : (core : Core) (header : ℕ) → IsSoundCore p core → IsSoundCore p (shutdown_ack_change core header).core
-  shutdown_ack_sound closed header h = h
-  shutdown_ack_sound (cookie_wait my) header h = h
-  shutdown_ack_sound (cookie_echoed my held cookie) header h = h
-  shutdown_ack_sound (open_in established my held) header h = h
-  shutdown_ack_sound (open_in shutdown_pending my held) header h = h
-  shutdown_ack_sound (open_in shutdown_sent my held) header h = tt
-  shutdown_ack_sound (open_in shutdown_received my held) header h = h
-  shutdown_ack_sound (open_in shutdown_ack_sent my held) header h = tt
+  pub shutdown_ack_sound : (core : Core) (header : ℕ) (following : Following) → IsSoundCore p core → IsSoundCore p (shutdown_ack_change core header following).core
+  shutdown_ack_sound closed header following h = h
+  shutdown_ack_sound (cookie_wait my) header following h = h
+  shutdown_ack_sound (cookie_echoed my held cookie) header following h = h
+  shutdown_ack_sound (open_in established my held) header following h = h
+  shutdown_ack_sound (open_in shutdown_pending my held) header following h = h
+  shutdown_ack_sound (open_in shutdown_sent my held) header following h = tt
+  shutdown_ack_sound (open_in shutdown_received my held) header following h = h
+  shutdown_ack_sound (open_in shutdown_ack_sent my held) header following h = tt
 
   pub shutdown_complete_sound : (core : Core) → IsSoundCore p core → IsSoundCore p (shutdown_complete_change core).core
   shutdown_complete_sound closed h = h

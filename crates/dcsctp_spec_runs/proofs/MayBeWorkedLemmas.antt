@@ -94,7 +94,7 @@ cut_may core packet is = ending_in (shutdown_acks_end packet.contents (where_cut
 
 -- Where a SHUTDOWN ACK is cut out, it is answered.
 answered_where : (options : Options) (core : Core) (header : ℕ) (choices : Choices) → admits_shutdown_ack core header ≡ shutdown_acks_alone
-    → chunk_change options core header shutdown_ack choices ≡ reflected_change core header
+    → chunk_change options core header shutdown_ack choices ≡ reflected_change core header choices.following
 answered_where options closed header choices is = refl
 answered_where options (cookie_wait my) header choices is = refl
 answered_where options (cookie_echoed my held cookie) header choices is = refl

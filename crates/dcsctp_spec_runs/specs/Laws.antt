@@ -105,14 +105,14 @@ pub record RefusedPacketAddsOneError : Type 0 where
       → IsPacket (wire_options e.options) packet bytes → admits e.core (packet_in packet) ≡ refused text
       → IsRefused e text turns
 
--- Whatever admission lets in is let in by `World`, too: a whole packet, or only its SHUTDOWN ACK chunks. Each of these is
--- answered, and the association is unchanged (RFC 9260, sections 8.4 and 8.5.1).
+-- Whatever admission lets in is let in by `World`, too: a whole packet, or only its SHUTDOWN ACK chunks. Each of these that is
+-- handled is answered, and the association is unchanged (RFC 9260, sections 8.4 and 8.5.1).
 pub record AdmittedPacketsMayBeWorked : Type 0 where
   pub whole : (core : Core) (packet : Packet) → admits core packet ≡ all_chunks → MayBeWorked core packet
   pub cut : (core : Core) (packet : Packet) → admits core packet ≡ shutdown_acks_alone
       → MayBeWorked core (record packet { contents = shutdown_acks_in packet.contents })
   pub answered : (options : Options) (core : Core) (packet : Packet) (choices : Choices) → admits core packet ≡ shutdown_acks_alone
-      → chunk_change options core packet.tag shutdown_ack choices ≡ reflected_change core packet.tag
+      → chunk_change options core packet.tag shutdown_ack choices ≡ reflected_change core packet.tag choices.following
 
 -- ---- the turns of an endpoint as turns of its association
 

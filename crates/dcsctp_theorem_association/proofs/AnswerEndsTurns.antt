@@ -9,6 +9,7 @@ use Rattle.dcsctp_spec_lemmas.specs.spec.endpoint.Cause.{Cause, missing_mandator
 use Rattle.dcsctp_spec_lemmas.specs.spec.Reconfiguration.{ResetParameter, RequestedReset}
 use Rattle.dcsctp_spec_lemmas.specs.spec.Packet.{Introduction, Content, init, init_ack, cookie_echo, cookie_ack, re_config, abort, shutdown, shutdown_ack, shutdown_complete, plain}
 use Rattle.dcsctp_spec_lemmas.specs.spec.endpoint.Endpoint.{Core, closed, cookie_wait, cookie_echoed, open_in, OpenPhase, established, shutdown_pending, shutdown_sent, shutdown_received, shutdown_ack_sent}
+use Rattle.dcsctp_spec_lemmas.specs.spec.endpoint.Following.{Following}
 use Rattle.dcsctp_spec_lemmas.specs.spec.association.Effect.{Effect, completes, fails, Change}
 use Rattle.dcsctp_spec_lemmas.specs.spec.association.Choices.{Filling, Choices}
 use Rattle.dcsctp_spec_lemmas.specs.spec.association.FlushChanges.{further_packets, reset_request, flush}
@@ -155,10 +156,10 @@ shutdown_ends (open_in shutdown_sent my held) tsn is_acknowledged = (tt, tt)
 shutdown_ends (open_in shutdown_ack_sent my held) tsn is_acknowledged = (tt, tt)
 shutdown_ends core tsn is_acknowledged = tt
 
-shutdown_ack_ends : (core : Core) (header : ℕ) → EndsNone (shutdown_ack_change core header).effects
-shutdown_ack_ends (open_in shutdown_sent my held) header = (tt, (tt, tt))
-shutdown_ack_ends (open_in shutdown_ack_sent my held) header = (tt, (tt, tt))
-shutdown_ack_ends core header = (tt, tt)
+shutdown_ack_ends : (core : Core) (header : ℕ) (following : Following) → EndsNone (shutdown_ack_change core header following).effects
+shutdown_ack_ends (open_in shutdown_sent my held) header following = (tt, (tt, tt))
+shutdown_ack_ends (open_in shutdown_ack_sent my held) header following = (tt, (tt, tt))
+shutdown_ack_ends core header following = (tt, tt)
 
 shutdown_complete_ends : (core : Core) → EndsNone (shutdown_complete_change core).effects
 shutdown_complete_ends (open_in shutdown_ack_sent my held) = (tt, tt)
@@ -202,7 +203,7 @@ chunk_answers options core header cookie_ack choices = cookie_ack_ends core choi
 chunk_answers options core header (re_config parameters) choices = re_config_answers core parameters choices
 chunk_answers options core header (abort reflected causes) choices = abort_ends core
 chunk_answers options core header (shutdown cumulative_tsn) choices = shutdown_ends core choices.tsn choices.is_acknowledged
-chunk_answers options core header shutdown_ack choices = shutdown_ack_ends core header
+chunk_answers options core header shutdown_ack choices = shutdown_ack_ends core header choices.following
 chunk_answers options core header (shutdown_complete reflected) choices = shutdown_complete_ends core
 chunk_answers options core header (plain chunk) choices = other_ends core choices.is_violation choices
 

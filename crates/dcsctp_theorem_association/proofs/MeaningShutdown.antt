@@ -5,6 +5,7 @@ use Rattle.dcsctp_spec_lemmas.specs.types.declared.association.Held.{Held}
 use Rattle.dcsctp_spec_lemmas.specs.spec.endpoint.Cause.{Cause}
 use Rattle.dcsctp_spec_lemmas.specs.spec.Packet.{abort}
 use Rattle.dcsctp_spec_lemmas.specs.spec.endpoint.Endpoint.{Core, cookie_wait, cookie_echoed, open_in, OpenPhase, established, shutdown_pending, shutdown_sent, shutdown_received, shutdown_ack_sent}
+use Rattle.dcsctp_spec_lemmas.specs.spec.endpoint.Following.{Following}
 use Rattle.dcsctp_spec_lemmas.specs.spec.association.Effect.{Change, link_of, link_in}
 use Rattle.dcsctp_spec_lemmas.specs.spec.association.ShutdownChanges.{shutdown_step_change_in, shutdown_step_change, shutdown_call_change, abort_call_change, shutdown_again_change, abort_change, shutdown_change, shutdown_ack_change, shutdown_complete_change}
 use Rattle.dcsctp_spec_lemmas.specs.spec.association.Acts.{hand_over_change}
@@ -73,10 +74,10 @@ shutdown_meant (open_in shutdown_sent my held) tsn is_acknowledged = same_meant 
 shutdown_meant (open_in shutdown_ack_sent my held) tsn is_acknowledged = same_meant refl (tt, tt)
 shutdown_meant core tsn is_acknowledged = same_meant refl tt
 
-pub shutdown_ack_meant : (core : Core) (header : ℕ) → Meant core (shutdown_ack_change core header)
-shutdown_ack_meant (open_in shutdown_sent my held) header = ended_meant (tt, (refl, tt))
-shutdown_ack_meant (open_in shutdown_ack_sent my held) header = ended_meant (tt, (refl, tt))
-shutdown_ack_meant core header = same_meant refl (tt, tt)
+pub shutdown_ack_meant : (core : Core) (header : ℕ) (following : Following) → Meant core (shutdown_ack_change core header following)
+shutdown_ack_meant (open_in shutdown_sent my held) header following = ended_meant (tt, (refl, tt))
+shutdown_ack_meant (open_in shutdown_ack_sent my held) header following = ended_meant (tt, (refl, tt))
+shutdown_ack_meant core header following = same_meant refl (tt, tt)
 
 pub shutdown_complete_meant : (core : Core) → Meant core (shutdown_complete_change core)
 shutdown_complete_meant (open_in shutdown_ack_sent my held) = ended_meant (refl, tt)

@@ -194,7 +194,7 @@ chunk_meant options core header cookie_ack choices = cookie_ack_meant core choic
 chunk_meant options core header (re_config parameters) choices = re_config_meant core parameters choices
 chunk_meant options core header (abort reflected causes) choices = abort_meant core
 chunk_meant options core header (shutdown cumulative_tsn) choices = shutdown_meant core choices.tsn choices.is_acknowledged
-chunk_meant options core header shutdown_ack choices = shutdown_ack_meant core header
+chunk_meant options core header shutdown_ack choices = shutdown_ack_meant core header choices.following
 chunk_meant options core header (shutdown_complete reflected) choices = shutdown_complete_meant core
 chunk_meant options core header (plain chunk) choices = other_meant core choices.is_violation choices
 

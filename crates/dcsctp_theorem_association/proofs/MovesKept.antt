@@ -109,7 +109,7 @@ front_kept law options their_offer mine theirs core header (abort reflected caus
 front_kept law options their_offer mine theirs core header (shutdown tsn) behind choices my_tags their_tags h delivered is own makes =
     shutdown_kept (offer_of options) their_offer mine theirs core choices.tsn choices.is_acknowledged h
 front_kept law options their_offer mine theirs core header shutdown_ack behind choices my_tags their_tags h delivered is own makes =
-    ack_kept (offer_of options) their_offer mine theirs core header h
+    ack_kept (offer_of options) their_offer mine theirs core header choices.following h
 front_kept law options their_offer mine theirs core header (shutdown_complete reflected) behind choices my_tags their_tags h delivered is own makes =
     complete_kept (offer_of options) their_offer mine theirs core h
 front_kept law options their_offer mine theirs core header (plain chunk) behind choices my_tags their_tags h delivered is own makes =
@@ -181,7 +181,7 @@ acks_true_after their_offer side theirs header [] (change ∷ changes) h turns =
 acks_true_after their_offer side theirs header (shutdown_ack ∷ contents) [] h turns = h
 acks_true_after their_offer side theirs header (shutdown_ack ∷ contents) (change ∷ changes) h turns =
     let kept : Kept (offer_of side.options) their_offer side.past theirs change = subst (Kept (offer_of side.options) their_offer side.past theirs) (sym turns.0.2)
-    (ack_kept (offer_of side.options) their_offer side.past theirs side.core header h.core) in
+    (ack_kept (offer_of side.options) their_offer side.past theirs side.core header turns.0.0.following h.core) in
     acks_true_after their_offer (after_change side change) theirs header contents changes (true_after their_offer side theirs change h kept) turns.1
 acks_true_after their_offer side theirs header (init introduction ∷ contents) changes h turns = acks_true_after their_offer side theirs header contents changes h turns
 acks_true_after their_offer side theirs header (init_ack introduction cookie ∷ contents) changes h turns = acks_true_after their_offer side theirs header contents changes h turns

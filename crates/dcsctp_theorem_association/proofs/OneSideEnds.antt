@@ -174,10 +174,10 @@ shutdown_ends_once (open_in shutdown_pending my held) tsn is_acknowledged = step
 shutdown_ends_once (open_in shutdown_sent my held) tsn is_acknowledged = stays_open refl
 shutdown_ends_once core tsn is_acknowledged = stays refl
 
-shutdown_ack_ends_once : (core : Core) (header : ℕ) → OneEnd core (shutdown_ack_change core header)
-shutdown_ack_ends_once (open_in shutdown_sent my held) header = ends_open refl
-shutdown_ack_ends_once (open_in shutdown_ack_sent my held) header = ends_open refl
-shutdown_ack_ends_once core header = stays refl
+shutdown_ack_ends_once : (core : Core) (header : ℕ) (following : Following) → OneEnd core (shutdown_ack_change core header following)
+shutdown_ack_ends_once (open_in shutdown_sent my held) header following = ends_open refl
+shutdown_ack_ends_once (open_in shutdown_ack_sent my held) header following = ends_open refl
+shutdown_ack_ends_once core header following = stays refl
 
 shutdown_complete_ends_once : (core : Core) → OneEnd core (shutdown_complete_change core)
 shutdown_complete_ends_once (open_in shutdown_ack_sent my held) = ends_open refl
@@ -227,7 +227,7 @@ chunk_ends_once options core header cookie_ack choices = cookie_ack_ends_once co
 chunk_ends_once options core header (re_config parameters) choices = re_config_ends_once core parameters choices
 chunk_ends_once options core header (abort reflected causes) choices = abort_ends_once core
 chunk_ends_once options core header (shutdown cumulative_tsn) choices = shutdown_ends_once core choices.tsn choices.is_acknowledged
-chunk_ends_once options core header shutdown_ack choices = shutdown_ack_ends_once core header
+chunk_ends_once options core header shutdown_ack choices = shutdown_ack_ends_once core header choices.following
 chunk_ends_once options core header (shutdown_complete reflected) choices = shutdown_complete_ends_once core
 chunk_ends_once options core header (plain chunk) choices = other_ends_once core choices.is_violation choices
 

@@ -86,10 +86,10 @@ shutdown_keeps (open_in shutdown_sent my held) tsn is_acknowledged past good = g
 shutdown_keeps (open_in shutdown_ack_sent my held) tsn is_acknowledged past good = good-sends (open_in shutdown_ack_sent my held) _ past good
 shutdown_keeps core tsn is_acknowledged past good = good
 
-shutdown_ack_keeps : (core : Core) (header : ℕ) → Keeps core (shutdown_ack_change core header)
-shutdown_ack_keeps (open_in shutdown_sent my held) header past good = good-ended_alone (open_in shutdown_sent my held) true held.peer.tag (shutdown_complete false) past good
-shutdown_ack_keeps (open_in shutdown_ack_sent my held) header past good = good-ended_alone (open_in shutdown_ack_sent my held) true held.peer.tag (shutdown_complete false) past good
-shutdown_ack_keeps core header past good = good-emitted core header (shutdown_complete true ∷ []) past good
+shutdown_ack_keeps : (core : Core) (header : ℕ) (following : Following) → Keeps core (shutdown_ack_change core header following)
+shutdown_ack_keeps (open_in shutdown_sent my held) header following past good = good-ended_alone (open_in shutdown_sent my held) true held.peer.tag (shutdown_complete false) past good
+shutdown_ack_keeps (open_in shutdown_ack_sent my held) header following past good = good-ended_alone (open_in shutdown_ack_sent my held) true held.peer.tag (shutdown_complete false) past good
+shutdown_ack_keeps core header following past good = good-emitted core header (shutdown_complete true ∷ []) past good
 
 shutdown_complete_keeps : (core : Core) → Keeps core (shutdown_complete_change core)
 shutdown_complete_keeps (open_in shutdown_ack_sent my held) past good = good-ends (open_in shutdown_ack_sent my held) past good
@@ -136,7 +136,7 @@ chunk_keeps options core header cookie_ack choices past good = cookie_ack_keeps 
 chunk_keeps options core header (re_config parameters) choices past good = re_config_keeps core parameters choices past good
 chunk_keeps options core header (abort reflected causes) choices past good = abort_keeps core past good
 chunk_keeps options core header (shutdown cumulative_tsn) choices past good = shutdown_keeps core choices.tsn choices.is_acknowledged past good
-chunk_keeps options core header shutdown_ack choices past good = shutdown_ack_keeps core header past good
+chunk_keeps options core header shutdown_ack choices past good = shutdown_ack_keeps core header choices.following past good
 chunk_keeps options core header (shutdown_complete reflected) choices past good = shutdown_complete_keeps core past good
 chunk_keeps options core header (plain chunk) choices past good = other_keeps core choices.is_violation choices past good
 

@@ -6,7 +6,7 @@ use Rattle.dcsctp_spec_lemmas.specs.types.Offer.{Offer}
 use Rattle.dcsctp_spec_lemmas.specs.spec.endpoint.Cause.{Cause}
 use Rattle.dcsctp_spec_lemmas.specs.spec.Packet.{Content, abort, shutdown, shutdown_ack, shutdown_complete}
 use Rattle.dcsctp_spec_lemmas.specs.spec.endpoint.Endpoint.{Core, closed, cookie_wait, cookie_echoed, open_in, OpenPhase, established, shutdown_pending, shutdown_sent, shutdown_received, shutdown_ack_sent}
-use Rattle.dcsctp_spec_lemmas.specs.spec.endpoint.Following.{next_chunk}
+use Rattle.dcsctp_spec_lemmas.specs.spec.endpoint.Following.{Following, next_chunk}
 use Rattle.dcsctp_spec_lemmas.specs.spec.association.Effect.{Effect, emitted}
 use Rattle.dcsctp_spec_lemmas.specs.spec.association.ShutdownChanges.{sending_change, shutdown_step_change_in, shutdown_step_change, shutdown_call_change_in, shutdown_call_change, abort_call_change, shutdown_again_change_in, shutdown_again_change, abort_change, shutdown_change_in, shutdown_change, reflected_change, shutdown_ack_change_in, shutdown_ack_change, shutdown_complete_change_in, shutdown_complete_change}
 use Rattle.dcsctp_theorem_association.proofs.Facts.{TrueContents, PeerFacts, TrueCore}
@@ -55,17 +55,17 @@ change_in_kept my_offer their_offer mine theirs shutdown_sent my held tsn is_ack
 change_in_kept my_offer their_offer mine theirs shutdown_received my held tsn is_acknowledged h = unchanged_kept my_offer their_offer mine theirs (open_in shutdown_received my held) h
 change_in_kept my_offer their_offer mine theirs shutdown_ack_sent my held tsn is_acknowledged h = in_kept my_offer their_offer mine theirs shutdown_ack_sent my held (shutdown_ack ∷ []) h (tt, tt)
 
-reflects_kept : (my_offer their_offer : Offer) (mine theirs : List Effect) (core : Core) (header : ℕ) → TrueCore my_offer their_offer mine theirs core
-    → Kept my_offer their_offer mine theirs (reflected_change core header)
-reflects_kept my_offer their_offer mine theirs core header h = stays_kept my_offer their_offer mine theirs core (emitted header (shutdown_complete true ∷ [])) next_chunk h ((tt, tt), tt) (tt, tt)
+reflects_kept : (my_offer their_offer : Offer) (mine theirs : List Effect) (core : Core) (header : ℕ) (following : Following) → TrueCore my_offer their_offer mine theirs core
+    → Kept my_offer their_offer mine theirs (reflected_change core header following)
+reflects_kept my_offer their_offer mine theirs core header following h = stays_kept my_offer their_offer mine theirs core (emitted header (shutdown_complete true ∷ [])) following h ((tt, tt), tt) (tt, tt)
 
-ack_in_kept : (my_offer their_offer : Offer) (mine theirs : List Effect) (phase : OpenPhase) (my : Pair) (held : Held) (header : ℕ)
-    → PeerFacts my_offer their_offer mine theirs my held → Kept my_offer their_offer mine theirs (shutdown_ack_change_in phase my held header)
-ack_in_kept my_offer their_offer mine theirs established my held header h = reflects_kept my_offer their_offer mine theirs (open_in established my held) header h
-ack_in_kept my_offer their_offer mine theirs shutdown_pending my held header h = reflects_kept my_offer their_offer mine theirs (open_in shutdown_pending my held) header h
-ack_in_kept my_offer their_offer mine theirs shutdown_sent my held header h = ended_kept my_offer their_offer mine theirs (emitted held.peer.tag (shutdown_complete false ∷ [])) ((tt, tt), tt)
-ack_in_kept my_offer their_offer mine theirs shutdown_received my held header h = reflects_kept my_offer their_offer mine theirs (open_in shutdown_received my held) header h
-ack_in_kept my_offer their_offer mine theirs shutdown_ack_sent my held header h = ended_kept my_offer their_offer mine theirs (emitted held.peer.tag (shutdown_complete false ∷ [])) ((tt, tt), tt)
+ack_in_kept : (my_offer their_offer : Offer) (mine theirs : List Effect) (phase : OpenPhase) (my : Pair) (held : Held) (header : ℕ) (following : Following)
+    → PeerFacts my_offer their_offer mine theirs my held → Kept my_offer their_offer mine theirs (shutdown_ack_change_in phase my held header following)
+ack_in_kept my_offer their_offer mine theirs established my held header following h = reflects_kept my_offer their_offer mine theirs (open_in established my held) header following h
+ack_in_kept my_offer their_offer mine theirs shutdown_pending my held header following h = reflects_kept my_offer their_offer mine theirs (open_in shutdown_pending my held) header following h
+ack_in_kept my_offer their_offer mine theirs shutdown_sent my held header following h = ended_kept my_offer their_offer mine theirs (emitted held.peer.tag (shutdown_complete false ∷ [])) ((tt, tt), tt)
+ack_in_kept my_offer their_offer mine theirs shutdown_received my held header following h = reflects_kept my_offer their_offer mine theirs (open_in shutdown_received my held) header following h
+ack_in_kept my_offer their_offer mine theirs shutdown_ack_sent my held header following h = ended_kept my_offer their_offer mine theirs (emitted held.peer.tag (shutdown_complete false ∷ [])) ((tt, tt), tt)
 
 complete_in_kept : (my_offer their_offer : Offer) (mine theirs : List Effect) (phase : OpenPhase) (my : Pair) (held : Held)
     → PeerFacts my_offer their_offer mine theirs my held → Kept my_offer their_offer mine theirs (shutdown_complete_change_in phase my held)
@@ -121,12 +121,12 @@ shutdown_kept my_offer their_offer mine theirs (cookie_wait my) tsn is_acknowled
 shutdown_kept my_offer their_offer mine theirs (cookie_echoed my held bytes) tsn is_acknowledged h = unchanged_kept my_offer their_offer mine theirs (cookie_echoed my held bytes) h
 shutdown_kept my_offer their_offer mine theirs (open_in phase my held) tsn is_acknowledged h = change_in_kept my_offer their_offer mine theirs phase my held tsn is_acknowledged h
 
-pub ack_kept : (my_offer their_offer : Offer) (mine theirs : List Effect) (core : Core) (header : ℕ)
-    → TrueCore my_offer their_offer mine theirs core → Kept my_offer their_offer mine theirs (shutdown_ack_change core header)
-ack_kept my_offer their_offer mine theirs closed header h = reflects_kept my_offer their_offer mine theirs closed header h
-ack_kept my_offer their_offer mine theirs (cookie_wait my) header h = reflects_kept my_offer their_offer mine theirs (cookie_wait my) header h
-ack_kept my_offer their_offer mine theirs (cookie_echoed my held bytes) header h = reflects_kept my_offer their_offer mine theirs (cookie_echoed my held bytes) header h
-ack_kept my_offer their_offer mine theirs (open_in phase my held) header h = ack_in_kept my_offer their_offer mine theirs phase my held header h
+pub ack_kept : (my_offer their_offer : Offer) (mine theirs : List Effect) (core : Core) (header : ℕ) (following : Following)
+    → TrueCore my_offer their_offer mine theirs core → Kept my_offer their_offer mine theirs (shutdown_ack_change core header following)
+ack_kept my_offer their_offer mine theirs closed header following h = reflects_kept my_offer their_offer mine theirs closed header following h
+ack_kept my_offer their_offer mine theirs (cookie_wait my) header following h = reflects_kept my_offer their_offer mine theirs (cookie_wait my) header following h
+ack_kept my_offer their_offer mine theirs (cookie_echoed my held bytes) header following h = reflects_kept my_offer their_offer mine theirs (cookie_echoed my held bytes) header following h
+ack_kept my_offer their_offer mine theirs (open_in phase my held) header following h = ack_in_kept my_offer their_offer mine theirs phase my held header following h
 
 pub complete_kept : (my_offer their_offer : Offer) (mine theirs : List Effect) (core : Core)
     → TrueCore my_offer their_offer mine theirs core → Kept my_offer their_offer mine theirs (shutdown_complete_change core)

@@ -38,7 +38,7 @@ use Rattle.dcsctp_theorem_sockets.proofs.NewAssociations.{maintain_none}
 use Rattle.dcsctp_theorem_sockets.proofs.NoHolding.{HoldsNone}
 use Rattle.dcsctp_theorem_sockets.proofs.SocketsAlone.{MoveLaws, Moves, it_rests, it_moves, of_moves}
 use Rattle.dcsctp_theorem_cookies.specs.Cookies.{BearCookie, GaveCookie, EchoesGiven, AllEchoGiven, CookiesWereGiven, GivenThroughout}
-use Rattle.dcsctp_theorem_cookies.specs.Ages.{MakesFrom, GaveInTime, IsInTime, AllInTime, AgeThroughout, CookiesAge}
+use Rattle.dcsctp_theorem_cookies.specs.Ages.{GaveInTime, AllInTime, AgeThroughout, CookiesAge}
 use Rattle.dcsctp_theorem_cookies.proofs.CookieRules.{Rules, ContentsKeep, CoreKeeps, TakenKeeps}
 use Rattle.dcsctp_theorem_cookies.proofs.TurnsKeep.{EmissionKeeps, InputKeeps, input_keeps}
 

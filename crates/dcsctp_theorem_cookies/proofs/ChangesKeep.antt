@@ -8,6 +8,7 @@ use Rattle.dcsctp_spec_lemmas.specs.spec.endpoint.Cause.{Cause, causes_of}
 use Rattle.dcsctp_spec_lemmas.specs.spec.Cookie.{Cookie, cookie_at}
 use Rattle.dcsctp_spec_lemmas.specs.spec.Packet.{Introduction, Content, init, init_ack, cookie_echo, cookie_ack, re_config, abort, shutdown, shutdown_ack, shutdown_complete, plain}
 use Rattle.dcsctp_spec_lemmas.specs.spec.endpoint.Endpoint.{Core, closed, cookie_wait, cookie_echoed, open_in, OpenPhase, established, shutdown_pending, shutdown_sent, shutdown_received, shutdown_ack_sent}
+use Rattle.dcsctp_spec_lemmas.specs.spec.endpoint.Following.{Following}
 use Rattle.dcsctp_spec_lemmas.specs.spec.association.Effect.{Effect, ends, Change, ended}
 use Rattle.dcsctp_spec_lemmas.specs.spec.association.Choices.{Filling, Choices}
 use Rattle.dcsctp_spec_lemmas.specs.spec.association.HandshakeChanges.{introduction_of, answering_introduction, connect_change, sends_init_ack, init_change, echo_change, held_by_init_ack, init_ack_change, cookie_ack_change, t1_again_change, t1_gives_up_change}
@@ -135,10 +136,10 @@ module _ (rules : Rules) where
   shutdown_keeps (open_in shutdown_ack_sent my held) tsn is_acknowledged h = record { effects = ((tt, tt), tt); core = tt }
   shutdown_keeps core tsn is_acknowledged h = unchanged_keeps rules core h
 
-  shutdown_ack_keeps : (core : Core) (header : ℕ) → CoreKeeps rules core → ChangeKeeps rules (shutdown_ack_change core header)
-  shutdown_ack_keeps (open_in shutdown_sent my held) header h = record { effects = ((tt, tt), (tt, tt)); core = tt }
-  shutdown_ack_keeps (open_in shutdown_ack_sent my held) header h = record { effects = ((tt, tt), (tt, tt)); core = tt }
-  shutdown_ack_keeps core header h = record { effects = ((tt, tt), tt); core = h }
+  shutdown_ack_keeps : (core : Core) (header : ℕ) (following : Following) → CoreKeeps rules core → ChangeKeeps rules (shutdown_ack_change core header following)
+  shutdown_ack_keeps (open_in shutdown_sent my held) header following h = record { effects = ((tt, tt), (tt, tt)); core = tt }
+  shutdown_ack_keeps (open_in shutdown_ack_sent my held) header following h = record { effects = ((tt, tt), (tt, tt)); core = tt }
+  shutdown_ack_keeps core header following h = record { effects = ((tt, tt), tt); core = h }
 
   shutdown_complete_keeps : (core : Core) → CoreKeeps rules core → ChangeKeeps rules (shutdown_complete_change core)
   shutdown_complete_keeps (open_in shutdown_ack_sent my held) h = ended_keeps [] tt
@@ -191,6 +192,6 @@ module _ (rules : Rules) where
   chunk_keeps options core header (re_config parameters) choices h k made = re_config_keeps rules core parameters choices h
   chunk_keeps options core header (abort reflected causes) choices h k made = abort_keeps core h
   chunk_keeps options core header (shutdown tsn) choices h k made = shutdown_keeps core choices.tsn choices.is_acknowledged h
-  chunk_keeps options core header shutdown_ack choices h k made = shutdown_ack_keeps core header h
+  chunk_keeps options core header shutdown_ack choices h k made = shutdown_ack_keeps core header choices.following h
   chunk_keeps options core header (shutdown_complete reflected) choices h k made = shutdown_complete_keeps core h
   chunk_keeps options core header (plain chunk) choices h k made = plain_change_keeps core choices.is_violation choices h

@@ -1,11 +1,11 @@
 -- How many packets the turns of shutdown send.
-use Rattle.std.proofs.Common.{◌≡◌, ℕ, Bool, true, false, sym, subst}
+use Rattle.std.proofs.Common.{◌≡◌, ℕ, Bool, true, false, not, ◌&&◌, sym, subst, ap}
 use Rattle.dcsctp_spec_lemmas.specs.types.declared.association.Pair.{Pair}
 use Rattle.dcsctp_spec_lemmas.specs.types.declared.association.Held.{Held}
 use Rattle.dcsctp_spec_lemmas.specs.spec.endpoint.Endpoint.{Endpoint, Core, closed, cookie_wait, cookie_echoed, open_in, OpenPhase, established, shutdown_pending, shutdown_sent, shutdown_received, shutdown_ack_sent}
 use Rattle.dcsctp_spec_lemmas.specs.spec.endpoint.Outcome.{Outcome}
 use Rattle.dcsctp_spec_lemmas.specs.spec.endpoint.Turn.{BeginTurn}
-use Rattle.dcsctp_spec_lemmas.specs.spec.endpoint.ShutdownOutcomes.{phase_at, is_all_acknowledged, step_by, step_outcome, t1_stopped, shut_down_outcome, shutdown_outcome, shutdown_ack_outcome, shutdown_complete_outcome, t2_goes_on, sent_again, t2_again_outcome}
+use Rattle.dcsctp_spec_lemmas.specs.spec.endpoint.ShutdownOutcomes.{phase_at, is_all_acknowledged, waits_for_queue, may_go_on, step_by, step_outcome, t1_stopped, shut_down_outcome, shutdown_outcome, shutdown_ack_outcome, shutdown_complete_outcome, t2_goes_on, sent_again, t2_again_outcome}
 use Rattle.dcsctp_theorem_sockets.proofs.Bursts.{Few, none, one, HasPeer}
 
 -- ---- a step of it
@@ -22,7 +22,7 @@ pub step_few : (e : Endpoint) (core : Core) → Few 1 (step_outcome e core)
 step_few e closed = none 1
 step_few e (cookie_wait my) = none 1
 step_few e (cookie_echoed my held cookie) = none 1
-step_few e (open_in phase my held) = step_by_few (is_all_acknowledged e.below.transfer) e phase my held
+step_few e (open_in phase my held) = step_by_few (may_go_on e) e phase my held
 
 -- It waits until all is acknowledged.
 waits_by : (b : Bool) (e : Endpoint) (phase : OpenPhase) (my : Pair) (held : Held) → b ≡ false → Few 0 (step_by b e phase my held)
@@ -33,7 +33,7 @@ pub step_waits : (e : Endpoint) (core : Core) → is_all_acknowledged e.below.tr
 step_waits e closed is = none 0
 step_waits e (cookie_wait my) is = none 0
 step_waits e (cookie_echoed my held cookie) is = none 0
-step_waits e (open_in phase my held) is = waits_by (is_all_acknowledged e.below.transfer) e phase my held is
+step_waits e (open_in phase my held) is = waits_by (may_go_on e) e phase my held (ap (λ (b : Bool). b && not (waits_for_queue e)) is)
 
 -- The peer stays known.
 step_by_peer : (b : Bool) (e : Endpoint) (phase : OpenPhase) (my : Pair) (held : Held) → HasPeer e.core → HasPeer (step_by b e phase my held).after.core
@@ -48,11 +48,11 @@ pub step_peer : (e : Endpoint) (core : Core) → HasPeer e.core → HasPeer (ste
 step_peer e closed peer = peer
 step_peer e (cookie_wait my) peer = peer
 step_peer e (cookie_echoed my held cookie) peer = peer
-step_peer e (open_in phase my held) peer = step_by_peer (is_all_acknowledged e.below.transfer) e phase my held peer
+step_peer e (open_in phase my held) peer = step_by_peer (may_go_on e) e phase my held peer
 
 -- from another phase
-step_from_few : (e : Endpoint) (phase : OpenPhase) (my : Pair) (held : Held) → Few 1 (step_by (is_all_acknowledged e.below.transfer) (phase_at e phase my held) phase my held)
-step_from_few e phase my held = step_by_few (is_all_acknowledged e.below.transfer) (phase_at e phase my held) phase my held
+step_from_few : (e : Endpoint) (phase : OpenPhase) (my : Pair) (held : Held) → Few 1 (step_by (may_go_on e) (phase_at e phase my held) phase my held)
+step_from_few e phase my held = step_by_few (may_go_on e) (phase_at e phase my held) phase my held
 
 -- ---- the user's call
 

@@ -9,8 +9,7 @@ use Rattle.dcsctp_spec_lemmas.specs.types.declared.word.Word.{Word}
 use Rattle.dcsctp_spec_lemmas.specs.types.Settings.{IsValid, FitsOptions}
 use Rattle.dcsctp_spec_lemmas.specs.spec.endpoint.Event.{Event, sent}
 use Rattle.dcsctp_spec_lemmas.specs.spec.Packet.{Plain, unworked, plain, plain_out, Content, Emission, content_in}
-use Rattle.dcsctp_spec_lemmas.specs.spec.queues.Reassembly.{remaining_bytes}
-use Rattle.dcsctp_spec_lemmas.specs.spec.queues.Transfer.{Transfer, is_idle}
+use Rattle.dcsctp_spec_lemmas.specs.spec.queues.Transfer.{Transfer, window_told, is_idle}
 use Rattle.dcsctp_spec_lemmas.specs.spec.queues.Tracker.{TrackerState}
 use Rattle.dcsctp_spec_runs.proofs.TrackerLemmas.{sack_fits}
 use Rattle.dcsctp_spec_lemmas.specs.spec.endpoint.Endpoint.{Endpoint, Core, closed, cookie_wait, cookie_echoed, open_in, held_in}
@@ -80,7 +79,7 @@ pub where_fits_sendable : (room : ℕ) (chunk : Plain) → Sendable (plain chunk
 where_fits_sendable room chunk good = one_sendable (nat_le (length (chunk_bytes (plain_out chunk))) room) chunk good
 
 pub own_sack_sendable : (transfer : Transfer) → Sendable (plain (own_sack transfer))
-own_sack_sendable transfer = record { fits = sack_fits transfer.tracker (remaining_bytes transfer.reassembly); reads = refl; said = tt }
+own_sack_sendable transfer = record { fits = sack_fits transfer.tracker (window_told transfer); reads = refl; said = tt }
 
 sacks_sendable : (wants : Bool) (room : ℕ) (transfer : Transfer) (after : TrackerState) (chunks : List Plain) → Acknowledges wants room transfer after chunks
     → AllByRecursion Sendable (plain_contents chunks)

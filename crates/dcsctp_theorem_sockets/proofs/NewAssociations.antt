@@ -154,7 +154,7 @@ open_chunk_anew options phase my held header cookie_ack choices = none_anew (ope
 open_chunk_anew options phase my held header (re_config parameters) choices = none_anew (open_in phase my held) _ (none-reset my held parameters choices)
 open_chunk_anew options phase my held header (abort reflected causes) choices = none_anew (open_in phase my held) (ends ∷ []) (tt, tt)
 open_chunk_anew options phase my held header (shutdown tsn) choices = none_anew (open_in phase my held) _ (shutdown_none phase my held choices.tsn choices.is_acknowledged)
-open_chunk_anew options phase my held header shutdown_ack choices = none_anew (open_in phase my held) _ (shutdown_ack_none phase my held header)
+open_chunk_anew options phase my held header shutdown_ack choices = none_anew (open_in phase my held) _ (shutdown_ack_none phase my held header choices.following)
 open_chunk_anew options phase my held header (shutdown_complete reflected) choices = none_anew (open_in phase my held) _ (complete_none phase my held)
 open_chunk_anew options phase my held header (plain chunk) choices = none_anew (open_in phase my held) _ (plain_none phase my held choices.is_violation choices)
 

@@ -6,6 +6,7 @@ use Rattle.dcsctp_spec_lemmas.specs.types.declared.options.Options.{Options}
 use Rattle.dcsctp_spec_lemmas.specs.spec.endpoint.Cause.{Cause, causes_of}
 use Rattle.dcsctp_spec_lemmas.specs.spec.Packet.{Introduction, cookie_echo, abort}
 use Rattle.dcsctp_spec_lemmas.specs.spec.endpoint.Endpoint.{Core, closed, cookie_wait, cookie_echoed, open_in, OpenPhase, established, shutdown_pending, shutdown_sent, shutdown_received, shutdown_ack_sent}
+use Rattle.dcsctp_spec_lemmas.specs.spec.endpoint.Following.{Following}
 use Rattle.dcsctp_spec_lemmas.specs.spec.association.Effect.{Effect, ends, Change, emitted_alone}
 use Rattle.dcsctp_spec_lemmas.specs.spec.association.Choices.{Filling, Choices}
 use Rattle.dcsctp_spec_lemmas.specs.spec.association.HandshakeChanges.{init_change_where_open, echo_change}
@@ -75,10 +76,10 @@ shutdown_none shutdown_pending my held tsn is_acknowledged = step_none shutdown_
 shutdown_none shutdown_received my held tsn is_acknowledged = tt
 shutdown_none phase my held tsn is_acknowledged = (tt, tt)
 
-pub shutdown_ack_none : (phase : OpenPhase) (my : Pair) (held : Held) (header : ℕ) → HoldsNone (shutdown_ack_change_in phase my held header).effects
-shutdown_ack_none shutdown_sent my held header = (tt, (tt, tt))
-shutdown_ack_none shutdown_ack_sent my held header = (tt, (tt, tt))
-shutdown_ack_none phase my held header = (tt, tt)
+pub shutdown_ack_none : (phase : OpenPhase) (my : Pair) (held : Held) (header : ℕ) (following : Following) → HoldsNone (shutdown_ack_change_in phase my held header following).effects
+shutdown_ack_none shutdown_sent my held header following = (tt, (tt, tt))
+shutdown_ack_none shutdown_ack_sent my held header following = (tt, (tt, tt))
+shutdown_ack_none phase my held header following = (tt, tt)
 
 pub complete_none : (phase : OpenPhase) (my : Pair) (held : Held) → HoldsNone (shutdown_complete_change_in phase my held).effects
 complete_none shutdown_ack_sent my held = (tt, tt)

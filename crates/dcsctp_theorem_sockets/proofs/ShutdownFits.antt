@@ -11,7 +11,7 @@ use Rattle.dcsctp_spec_lemmas.specs.spec.endpoint.Outcome.{Outcome, sends, to_pe
 use Rattle.dcsctp_spec_lemmas.specs.spec.endpoint.Turn.{BeginTurn}
 use Rattle.dcsctp_spec_lemmas.specs.spec.endpoint.CookieEchoOutcomes.{refused_restart_outcome}
 use Rattle.dcsctp_spec_lemmas.specs.spec.endpoint.EndOutcomes.{reflected_outcome}
-use Rattle.dcsctp_spec_lemmas.specs.spec.endpoint.ShutdownOutcomes.{received_tsn, phase_at, t2_begun, t2_goes_on, is_all_acknowledged, step_by, step_outcome, t1_stopped, shut_down_outcome, shutdown_outcome, shutdown_ack_outcome, shutdown_complete_outcome, sent_again, t2_again_outcome, shutdown_repeated}
+use Rattle.dcsctp_spec_lemmas.specs.spec.endpoint.ShutdownOutcomes.{received_tsn, phase_at, t2_begun, t2_goes_on, may_go_on, step_by, step_outcome, t1_stopped, shut_down_outcome, shutdown_outcome, shutdown_ack_outcome, shutdown_complete_outcome, sent_again, t2_again_outcome, shutdown_repeated}
 use Rattle.dcsctp_spec_runs.specs.Fitting.{FitsHeld, FitsCore, FitsEndpoint, Sendable, TurnFits}
 use Rattle.dcsctp_spec_lemmas.specs.spec.CookieFits.{FitsPair}
 use Rattle.dcsctp_theorem_sockets.proofs.FlushFits.{still_fits}
@@ -66,20 +66,20 @@ pub step_fits : (e : Endpoint) (core : Core) → FitsEndpoint e → FitsCore cor
 step_fits e closed h own = still_fits e h
 step_fits e (cookie_wait my) h own = still_fits e h
 step_fits e (cookie_echoed my held cookie) h own = still_fits e h
-step_fits e (open_in phase my held) h own = step_by_fits (is_all_acknowledged e.below.transfer) e phase my held h own.0 own.1
+step_fits e (open_in phase my held) h own = step_by_fits (may_go_on e) e phase my held h own.0 own.1
 
 step_from_fits : (e : Endpoint) (phase : OpenPhase) (my : Pair) (held : Held) → FitsEndpoint e → FitsPair my → FitsHeld held
-    → TurnFits (step_by (is_all_acknowledged e.below.transfer) (phase_at e phase my held) phase my held)
+    → TurnFits (step_by (may_go_on e) (phase_at e phase my held) phase my held)
 step_from_fits e phase my held h own fits =
-    step_by_fits (is_all_acknowledged e.below.transfer) (phase_at e phase my held) phase my held (record { valid = h.valid; options = h.options; core = (own, fits); t1 = tt }) own fits
+    step_by_fits (may_go_on e) (phase_at e phase my held) phase my held (record { valid = h.valid; options = h.options; core = (own, fits); t1 = tt }) own fits
 
 -- ---- the user's call
 
 -- as above, where T1 runs no longer
 stopped_fits : (e : Endpoint) (my : Pair) (held : Held) → FitsEndpoint e → FitsPair my → FitsHeld held
-    → TurnFits (step_by (is_all_acknowledged e.below.transfer) (phase_at (t1_stopped e) shutdown_pending my held) shutdown_pending my held)
+    → TurnFits (step_by (may_go_on e) (phase_at (t1_stopped e) shutdown_pending my held) shutdown_pending my held)
 stopped_fits e my held h own fits =
-    step_by_fits (is_all_acknowledged e.below.transfer) (phase_at (t1_stopped e) shutdown_pending my held) shutdown_pending my held
+    step_by_fits (may_go_on e) (phase_at (t1_stopped e) shutdown_pending my held) shutdown_pending my held
     (record { valid = h.valid; options = h.options; core = (own, fits); t1 = tt }) own fits
 
 pub shut_down_fits : (e : Endpoint) (core : Core) → FitsEndpoint e → FitsCore core → TurnFits (shut_down_outcome e core)

@@ -8,7 +8,7 @@ use Rattle.dcsctp_spec_lemmas.specs.spec.endpoint.Endpoint.{Endpoint, Core, clos
 use Rattle.dcsctp_spec_lemmas.specs.spec.endpoint.Outcome.{Outcome, contents_len}
 use Rattle.dcsctp_spec_lemmas.specs.spec.endpoint.Turn.{BeginTurn}
 use Rattle.dcsctp_spec_lemmas.specs.spec.endpoint.EndOutcomes.{reflected_outcome}
-use Rattle.dcsctp_spec_lemmas.specs.spec.endpoint.ShutdownOutcomes.{received_tsn, sends_shutdown, sends_shutdown_ack, phase_at, t2_begun, is_all_acknowledged, step_by, step_outcome, t1_stopped, shut_down_outcome, shutdown_outcome, completed_outcome, shutdown_ack_outcome, shutdown_complete_outcome, t2_goes_on, sent_again, t2_again_outcome}
+use Rattle.dcsctp_spec_lemmas.specs.spec.endpoint.ShutdownOutcomes.{received_tsn, sends_shutdown, sends_shutdown_ack, phase_at, t2_begun, may_go_on, step_by, step_outcome, t1_stopped, shut_down_outcome, shutdown_outcome, completed_outcome, shutdown_ack_outcome, shutdown_complete_outcome, t2_goes_on, sent_again, t2_again_outcome}
 use Rattle.dcsctp_theorem_sockets.proofs.Sizes.{AtLimit, TurnSizes}
 
 -- ---- what goes out
@@ -46,12 +46,12 @@ pub step_sizes : (limit : ℕ) (e : Endpoint) (core : Core) → AtLimit limit e 
 step_sizes limit e closed h = (h, tt)
 step_sizes limit e (cookie_wait my) h = (h, tt)
 step_sizes limit e (cookie_echoed my held cookie) h = (h, tt)
-step_sizes limit e (open_in phase my held) h = step_by_sizes (is_all_acknowledged e.below.transfer) limit e phase my held h
+step_sizes limit e (open_in phase my held) h = step_by_sizes (may_go_on e) limit e phase my held h
 
 -- from another phase
 step_from_sizes : (limit : ℕ) (e : Endpoint) (phase : OpenPhase) (my : Pair) (held : Held) → AtLimit limit e
-    → TurnSizes limit (step_by (is_all_acknowledged e.below.transfer) (phase_at e phase my held) phase my held)
-step_from_sizes limit e phase my held h = step_by_sizes (is_all_acknowledged e.below.transfer) limit (phase_at e phase my held) phase my held h
+    → TurnSizes limit (step_by (may_go_on e) (phase_at e phase my held) phase my held)
+step_from_sizes limit e phase my held h = step_by_sizes (may_go_on e) limit (phase_at e phase my held) phase my held h
 
 -- ---- the user's call
 

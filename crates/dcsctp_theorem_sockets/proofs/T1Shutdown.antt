@@ -5,7 +5,7 @@ use Rattle.dcsctp_spec_lemmas.specs.types.declared.association.Held.{Held}
 use Rattle.dcsctp_spec_lemmas.specs.spec.endpoint.Endpoint.{Endpoint, Core, closed, cookie_wait, cookie_echoed, open_in, OpenPhase, established, shutdown_pending, shutdown_sent, shutdown_received, shutdown_ack_sent}
 use Rattle.dcsctp_spec_lemmas.specs.spec.endpoint.Outcome.{Outcome}
 use Rattle.dcsctp_spec_lemmas.specs.spec.endpoint.Turn.{BeginTurn}
-use Rattle.dcsctp_spec_lemmas.specs.spec.endpoint.ShutdownOutcomes.{phase_at, is_all_acknowledged, step_by, step_outcome, t1_stopped, shut_down_outcome, shutdown_outcome, shutdown_ack_outcome, shutdown_complete_outcome, t2_goes_on, sent_again, t2_again_outcome}
+use Rattle.dcsctp_spec_lemmas.specs.spec.endpoint.ShutdownOutcomes.{phase_at, may_go_on, step_by, step_outcome, t1_stopped, shut_down_outcome, shutdown_outcome, shutdown_ack_outcome, shutdown_complete_outcome, t2_goes_on, sent_again, t2_again_outcome}
 use Rattle.dcsctp_theorem_sockets.proofs.T1Turns.{Up, UpAfter}
 
 -- ---- a step of it
@@ -22,11 +22,11 @@ pub step_up : (e : Endpoint) (core : Core) → Up e → UpAfter (step_outcome e 
 step_up e closed h = h
 step_up e (cookie_wait my) h = h
 step_up e (cookie_echoed my held cookie) h = h
-step_up e (open_in phase my held) h = step_by_up (is_all_acknowledged e.below.transfer) e phase my held h
+step_up e (open_in phase my held) h = step_by_up (may_go_on e) e phase my held h
 
 -- from another phase, in which it isn't awaited
-step_from_up : (e : Endpoint) (phase : OpenPhase) (my : Pair) (held : Held) → UpAfter (step_by (is_all_acknowledged e.below.transfer) (phase_at e phase my held) phase my held)
-step_from_up e phase my held = step_by_up (is_all_acknowledged e.below.transfer) (phase_at e phase my held) phase my held tt
+step_from_up : (e : Endpoint) (phase : OpenPhase) (my : Pair) (held : Held) → UpAfter (step_by (may_go_on e) (phase_at e phase my held) phase my held)
+step_from_up e phase my held = step_by_up (may_go_on e) (phase_at e phase my held) phase my held tt
 
 -- ---- the user's call
 

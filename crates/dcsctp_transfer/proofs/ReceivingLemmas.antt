@@ -2,12 +2,12 @@
 use Rattle.std.proofs.Common.{◌≡◌, ◌&&◌, not, ℕ, Bool, true, false, List, refl, ap, ◌∙◌, subst}
 use Rattle.dcsctp_send_retransmission.specs.types.declared.arrivals.SkippedTo.{SkippedTo}
 use Rattle.dcsctp_send_retransmission.specs.spec.queues.Arrivals.{Arrival}
-use Rattle.dcsctp_send_retransmission.specs.spec.queues.Reassembly.{ReassemblyState, is_above_watermark, AddsData, SkipsData}
+use Rattle.dcsctp_send_retransmission.specs.spec.queues.Reassembly.{ReassemblyState, AddsData, SkipsData}
 use Rattle.dcsctp_send_retransmission.specs.spec.queues.Tracker.{TrackerState, is_valid_tsn, is_new_tsn, observed, is_forward, after_forward}
 use Rattle.dcsctp_send_retransmission.specs.spec.queues.Transfer.{Transfer}
 use Rattle.dcsctp_send_retransmission.specs.spec.queues.Retransmission.{RetransmissionState}
 use Rattle.dcsctp_send_retransmission.specs.spec.queues.Timeout.{TimeoutState}
-use Rattle.dcsctp_send_retransmission.specs.spec.endpoint.TransferMoves.{AddsWhere, TakesData, ReceivesWhere, ReceivesData, SkipsWhere, GoesForward, MovesWhere, MovesForward}
+use Rattle.dcsctp_send_retransmission.specs.spec.endpoint.TransferMoves.{has_room, AddsWhere, TakesData, ReceivesWhere, ReceivesData, SkipsWhere, GoesForward, MovesWhere, MovesForward}
 
 -- what is shown of a tracker and a queue beside what is sent
 abbrev shown : RetransmissionState → TimeoutState → TrackerState → ReassemblyState → Transfer
@@ -30,13 +30,13 @@ skips_where true tsn entries old new skips same = skips refl
 skips_where false tsn entries old new skips same = same refl
 
 pub data_received : (retransmission : RetransmissionState) (timeout : TimeoutState) (arrived : Arrival) (is_new : Bool) (old_tracker new_tracker : TrackerState) (old new : ReassemblyState)
-    → is_above_watermark old ≡ false → is_valid_tsn old_tracker.cumulative arrived.tsn ≡ true
+    → has_room arrived.tsn (shown retransmission timeout old_tracker old) ≡ true → is_valid_tsn old_tracker.cumulative arrived.tsn ≡ true
     → is_new ≡ is_new_tsn arrived.tsn old_tracker → new_tracker ≡ observed arrived.tsn arrived.immediate_ack old_tracker
     → (is_new ≡ true → AddsData arrived.tsn arrived.chunk old new) → (is_new ≡ false → new ≡ old)
     → ReceivesData arrived (shown retransmission timeout old_tracker old) (shown retransmission timeout new_tracker new)
-data_received retransmission timeout arrived is_new old_tracker new_tracker old new below valid fresh left adds same =
-    let both : (not (is_above_watermark old) && is_valid_tsn old_tracker.cumulative arrived.tsn) ≡ true =
-    ap (λ (b : Bool). not b && is_valid_tsn old_tracker.cumulative arrived.tsn) below ∙ valid in
+data_received retransmission timeout arrived is_new old_tracker new_tracker old new room valid fresh left adds same =
+    let both : (has_room arrived.tsn (shown retransmission timeout old_tracker old) && is_valid_tsn old_tracker.cumulative arrived.tsn) ≡ true =
+    ap (λ (b : Bool). b && is_valid_tsn old_tracker.cumulative arrived.tsn) room ∙ valid in
     receives_where _ arrived _ _ both (record {
       reassembly = subst (λ (b : Bool). AddsWhere b arrived.tsn arrived.chunk old new) fresh (adds_where is_new arrived old new adds same);
       rest = ap (λ (t : TrackerState). shown retransmission timeout t new) left;

@@ -5,8 +5,8 @@ use Rattle.std.specs.Int.{w32, to_be_bytes}
 use Rattle.std.proofs.lemmas.List.{take_all}
 use Rattle.dcsctp_send_retransmission.specs.wire.Content.{SackContent, sack_chunk}
 use Rattle.dcsctp_wire_build.specs.Building.{Building}
-use Rattle.dcsctp_send_retransmission.specs.spec.queues.Reassembly.{remaining_bytes}
-use Rattle.dcsctp_send_retransmission.specs.spec.queues.Transfer.{Transfer}
+use Rattle.dcsctp_send_retransmission.specs.spec.queues.Reassembly.{ReassemblyState, remaining_bytes, bytes_to_watermark}
+use Rattle.dcsctp_send_retransmission.specs.spec.queues.Transfer.{Transfer, window_told}
 use Rattle.dcsctp_send_retransmission.specs.types.declared.tracking.AckState.{AckState}
 use Rattle.dcsctp_send_retransmission.specs.types.declared.tracking.AckState.TheVariants.{Idle, BecomingDelayed, Delayed, Immediate}
 use Rattle.dcsctp_receive_tracker.specs.declared.data_tracker.SelectiveAck.{SelectiveAck}
@@ -45,6 +45,17 @@ says_so sack tracker window window_is says =
     ∙ ap (λ (bytes : List ℕ). record said { cumulative_tsn_ack = tracker.cumulative % 2 ^ 32; a_rwnd = window % 2 ^ 32; gap_ack_blocks = bytes }) says.blocks
     ∙ ap (λ (bytes : List ℕ). record (sack_of tracker window) { duplicate_tsns = bytes }) duplicates
 
+-- what is told of the window, by whether the RFC is followed
+abbrev pub told_where : Bool → ReassemblyState → ℕ
+told_where follows queue = if follows then bytes_to_watermark queue else remaining_bytes queue
+
+asking_keeps : (tracker asked : TrackerState) (along : Bool) → asked ≡ acknowledged along tracker → asked.follows_rfc ≡ tracker.follows_rfc
+asking_keeps tracker asked along is = ap (λ (t : TrackerState). t.follows_rfc) is ∙ go (is_due tracker.acknowledgement along)
+  where
+    go : (b : Bool) → (if b then all_acknowledged tracker else tracker).follows_rfc ≡ tracker.follows_rfc
+    go true = refl
+    go false = refl
+
 pub gives_wanted : (old new : Transfer) (tracker asked after : TrackerState) (along : Bool) (sack : SelectiveAck) (packet filled : Building)
     → tracker ≡ old.tracker
     → new ≡ record old { tracker = after }
@@ -52,7 +63,7 @@ pub gives_wanted : (old new : Transfer) (tracker asked after : TrackerState) (al
     → asked ≡ acknowledged along tracker
     → after ≡ record asked { duplicates = [] }
     → Says sack asked
-    → sack.a_rwnd ≡ (remaining_bytes old.reassembly) % 2 ^ 32
+    → sack.a_rwnd ≡ (told_where asked.follows_rfc old.reassembly) % 2 ^ 32
     → filled ≡ with_chunk packet (sack_chunk (said_by sack))
     → Acknowledges (is_sack_wanted along old) old packet new filled
 gives_wanted old new tracker asked after along sack packet filled seen new_is due asked_is after_is says window adds =
@@ -60,9 +71,11 @@ gives_wanted old new tracker asked after along sack packet filled seen new_is du
     ap (λ (t : TrackerState). is_acknowledgement_due t || (owes_acknowledgement t && along)) (sym seen) ∙ (due_by tracker.acknowledgement along ∙ due) in
     let idle : asked ≡ all_acknowledged tracker = asked_is ∙ ap (λ (b : Bool). if b then all_acknowledged tracker else tracker) due in
     let left : after ≡ sacked old.tracker = after_is ∙ (ap (λ (t : TrackerState). record t { duplicates = [] }) idle ∙ ap sacked seen) in
-    let said : said_by sack ≡ sack_of old.tracker (remaining_bytes old.reassembly) =
-    says_so sack asked (remaining_bytes old.reassembly) window says
-    ∙ (ap (λ (t : TrackerState). sack_of t (remaining_bytes old.reassembly)) idle ∙ ap (λ (t : TrackerState). sack_of t (remaining_bytes old.reassembly)) seen) in
+    let told : told_where asked.follows_rfc old.reassembly ≡ window_told old =
+    ap (λ (b : Bool). told_where b old.reassembly) (asking_keeps tracker asked along asked_is ∙ ap (λ (t : TrackerState). t.follows_rfc) seen) in
+    let said : said_by sack ≡ sack_of old.tracker (window_told old) =
+    says_so sack asked (window_told old) (window ∙ ap (λ (n : ℕ). n % 2 ^ 32) told) says
+    ∙ (ap (λ (t : TrackerState). sack_of t (window_told old)) idle ∙ ap (λ (t : TrackerState). sack_of t (window_told old)) seen) in
     let gives : Acknowledges true old packet new filled =
     (new_is ∙ ap (λ (t : TrackerState). record old { tracker = t }) left, adds ∙ ap (λ (content : SackContent). with_chunk packet (sack_chunk content)) said) in
     subst (λ (b : Bool). Acknowledges b old packet new filled) (sym wanted) gives

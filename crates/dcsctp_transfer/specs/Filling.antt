@@ -9,11 +9,10 @@ use Rattle.dcsctp_send_retransmission.specs.spec.endpoint.Event.{Event}
 use Rattle.dcsctp_send_retransmission.specs.spec.Packet.{unworked}
 use Rattle.dcsctp_send_retransmission.specs.spec.queues.Chunks.{AreChunks}
 use Rattle.dcsctp_send_retransmission.specs.spec.queues.Filling.{Stage}
-use Rattle.dcsctp_send_retransmission.specs.spec.queues.Reassembly.{remaining_bytes}
 use Rattle.dcsctp_send_retransmission.specs.spec.queues.Retransmission.{outstanding_count}
 use Rattle.dcsctp_send_retransmission.specs.spec.queues.SendQueue.{SendQueueState, has_data}
 use Rattle.dcsctp_send_retransmission.specs.spec.queues.Tracker.{is_acknowledgement_due, owes_acknowledgement, sack_of, sacked}
-use Rattle.dcsctp_send_retransmission.specs.spec.queues.Transfer.{Transfer, may_give}
+use Rattle.dcsctp_send_retransmission.specs.spec.queues.Transfer.{Transfer, window_told, may_give}
 use Rattle.dcsctp_send_retransmission.specs.spec.endpoint.FlushOutcomes.{Told, told_content, stage_of, FillsWhere}
 use Rattle.dcsctp_send_retransmission.specs.send_streams.Telling.{TellsFront}
 
@@ -65,5 +64,5 @@ with_chunk packet chunk = if nat_le (length (chunk_bytes chunk)) (bytes_remainin
 -- A SACK was made, or none was asked for.
 abbrev pub Acknowledges : Bool → Transfer → Building → Transfer → Building → Type 0
 Acknowledges true old packet new filled =
-    (new ≡ record old { tracker = sacked old.tracker }) × (filled ≡ with_chunk packet (sack_chunk (sack_of old.tracker (remaining_bytes old.reassembly))))
+    (new ≡ record old { tracker = sacked old.tracker }) × (filled ≡ with_chunk packet (sack_chunk (sack_of old.tracker (window_told old))))
 Acknowledges false old packet new filled = (new ≡ old) × (filled ≡ packet)

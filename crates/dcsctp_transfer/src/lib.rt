@@ -11,12 +11,14 @@ mod sacks;
 mod sending;
 mod showing;
 mod transfer;
+mod windows;
 
 pub use dcsctp_receive_reassembly::{Data, Numbering, SkippedTo};
 pub use dcsctp_send_retransmission::send_queue::{DataToSend, SendQueue};
 pub use sacks::HandledSack;
 pub use sending::make_data_chunk;
 pub use transfer::Transfer;
+pub use windows::packet_size_limit;
 
 // What stands below, for the crates above.
 pub use dcsctp_send_retransmission::{api, send_timer, types, wire};

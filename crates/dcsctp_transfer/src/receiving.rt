@@ -1,24 +1,48 @@
 //! What is received: data and what the peer skips (RFC 9260, sections 6.2 and 6.5; RFC 3758, section 3.6).
 //! Also when it is acknowledged, and the messages that a user takes.
 
-ghost use Rattle.std.specs.Prelude.{◌≡◌, ◌∷◌, [], length, true, false, if◌then◌else◌, OnOk, OnErr, IsSome, IfSome, IfNone};
+ghost use Rattle.std.specs.Prelude.{◌≡◌, ◌∷◌, ◌&&◌, nat_lt, [], length, true, false, if◌then◌else◌, OnOk, OnErr, IsSome, IfSome, IfNone};
 ghost use Rattle.dcsctp_send_retransmission.specs.spec.endpoint.TimeTurns.{has_come};
-ghost use Rattle.dcsctp_send_retransmission.specs.spec.endpoint.TransferMoves.{ReceivesData, MovesForward};
+ghost use Rattle.dcsctp_send_retransmission.specs.spec.endpoint.TransferMoves.{has_room, dropping, ReceivesData, MovesForward};
+ghost use Rattle.dcsctp_send_retransmission.specs.spec.endpoint.DataOutcomes.{open_window, taken_to};
+ghost use Rattle.dcsctp_send_retransmission.specs.spec.queues.Transfer.{window_told};
 ghost use Rattle.dcsctp_send_retransmission.specs.types.queues.Messages.{message_content};
-ghost use Rattle.dcsctp_send_retransmission.specs.spec.queues.Reassembly.{with_ready};
 ghost use Rattle.dcsctp_receive_reassembly.specs.Streams.{chunk_of};
-ghost use Rattle.dcsctp_send_retransmission.specs.spec.queues.Tracker.{after_packet_end, is_acknowledgement_due, delayed_acknowledgement, delay_over};
+ghost use Rattle.dcsctp_send_retransmission.specs.spec.queues.Tracker.{after_packet_end, is_acknowledgement_due, is_valid_tsn, delayed_acknowledgement, delay_over};
 
 use crate::transfer::Transfer;
+use crate::windows::open_window;
 use dcsctp_receive_reassembly::{Data, SkippedTo};
 use dcsctp_send_retransmission::api::Message;
-use dcsctp_send_retransmission::types::SocketTime;
+use dcsctp_send_retransmission::types::{Options, SocketTime};
 use std::alloc::AllocError;
 
 impl Transfer {
+    // Is there room for data with this TSN: are less than nine tenths of the receive window in use? With
+    // `Options::follow_rfc` data that fills a gap is taken while some of the window is left.
+    fn has_room(&self, tsn: u32) -> bool
+        requires { is_valid_tsn self.now.tracker.cumulative tsn ≡ true }
+        ensures { result ≡ has_room tsn self.now }
+    {
+        !self.reassembly_queue.is_above_watermark()
+            || (self.data_tracker.follows_rfc()
+                && self.data_tracker.is_below_highest(tsn)
+                && 0 < self.reassembly_queue.remaining_bytes())
+    }
+
+    // Drops data for which there is no room. With `Options::follow_rfc` it is answered at once.
+    fn drop_data(&mut self)
+        ensures { self.new ≡ dropping self.old.tracker.follows_rfc self.old }
+    {
+        if self.data_tracker.follows_rfc() {
+            self.data_tracker.demand_acknowledgement();
+        }
+    }
+
     /// Receives a DATA or I-DATA chunk with this TSN (RFC 9260, sections 6.2 and 6.5). `immediate_ack` is its
-    /// I flag, by which it is acknowledged at once. It is dropped if nine tenths of the receive window or
-    /// more are in use. So it is if its TSN is more than 65,535 ahead of the cumulative one.
+    /// I flag, by which it is acknowledged at once. It is dropped if its TSN is more than 65,535 ahead of the
+    /// cumulative one, or if nine tenths of the receive window or more are in use. With `Options::follow_rfc`
+    /// the latter is answered at once, and data that fills a gap is taken until the window is used up.
     ///
     /// If an allocation fails, the data is dropped, though its TSN may count as received. Messages that are
     /// ready are kept.
@@ -33,8 +57,11 @@ impl Transfer {
         ensures rest { OnErr result ((self.new.retransmission ≡ self.old.retransmission) × (self.new.timeout ≡ self.old.timeout)) }
         ensures ready { OnErr result (self.new.reassembly.incoming.ready ≡ self.old.reassembly.incoming.ready) }
     {
-        // A window that is used up is above the watermark, too.
-        if self.reassembly_queue.is_above_watermark() || !self.data_tracker.is_tsn_valid(tsn) {
+        if !self.data_tracker.is_tsn_valid(tsn) {
+            return Ok(());
+        }
+        if !self.has_room(tsn) {
+            self.drop_data();
             return Ok(());
         }
         if self.data_tracker.observe(tsn, immediate_ack)? {
@@ -100,13 +127,38 @@ impl Transfer {
     }
 
     /// Takes the message that became ready first, and gives its bytes back to the receive window; `None` if
-    /// none is ready. Allocates nothing.
-    pub fn get_next_message(&mut self) -> Option<Message>
+    /// none is ready. With `Options::follow_rfc` an acknowledgement is due at the moment `now` if a small
+    /// window opens by that (RFC 9260, section 6.2). Allocates nothing.
+    pub fn get_next_message(&mut self, options: &Options, now: SocketTime) -> Option<Message>
         ensures some { IfSome result (λ message. self.old.reassembly.incoming.ready ≡ message_content message ∷ self.new.reassembly.incoming.ready) }
-        ensures left { IfSome result (λ _. self.new ≡ record self.old { reassembly = with_ready self.new.reassembly.incoming.ready self.old.reassembly }) }
+        ensures left { IfSome result (λ _. self.new ≡ taken_to options.now now self.new.reassembly.incoming.ready self.old) }
         ensures none { IfNone result ((self.old.reassembly.incoming.ready ≡ []) × (self.new ≡ self.old)) }
     {
-        self.reassembly_queue.get_next_message()
+        let was_small = self.is_window_small(options);
+        let message = self.reassembly_queue.get_next_message()?;
+        if was_small && !self.is_window_small(options) {
+            self.data_tracker.hasten_acknowledgement(now);
+        }
+        Some(message)
+    }
+
+    // Is the window that a SACK tells too small to be worth telling? Only with `Options::follow_rfc`.
+    fn is_window_small(&self, options: &Options) -> bool
+        ensures { result ≡ (self.now.tracker.follows_rfc && nat_lt (window_told self.now) (open_window options.now)) }
+    {
+        self.data_tracker.follows_rfc() && self.window_told() < open_window(options)
+    }
+
+    /// What a SACK says is left of the receive window (RFC 9260, section 3.3.4). With `Options::follow_rfc`
+    /// it is what is left for new data.
+    pub fn window_told(&self) -> usize
+        ensures { result ≡ window_told self.now }
+    {
+        if self.data_tracker.follows_rfc() {
+            self.reassembly_queue.bytes_to_watermark()
+        } else {
+            self.reassembly_queue.remaining_bytes()
+        }
     }
 
     /// How many messages are ready to be taken.

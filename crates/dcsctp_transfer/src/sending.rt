@@ -106,7 +106,7 @@ impl Transfer {
         if !self.data_tracker.should_send_ack(also_if_delayed) {
             return Ok(());
         }
-        let window = self.reassembly_queue.remaining_bytes() % 0x1_0000_0000;
+        let window = self.window_told() % 0x1_0000_0000;
         let sack = self.data_tracker.create_selective_ack(window as u32)?;
         add_sack(&sack, packet);
         Ok(())

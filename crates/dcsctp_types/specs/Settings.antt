@@ -86,3 +86,4 @@ pub record IsDefault (options : Options) : Type 0 where
   pub zero_checksum_method : options.zero_checksum_alternate_error_detection_method.0 ≡ 0
   pub disable_checksum_verification : options.disable_checksum_verification ≡ false
   pub enable_handover_with_outstanding_data : options.enable_handover_with_outstanding_data ≡ false
+  pub follow_rfc : options.follow_rfc ≡ false

@@ -121,6 +121,10 @@ pub struct Options {
 
     /// Allows a handover while data is outstanding.
     pub enable_handover_with_outstanding_data: bool,
+
+    /// Follows the RFCs where the port, dcsctp 0.1.16, doesn't. docs/DIFFERENCES.md has a row for each rule
+    /// that it changes.
+    pub follow_rfc: bool,
 }
 
 impl Default for Options {
@@ -167,6 +171,7 @@ impl Default for Options {
             zero_checksum_alternate_error_detection_method: ZERO_CHECKSUM_ALTERNATE_ERROR_DETECTION_METHOD_NONE,
             disable_checksum_verification: false,
             enable_handover_with_outstanding_data: false,
+            follow_rfc: false,
         }
     }
 }

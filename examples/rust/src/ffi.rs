@@ -49,7 +49,7 @@ pub struct Options {
     pub announced_maximum_outgoing_streams: u16,
     pub default_stream_priority: u16,
     pub reserved: u16,
-    pub reserved_word: u32,
+    pub follow_rfc: u32,
 }
 
 #[repr(C)]

@@ -1,14 +1,16 @@
 //! SHUTDOWN, SHUTDOWN ACK and SHUTDOWN COMPLETE (RFC 9260, sections 8.5.1 and 9.2).
 
-ghost use Rattle.std.specs.Prelude.{◌≡◌, true};
+ghost use Rattle.std.specs.Prelude.{◌≡◌, true, OnErr};
 ghost use Rattle.dcsctp_core.specs.spec.endpoint.Event.{closed};
-ghost use Rattle.dcsctp_core.specs.Handling.{Takes, Tries, Works, close_turn};
-ghost use Rattle.dcsctp_core.specs.View.{core_of};
+ghost use Rattle.dcsctp_core.specs.Handling.{Takes, Tries, Works, close_turn, following_of};
+ghost use Rattle.dcsctp_core.specs.spec.endpoint.EndOutcomes.{after_reflected};
+ghost use Rattle.dcsctp_core.specs.View.{core_of, view_of};
 ghost use Rattle.dcsctp_core_ends.specs.Shutdown.{ack_turn, complete_turn, completed_turn, is_open, received_turn, reflected_turn, shutdown_turn};
 
 use crate::shutdown::sending::{emit_shutdown_complete, send_shutdown_complete};
 use crate::shutdown::stepping::{enter_shutdown_ack_sent, step_shutdown};
 use dcsctp_core::api::ErrorKind;
+use dcsctp_core::types::Options;
 use dcsctp_core::{Context, Following, OpenPhase, State};
 use rand_core::Rng;
 use std::alloc::AllocError;
@@ -60,25 +62,32 @@ fn complete_shutdown<R: Rng>(context: &mut Context<R>) -> Result<Following, Allo
     Ok(Following::DroppedRest)
 }
 
+// What follows a SHUTDOWN ACK that isn't awaited: the next chunk. With `Options::follow_rfc` one answers a
+// packet (RFC 9260, section 8.4), so its end follows.
+fn after_reflected(options: &Options) -> Following
+    ensures { following_of result ≡ after_reflected options.now }
+{
+    if options.follow_rfc {
+        Following::PacketEnd
+    } else {
+        Following::NextChunk
+    }
+}
+
 /// Answers a SHUTDOWN ACK that isn't awaited under its own tag, with the T bit (RFC 9260, section 8.5.1, E).
+/// Then the next chunk follows, or the end of the packet with `Options::follow_rfc`.
 ///
 /// `Err`: an allocation failed; nothing has changed.
 pub fn reflect_shutdown_ack<R: Rng>(
     context: &mut Context<R>,
     header_tag: u32,
-) -> Result<(), AllocError>
-    ensures { Tries R.stream (reflected_turn header_tag) context.old result context.new }
+) -> Result<Following, AllocError>
+    ensures turn { Works R.stream (reflected_turn header_tag) context.old result context.new }
+    ensures err { OnErr result (view_of context.new ≡ view_of context.old) }
 {
+    let following = after_reflected(&context.options);
     emit_shutdown_complete(context, header_tag, true, true)?;
-    Ok(())
-}
-
-// The same as a chunk's turn: the next chunk follows.
-fn reflect<R: Rng>(context: &mut Context<R>, header_tag: u32) -> Result<Following, AllocError>
-    ensures { Works R.stream (reflected_turn header_tag) context.old result context.new }
-{
-    reflect_shutdown_ack(context, header_tag)?;
-    Ok(Following::NextChunk)
+    Ok(following)
 }
 
 /// Handles a SHUTDOWN ACK of a packet with this header tag. One that is awaited ends the association, with
@@ -93,15 +102,15 @@ pub fn handle_shutdown_ack<R: Rng>(
     ensures { Works R.stream (ack_turn header_tag) context.old result context.new }
 {
     match &context.state {
-        State::Closed => reflect(context, header_tag),
-        State::CookieWait(_) => reflect(context, header_tag),
-        State::CookieEchoed(_) => reflect(context, header_tag),
+        State::Closed => reflect_shutdown_ack(context, header_tag),
+        State::CookieWait(_) => reflect_shutdown_ack(context, header_tag),
+        State::CookieEchoed(_) => reflect_shutdown_ack(context, header_tag),
         State::Open(opened) => match opened.phase {
             OpenPhase::ShutdownSent(_) => complete_shutdown(context),
             OpenPhase::ShutdownAckSent(_) => complete_shutdown(context),
-            OpenPhase::Established => reflect(context, header_tag),
-            OpenPhase::ShutdownPending => reflect(context, header_tag),
-            OpenPhase::ShutdownReceived => reflect(context, header_tag),
+            OpenPhase::Established => reflect_shutdown_ack(context, header_tag),
+            OpenPhase::ShutdownPending => reflect_shutdown_ack(context, header_tag),
+            OpenPhase::ShutdownReceived => reflect_shutdown_ack(context, header_tag),
         },
     }
 }

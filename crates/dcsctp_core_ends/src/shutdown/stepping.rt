@@ -3,9 +3,9 @@
 ghost use Rattle.std.specs.Prelude.{◌≡◌, true};
 ghost use Rattle.std.specs.Duration.{as_nanos};
 ghost use Rattle.dcsctp_core.specs.spec.endpoint.Timers.{started};
-ghost use Rattle.dcsctp_core.specs.spec.endpoint.ShutdownOutcomes.{t2_settings};
+ghost use Rattle.dcsctp_core.specs.spec.endpoint.ShutdownOutcomes.{t2_settings, waits_for_queue};
 ghost use Rattle.dcsctp_core.specs.Handling.{Tries};
-ghost use Rattle.dcsctp_core.specs.View.{core_of};
+ghost use Rattle.dcsctp_core.specs.View.{core_of, endpoint_of};
 ghost use Rattle.dcsctp_core_ends.specs.Shutdown.{ack_sent_turn, is_open, shutdown_sent_turn, step_turn};
 
 use crate::shutdown::sending::{send_shutdown, send_shutdown_ack};
@@ -58,15 +58,25 @@ pub(crate) fn enter_shutdown_ack_sent<R: Rng>(context: &mut Context<R>) -> Resul
     Ok(())
 }
 
+// Does a shutdown wait for what is queued? Only with `Options::follow_rfc`, while packets may be sent and a
+// message waits that can be (RFC 9260, section 9.2).
+fn waits_for_queue<R: Rng>(context: &Context<R>) -> bool
+    ensures { result ≡ waits_for_queue (endpoint_of context.now) }
+{
+    context.options.follow_rfc
+        && 0 < context.options.max_burst
+        && context.send_queue.waits_at(context.moment)
+}
+
 /// Continues a shutdown that is under way, if all that was sent is acknowledged or abandoned. SHUTDOWN is
-/// sent if the user asked for it, SHUTDOWN ACK if the peer did. What waits in the queue isn't looked at
-/// (docs/DECISIONS.md, Shutdown).
+/// sent if the user asked for it, SHUTDOWN ACK if the peer did. With `Options::follow_rfc` what waits in the
+/// queue and can be sent goes first; else it isn't looked at (docs/DECISIONS.md, Shutdown).
 ///
 /// `Err`: an allocation failed; nothing has changed.
 pub fn step_shutdown<R: Rng>(context: &mut Context<R>) -> Result<(), AllocError>
     ensures { Tries R.stream step_turn context.old result context.new }
 {
-    if context.state.has_unacknowledged_items() {
+    if context.state.has_unacknowledged_items() || waits_for_queue(context) {
         return Ok(());
     }
     match &context.state {

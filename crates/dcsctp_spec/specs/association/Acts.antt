@@ -118,7 +118,7 @@ chunk_change options core header cookie_ack choices = cookie_ack_change core cho
 chunk_change options core header (re_config parameters) choices = re_config_change core parameters choices
 chunk_change options core header (abort reflected causes) choices = abort_change core
 chunk_change options core header (shutdown cumulative_tsn) choices = shutdown_change core choices.tsn choices.is_acknowledged
-chunk_change options core header shutdown_ack choices = shutdown_ack_change core header
+chunk_change options core header shutdown_ack choices = shutdown_ack_change core header choices.following
 chunk_change options core header (shutdown_complete reflected) choices = shutdown_complete_change core
 chunk_change options core header (plain chunk) choices = plain_change core choices.is_violation choices
 

@@ -34,7 +34,7 @@ pub record Choices : Type 0 where
   pub is_stale : Bool
   -- Does the packet of one chunk fit?
   pub fits : Bool
-  -- Is all data acknowledged that was sent?
+  -- May a shutdown go on: is all data acknowledged that was sent?
   pub is_acknowledged : Bool
   -- Has all data come that was sent before a reset was requested?
   pub is_reached : Bool
@@ -43,7 +43,7 @@ pub record Choices : Type 0 where
   pub causes : List Cause
   -- the cumulative TSN ack of a SHUTDOWN that is sent
   pub tsn : ℕ
-  -- what follows a chunk that doesn't concern the association
+  -- what follows a chunk that doesn't concern the association, or a SHUTDOWN ACK that isn't awaited
   pub following : Following
   -- packets that don't concern the association, before a flush: HEARTBEAT ACK, ERROR, a fast retransmit
   pub plain : List (List Plain)

@@ -5,7 +5,7 @@ use Rattle.dcsctp_types.specs.declared.association.Held.{Held}
 use Rattle.dcsctp_spec.specs.endpoint.Cause.{Cause}
 use Rattle.dcsctp_spec.specs.Packet.{Content, abort, shutdown, shutdown_ack, shutdown_complete}
 use Rattle.dcsctp_spec.specs.endpoint.Endpoint.{Core, closed, cookie_wait, cookie_echoed, open_in, OpenPhase, established, shutdown_pending, shutdown_sent, shutdown_received, shutdown_ack_sent}
-use Rattle.dcsctp_spec.specs.endpoint.Following.{next_chunk}
+use Rattle.dcsctp_spec.specs.endpoint.Following.{Following, next_chunk}
 use Rattle.dcsctp_spec.specs.association.Effect.{Change, unchanged, ended, emitted, emitted_alone}
 
 -- a phase after one control chunk to the peer, or none
@@ -77,17 +77,17 @@ shutdown_change core tsn is_acknowledged = unchanged core
 
 -- A SHUTDOWN ACK that isn't awaited is answered under its own tag, with the T bit (RFC 9260, sections 8.4 and
 -- 8.5.1).
-abbrev pub reflected_change : Core → ℕ → Change
-reflected_change core header = record { core = core; effects = emitted header (shutdown_complete true ∷ []); following = next_chunk }
+abbrev pub reflected_change : Core → ℕ → Following → Change
+reflected_change core header following = record { core = core; effects = emitted header (shutdown_complete true ∷ []); following = following }
 
-abbrev pub shutdown_ack_change_in : OpenPhase → Pair → Held → ℕ → Change
-shutdown_ack_change_in shutdown_sent my held header = ended (emitted held.peer.tag (shutdown_complete false ∷ []))
-shutdown_ack_change_in shutdown_ack_sent my held header = ended (emitted held.peer.tag (shutdown_complete false ∷ []))
-shutdown_ack_change_in phase my held header = reflected_change (open_in phase my held) header
+abbrev pub shutdown_ack_change_in : OpenPhase → Pair → Held → ℕ → Following → Change
+shutdown_ack_change_in shutdown_sent my held header following = ended (emitted held.peer.tag (shutdown_complete false ∷ []))
+shutdown_ack_change_in shutdown_ack_sent my held header following = ended (emitted held.peer.tag (shutdown_complete false ∷ []))
+shutdown_ack_change_in phase my held header following = reflected_change (open_in phase my held) header following
 
-abbrev pub shutdown_ack_change : Core → ℕ → Change
-shutdown_ack_change (open_in phase my held) header = shutdown_ack_change_in phase my held header
-shutdown_ack_change core header = reflected_change core header
+abbrev pub shutdown_ack_change : Core → ℕ → Following → Change
+shutdown_ack_change (open_in phase my held) header following = shutdown_ack_change_in phase my held header following
+shutdown_ack_change core header following = reflected_change core header following
 
 abbrev pub shutdown_complete_change_in : OpenPhase → Pair → Held → Change
 shutdown_complete_change_in shutdown_ack_sent my held = ended []

@@ -1,5 +1,5 @@
 -- The turn of a COOKIE ECHO (RFC 9260, sections 5.1 and 5.2.4). association/CookieEchoChanges says which case it is.
-use Rattle.std.specs.Prelude.{◌≡◌, ◌==◌, ℕ, min, Bool, None, Some, List, [], ◌∷◌, codes, Result, Ok, Err}
+use Rattle.std.specs.Prelude.{◌≡◌, ◌==◌, ℕ, min, Bool, true, false, None, Some, List, [], ◌∷◌, codes, Result, Ok, Err}
 use Rattle.std.specs.Duration.{as_nanos}
 use Rattle.dcsctp_types.specs.declared.association.Held.{Held}
 use Rattle.dcsctp_types.specs.declared.options.Options.{Options}
@@ -92,12 +92,17 @@ establish_by flush e cookie queue tie events =
 abbrev pub interleaves : Endpoint → Cookie → Bool
 interleaves e cookie = (held_by_cookie e.options cookie).capabilities.message_interleaving
 
--- What waits to be sent is unchanged if there was no peer; else it starts anew.
-abbrev pub queue_kept : Endpoint → Cookie → SendQueueState
-queue_kept e cookie = numbered_for (interleaves e cookie) e.below.queue
-
+-- What waits to be sent starts anew if there was a peer.
 abbrev pub queue_begun : Endpoint → Cookie → SendQueueState
 queue_begun e cookie = queue_anew e.below.queue (interleaves e cookie)
+
+-- Else it is unchanged; by the RFC its numbers start anew, too (RFC 9260, sections 5.1 and 6.5).
+abbrev pub queue_where : Bool → Endpoint → Cookie → SendQueueState
+queue_where true e cookie = queue_begun e cookie
+queue_where false e cookie = numbered_for (interleaves e cookie) e.below.queue
+
+abbrev pub queue_kept : Endpoint → Cookie → SendQueueState
+queue_kept e cookie = queue_where e.options.follow_rfc e cookie
 
 abbrev pub establish_new_by : FlushKind → Endpoint → Cookie → ℕ → Outcome
 establish_new_by flush e cookie tie = establish_by flush e cookie (queue_kept e cookie) tie (connected ∷ [])

@@ -1,8 +1,10 @@
 -- The turns of data: what is received, what acknowledges it, and what is sent (RFC 9260, section 6; RFC 3758; RFC 8260).
-use Rattle.std.specs.Prelude.{◌≡◌, ℕ, Bool, true, false, Option, None, Some, List, [], ◌∷◌, ◌++◌, codes, if◌then◌else◌}
+use Rattle.std.specs.Prelude.{◌≡◌, ℕ, ◌/◌, min, nat_le, nat_lt, Bool, true, false, ◌&&◌, ◌||◌, Option, None, Some, List, [], ◌∷◌, ◌++◌, codes, if◌then◌else◌}
 use Rattle.std.specs.List.{AllByRecursion}
 use Rattle.dcsctp_types.specs.wire.Content.{SackContent, no_user_data}
 use Rattle.dcsctp_types.specs.declared.association.Held.{Held}
+use Rattle.dcsctp_types.specs.declared.options.Options.{Options}
+use Rattle.dcsctp_types.specs.Settings.{packet_size_limit}
 use Rattle.dcsctp_types.specs.declared.kinds.ErrorKind.TheVariants.{ProtocolViolation, NotConnected}
 use Rattle.dcsctp_spec.specs.endpoint.Event.{error}
 use Rattle.dcsctp_spec.specs.Packet.{Plain, error_of, plain, Emission}
@@ -14,8 +16,8 @@ use Rattle.dcsctp_spec.specs.queues.Acknowledging.{is_sack_valid, has_acknowledg
 use Rattle.dcsctp_spec.specs.queues.AtOnce.{SendsAtOnce}
 use Rattle.dcsctp_spec.specs.queues.Chunks.{AreChunks}
 use Rattle.dcsctp_spec.specs.queues.Retransmission.{RetransmissionState, has_fast_retransmit}
-use Rattle.dcsctp_spec.specs.queues.Transfer.{Transfer}
-use Rattle.dcsctp_spec.specs.queues.Tracker.{TrackerState, after_packet_end, is_acknowledgement_due, sacked, delay_over}
+use Rattle.dcsctp_spec.specs.queues.Transfer.{Transfer, window_told}
+use Rattle.dcsctp_spec.specs.queues.Tracker.{TrackerState, after_packet_end, is_acknowledgement_due, sacked, delay_over, hastened}
 use Rattle.dcsctp_spec.specs.endpoint.Endpoint.{Endpoint, held_in}
 use Rattle.dcsctp_spec.specs.endpoint.Outcome.{Outcome, still, reports, emits, behind, to_peer}
 use Rattle.dcsctp_spec.specs.association.Choices.{plain_contents}
@@ -101,10 +103,18 @@ abbrev pub FastRetransmits : Bool → Endpoint → Held → Transfer → Outcome
 FastRetransmits false e held transfer o = o ≡ still e
 FastRetransmits true e held transfer o = SendsLost e held transfer o
 
--- the endpoint once a SACK was taken into account: if it acknowledges something, no error counts
+-- By the RFC an answer to a probe of a closed window counts too (RFC 9260, section 6.1, rule A): a window smaller than a packet.
+abbrev pub heeds_window : Options → ℕ → Bool
+heeds_window options window = options.follow_rfc && nat_lt window (packet_size_limit options)
+
+-- Does a SACK show that the peer is there? It does if it acknowledges something, or answers a probe.
+abbrev pub shows_peer : Options → Transfer → Transfer → Bool
+shows_peer options old new = has_acknowledged old.retransmission new.retransmission || heeds_window options new.retransmission.peer_window
+
+-- the endpoint once a SACK was taken into account: if it shows that the peer is there, no error counts
 abbrev pub sack_taken : Endpoint → Transfer → Transfer → Endpoint
 sack_taken e old new =
-    record (with_transfer e new) { error_count = if has_acknowledged old.retransmission new.retransmission then 0 else e.error_count }
+    record (with_transfer e new) { error_count = if shows_peer e.options old new then 0 else e.error_count }
 
 -- A SACK is taken into account. A shutdown under way may go on then, a fast retransmission may follow, and then a flush.
 pub record AcknowledgesBy (e : Endpoint) (held : Held) (transfer : Transfer) (sack : SackContent) (o : Outcome) : Type 0 where
@@ -156,10 +166,32 @@ EndsBy e (Some transfer) o =
 
 -- ---- what the user takes
 
+-- the window that is worth telling: a packet, or half of all if that is less
+abbrev pub open_window : Options → ℕ
+open_window options = min (packet_size_limit options) (options.max_receiver_window_buffer_size / 2)
+
+-- Does the window open that a SACK tells? By the RFC the peer is told (RFC 9260, section 6.2).
+abbrev pub opens_window : Options → Transfer → Transfer → Bool
+opens_window options old new =
+    old.tracker.follows_rfc && (nat_lt (window_told old) (open_window options) && nat_le (open_window options) (window_told new))
+
+-- An acknowledgement is due at this moment if the window opens.
+abbrev pub told_open : Bool → ℕ → Transfer → Transfer
+told_open true moment transfer = record transfer { tracker = hastened moment transfer.tracker }
+told_open false moment transfer = transfer
+
+-- with these messages ready
+abbrev pub with_messages : List MessageContent → Transfer → Transfer
+with_messages messages transfer = record transfer { reassembly = with_ready messages transfer.reassembly }
+
+-- once a message was taken, and these are left
+abbrev pub taken_to : Options → ℕ → List MessageContent → Transfer → Transfer
+taken_to options moment messages transfer = told_open (opens_window options transfer (with_messages messages transfer)) moment (with_messages messages transfer)
+
 -- The first message that is ready is taken. Its bytes count no more.
 abbrev pub TakeWhere : Endpoint → Transfer → List MessageContent → Outcome → Type 0
 TakeWhere e transfer [] o = o ≡ still e
-TakeWhere e transfer (message ∷ messages) o = o ≡ still (with_transfer e (record transfer { reassembly = with_ready messages transfer.reassembly }))
+TakeWhere e transfer (message ∷ messages) o = o ≡ still (with_transfer e (taken_to e.options e.moment messages transfer))
 
 abbrev pub TakeTurn : Endpoint → Option Transfer → Outcome → Type 0
 TakeTurn e None o = o ≡ still e

@@ -1,7 +1,8 @@
 -- How an association ends, whatever ends it.
-use Rattle.std.specs.Prelude.{ℕ, true, false, None, List, [], ◌∷◌, ◌++◌}
+use Rattle.std.specs.Prelude.{ℕ, true, false, None, List, [], ◌∷◌, ◌++◌, if◌then◌else◌}
 use Rattle.dcsctp_types.specs.wire.Texts.{causes_text}
 use Rattle.dcsctp_types.specs.declared.association.Held.{Held}
+use Rattle.dcsctp_types.specs.declared.options.Options.{Options}
 use Rattle.dcsctp_types.specs.declared.ends.AbortReason.{AbortReason}
 use Rattle.dcsctp_types.specs.declared.ends.AbortReason.TheVariants as reasons
 use Rattle.dcsctp_types.specs.declared.kinds.ErrorKind.TheVariants.{PeerReported, ProtocolViolation, TooManyRetries}
@@ -12,7 +13,7 @@ use Rattle.dcsctp_spec.specs.Packet.{Emission, abort, shutdown_complete}
 use Rattle.dcsctp_spec.specs.endpoint.Endpoint.{Endpoint, Core, closed, cookie_echoed, open_in, stopped_timers}
 use Rattle.dcsctp_spec.specs.association.Effect.{ends}
 use Rattle.dcsctp_spec.specs.endpoint.Outcome.{Outcome, still, quiet, to_peer, sends, emits}
-use Rattle.dcsctp_spec.specs.endpoint.Following.{dropped_rest}
+use Rattle.dcsctp_spec.specs.endpoint.Following.{Following, next_chunk, packet_end, dropped_rest}
 
 -- No association, and no timer. What waits to be sent is kept, and so is the error count.
 abbrev pub closed_after : Endpoint → Endpoint
@@ -64,7 +65,14 @@ aborting_outcome e core reason = ended_outcome (abort_sent e core reason) (end_o
 
 -- ---- a chunk of a shutdown that is out of place
 
+-- What follows such a chunk. By the RFC one answers a packet, so no other chunk of it is handled.
+abbrev pub after_reflected : Options → Following
+after_reflected options = if options.follow_rfc then packet_end else next_chunk
+
 -- A SHUTDOWN ACK that isn't awaited is answered by SHUTDOWN COMPLETE with the T bit, under its own tag (RFC 9260, sections
 -- 8.4 and 8.5.1, E). Its change is `reflected_change`.
 abbrev pub reflected_outcome : Endpoint → ℕ → Outcome
-reflected_outcome e header = sends e [] [] (record { with_checksum = true; packet = record { tag = header; contents = shutdown_complete true ∷ [] } })
+reflected_outcome e header =
+    record (sends e [] [] (record { with_checksum = true; packet = record { tag = header; contents = shutdown_complete true ∷ [] } })) {
+      following = after_reflected e.options;
+    }

@@ -14,8 +14,7 @@ use Rattle.dcsctp_spec.specs.queues.Filling.{Stage, FillsPacket}
 use Rattle.dcsctp_spec.specs.queues.Items.{is_first_abandoned}
 use Rattle.dcsctp_spec.specs.queues.Retransmission.{RetransmissionState, outstanding_count, can_send}
 use Rattle.dcsctp_spec.specs.queues.Skipping.{SaysForward}
-use Rattle.dcsctp_spec.specs.queues.Transfer.{Transfer, may_give, is_idle}
-use Rattle.dcsctp_spec.specs.queues.Reassembly.{remaining_bytes}
+use Rattle.dcsctp_spec.specs.queues.Transfer.{Transfer, window_told, may_give, is_idle}
 use Rattle.dcsctp_spec.specs.queues.Tracker.{TrackerState, is_acknowledgement_due, owes_acknowledgement, sack_of, sacked}
 use Rattle.dcsctp_spec.specs.endpoint.BegunResets.{BegunReset, streams_within, last_assigned_tsn, begun_in, request_contents, begun_effects, queue_requesting, retransmission_begun, after_begun}
 use Rattle.dcsctp_spec.specs.endpoint.Endpoint.{Endpoint, Core, closed, cookie_wait, cookie_echoed, open_in, Timers, heartbeats_begun, held_in}
@@ -139,7 +138,7 @@ wants_sack first_ask queue transfer =
 
 -- the SACK of what was received, with what is left of the receive window (RFC 9260, section 3.3.4)
 abbrev pub own_sack : Transfer → Plain
-own_sack transfer = unworked (sack_chunk (sack_of transfer.tracker (remaining_bytes transfer.reassembly)))
+own_sack transfer = unworked (sack_chunk (sack_of transfer.tracker (window_told transfer)))
 
 -- It is sent if it is asked for and fits. Then all received data counts as acknowledged.
 abbrev pub Acknowledges : Bool → ℕ → Transfer → TrackerState → List Plain → Type 0

@@ -1,5 +1,5 @@
 -- How an association is shut down, from either end (RFC 9260, section 9.2).
-use Rattle.std.specs.Prelude.{◌==◌, ℕ, Bool, true, false, Option, None, Some, []}
+use Rattle.std.specs.Prelude.{◌==◌, ℕ, Bool, true, false, not, ◌&&◌, Option, None, Some, []}
 use Rattle.std.specs.Option.{option_map}
 use Rattle.dcsctp_types.specs.declared.association.Pair.{Pair}
 use Rattle.dcsctp_types.specs.declared.association.Held.{Held}
@@ -10,10 +10,12 @@ use Rattle.dcsctp_spec.specs.Packet.{shutdown, shutdown_ack, shutdown_complete}
 use Rattle.dcsctp_spec.specs.queues.Tracker.{cumulative_tsn}
 use Rattle.dcsctp_spec.specs.queues.Transfer.{Transfer}
 use Rattle.dcsctp_spec.specs.queues.Items.{unacknowledged_items}
+use Rattle.dcsctp_spec.specs.queues.SendQueue.{waits_at}
 use Rattle.dcsctp_spec.specs.endpoint.Endpoint.{Endpoint, Core, closed, cookie_wait, cookie_echoed, open_in, OpenPhase, established, shutdown_pending, shutdown_sent, shutdown_received, shutdown_ack_sent}
 use Rattle.dcsctp_spec.specs.endpoint.Timers.{TimerSettings, started, going_on}
 use Rattle.dcsctp_spec.specs.endpoint.Outcome.{Outcome, still, quiet, sends, to_peer}
 use Rattle.dcsctp_spec.specs.endpoint.BegunResets.{rto_of}
+use Rattle.dcsctp_spec.specs.endpoint.FlushOutcomes.{allows_packet}
 use Rattle.dcsctp_spec.specs.endpoint.EndOutcomes.{ended_outcome, reflected_outcome}
 
 -- ---- T2-shutdown
@@ -62,19 +64,28 @@ abbrev pub is_all_acknowledged : Option Transfer → Bool
 is_all_acknowledged None = true
 is_all_acknowledged (Some transfer) = unacknowledged_items transfer.retransmission.outstanding.items == 0
 
+-- By the RFC a shutdown waits for what is queued, too (RFC 9260, section 9.2): while packets may be sent, and a message waits that
+-- can be.
+abbrev pub waits_for_queue : Endpoint → Bool
+waits_for_queue e = e.options.follow_rfc && (allows_packet e.options.max_burst && waits_at e.moment e.below.queue)
+
+-- May a shutdown go on?
+abbrev pub may_go_on : Endpoint → Bool
+may_go_on e = is_all_acknowledged e.below.transfer && not (waits_for_queue e)
+
 abbrev pub step_by : Bool → Endpoint → OpenPhase → Pair → Held → Outcome
 step_by true e shutdown_pending my held = shutdown_is_sent e my held
 step_by true e shutdown_received my held = shutdown_ack_is_sent e my held
 step_by is_acknowledged e phase my held = still e
 
--- A shutdown under way goes on once all is acknowledged. Its change is `shutdown_step_change`.
+-- A shutdown under way goes on once it may. Its change is `shutdown_step_change`.
 abbrev pub step_outcome : Endpoint → Core → Outcome
-step_outcome e (open_in phase my held) = step_by (is_all_acknowledged e.below.transfer) e phase my held
+step_outcome e (open_in phase my held) = step_by (may_go_on e) e phase my held
 step_outcome e core = still e
 
 -- The association enters this phase, and may go on from there.
 abbrev pub step_from : Endpoint → OpenPhase → Pair → Held → Outcome
-step_from e phase my held = step_by (is_all_acknowledged e.below.transfer) (phase_at e phase my held) phase my held
+step_from e phase my held = step_by (may_go_on e) (phase_at e phase my held) phase my held
 
 -- ---- the user's call
 

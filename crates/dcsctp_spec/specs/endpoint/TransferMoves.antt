@@ -1,5 +1,5 @@
 -- What the transfer layer does with its inputs.
-use Rattle.std.specs.Prelude.{◌≡◌, ℕ, Bool, true, false, not, ◌&&◌, Option, None, Some, List}
+use Rattle.std.specs.Prelude.{◌≡◌, ℕ, nat_lt, Bool, true, false, not, ◌&&◌, ◌||◌, Option, None, Some, List}
 use Rattle.dcsctp_types.specs.wire.CleanBlocks.{blocks_in, AreCleaned}
 use Rattle.dcsctp_types.specs.wire.Content.{SackContent}
 use Rattle.dcsctp_types.specs.wire.declared.chunk.sack.GapAckBlock.{GapAckBlock}
@@ -7,13 +7,13 @@ use Rattle.dcsctp_types.specs.declared.arrivals.SkippedTo.{SkippedTo}
 use Rattle.dcsctp_spec.specs.queues.Acknowledging.{AcknowledgesItems}
 use Rattle.dcsctp_spec.specs.queues.Arrivals.{Arrival}
 use Rattle.dcsctp_spec.specs.queues.IncomingStreams.{ChunkModel}
-use Rattle.dcsctp_spec.specs.queues.Reassembly.{ReassemblyState, is_above_watermark, AddsData, SkipsData}
+use Rattle.dcsctp_spec.specs.queues.Reassembly.{ReassemblyState, is_above_watermark, remaining_bytes, AddsData, SkipsData}
 use Rattle.dcsctp_spec.specs.queues.Outstanding.{acknowledged_by}
 use Rattle.dcsctp_spec.specs.queues.Retransmission.{RetransmissionState, with_duration, after_expiry}
 use Rattle.dcsctp_spec.specs.queues.RoundTrip.{MeasuresRoundTrip}
 use Rattle.dcsctp_spec.specs.queues.Timeout.{TimeoutState, timeout_after}
 use Rattle.dcsctp_spec.specs.queues.Transfer.{Transfer}
-use Rattle.dcsctp_spec.specs.queues.Tracker.{is_new_tsn, observed, is_forward, after_forward, is_valid_tsn, with_timeout}
+use Rattle.dcsctp_spec.specs.queues.Tracker.{is_new_tsn, observed, is_below_highest, delay_over, is_forward, after_forward, is_valid_tsn, with_timeout}
 
 -- ---- data that is received
 
@@ -27,14 +27,26 @@ pub record TakesData (arrival : Arrival) (old new : Transfer) : Type 0 where
   pub reassembly : AddsWhere (is_new_tsn arrival.tsn old.tracker) arrival.tsn arrival.chunk old.reassembly new.reassembly
   pub rest : new ≡ record old { tracker = observed arrival.tsn arrival.immediate_ack old.tracker; reassembly = new.reassembly }
 
--- DATA or I-DATA was received. It is dropped if the window is nearly used up, or if its TSN is too far ahead (RFC 9260, sections
--- 6.2 and 6.5).
+-- Is there room for data of this TSN: is the window not nearly used up? By the RFC data that fills a gap is taken while some of the
+-- window is left (RFC 9260, section 6.2).
+abbrev pub has_room : ℕ → Transfer → Bool
+has_room tsn transfer =
+    not (is_above_watermark transfer.reassembly)
+    || (transfer.tracker.follows_rfc && is_below_highest tsn transfer.tracker && nat_lt 0 (remaining_bytes transfer.reassembly))
+
+-- Data is dropped. By the RFC it is answered at once if there was no room for it.
+abbrev pub dropping : Bool → Transfer → Transfer
+dropping true transfer = record transfer { tracker = delay_over transfer.tracker }
+dropping false transfer = transfer
+
+-- DATA or I-DATA was received. It is dropped if there is no room for it, or if its TSN is too far ahead (RFC 9260, sections 6.2 and
+-- 6.5).
 abbrev pub ReceivesWhere : Bool → Arrival → Transfer → Transfer → Type 0
 ReceivesWhere true arrival old new = TakesData arrival old new
-ReceivesWhere false arrival old new = new ≡ old
+ReceivesWhere false arrival old new = new ≡ dropping (old.tracker.follows_rfc && is_valid_tsn old.tracker.cumulative arrival.tsn) old
 
 abbrev pub ReceivesData : Arrival → Transfer → Transfer → Type 0
-ReceivesData arrival old new = ReceivesWhere (not (is_above_watermark old.reassembly) && is_valid_tsn old.tracker.cumulative arrival.tsn) arrival old new
+ReceivesData arrival old new = ReceivesWhere (has_room arrival.tsn old && is_valid_tsn old.tracker.cumulative arrival.tsn) arrival old new
 
 -- The reassembly queue skips messages if the cumulative TSN moves.
 abbrev pub SkipsWhere : Bool → ℕ → List SkippedTo → ReassemblyState → ReassemblyState → Type 0

@@ -1,6 +1,6 @@
 -- The reassembly queue as callers see it: what was received, and the receive window. Also a reset of streams that waits for data
 -- that was sent before it (RFC 6525, section 5.2.2).
-use Rattle.std.specs.Prelude.{◌≡◌, ◌==◌, ℕ, ◌+◌, ◌-◌, ◌*◌, ◌^◌, nat_le, nat_lt, Bool, true, false, not, ◌&&◌, Option, None, Some, List, [], ◌∷◌, ◌++◌, length, map}
+use Rattle.std.specs.Prelude.{◌≡◌, ◌==◌, ℕ, ◌+◌, ◌-◌, ◌*◌, ◌/◌, ◌^◌, nat_le, nat_lt, Bool, true, false, not, ◌&&◌, Option, None, Some, List, [], ◌∷◌, ◌++◌, length, map}
 use Rattle.std.specs.BTreeMap.{insert_entry}
 use Rattle.std.specs.List.{filter, list_any, sum_by}
 use Rattle.std.specs.Ordering.{nat_cmp}
@@ -60,6 +60,10 @@ remaining_bytes queue = queue.max_size - queued_bytes queue
 -- Is nine tenths of the receive window in use, or more? Then data is dropped.
 abbrev pub is_above_watermark : ReassemblyState → Bool
 is_above_watermark queue = nat_le (9 * queue.max_size) (10 * queued_bytes queue)
+
+-- the bytes that are left of nine tenths of it
+abbrev pub bytes_to_watermark : ReassemblyState → ℕ
+bytes_to_watermark queue = (9 * queue.max_size + 9) / 10 - queued_bytes queue
 
 -- nothing was received yet
 abbrev pub new_reassembly : ℕ → ReassemblyState

@@ -1,5 +1,5 @@
 -- The send queue: every message that waits to be sent (RFC 9260, section 6.9; RFC 8260, section 2.1). It outlasts an association.
-use Rattle.std.specs.Prelude.{◌≡◌, ℕ, ◌+◌, ◌-◌, ◌^◌, ◌%◌, ◌==◌, ◌<◌, min, nat_lt, not, Bool, true, false, Option, None, Some, is_some, List, [], ◌∷◌, length, map, if◌then◌else◌}
+use Rattle.std.specs.Prelude.{◌≡◌, ℕ, ◌+◌, ◌-◌, ◌^◌, ◌%◌, ◌==◌, ◌<◌, min, nat_lt, not, ◌&&◌, ◌||◌, Bool, true, false, Option, None, Some, is_some, List, [], ◌∷◌, length, map, if◌then◌else◌}
 use Rattle.std.specs.Option.{option_map}
 use Rattle.std.specs.List.{list_any, AllByRecursion}
 use Rattle.std.specs.Duration.{as_nanos, max_nanos}
@@ -8,7 +8,7 @@ use Rattle.dcsctp_types.specs.declared.message.SendOptions.{SendOptions}
 use Rattle.dcsctp_types.specs.Ids.{lifecycle_number}
 use Rattle.dcsctp_types.specs.queues.Messages.{MessageContent}
 use Rattle.dcsctp_types.specs.declared.sending.UnderWay.{UnderWay}
-use Rattle.dcsctp_types.specs.queues.SendStreams.{Waiting, Stream, IsAscending, front_of, stream_at, unused, with_message, next_numbers, counted, begun_anew, raised, turn_of}
+use Rattle.dcsctp_types.specs.queues.SendStreams.{Waiting, Stream, IsAscending, front_of, is_expired, stream_at, unused, with_message, next_numbers, counted, begun_anew, raised, turn_of}
 
 -- What waits to be sent, of all streams.
 pub record SendQueueState : Type 0 where
@@ -135,6 +135,19 @@ may_send (Some under_way) streams = true
 -- Is there data to send: a message under way, or one that may be started? Its age isn't looked at.
 abbrev pub has_data : SendQueueState → Bool
 has_data queue = may_send queue.under_way queue.streams
+
+-- Can a message of the stream be sent: is it under way, or may it be started?
+abbrev pub can_go_on : Option UnderWay → Stream → Bool
+can_go_on None stream = is_some (turn_of stream)
+can_go_on (Some under_way) stream = is_some (turn_of stream) || under_way.stream_id.0 == stream.id
+
+-- Is there a message at this moment whose lifetime isn't over?
+abbrev pub has_live : ℕ → List Waiting → Bool
+has_live now messages = list_any (λ message. not (is_expired now message)) messages
+
+-- Does a message wait at this moment that can be sent?
+abbrev pub waits_at : ℕ → SendQueueState → Bool
+waits_at now queue = list_any (λ stream. can_go_on queue.under_way stream && has_live now stream.messages) queue.streams
 
 -- ---- which numbers count
 

@@ -27,6 +27,13 @@ pub record TrackerState : Type 0 where
   -- runs while an acknowledgement is delayed
   pub delay : TimerModel
   pub longest_delay : ℕ
+  -- Is the RFC followed where the port doesn't (`Options::follow_rfc`)?
+  pub follows_rfc : Bool
+
+-- the highest number that was received
+abbrev pub highest : ℕ → List TsnRange → ℕ
+highest cumulative [] = cumulative
+highest cumulative (range ∷ ranges) = highest range.last ranges
 
 -- Was the TSN of this number received?
 abbrev pub has_received : TrackerState → ℕ → Bool
@@ -118,6 +125,7 @@ new_tracker options peer_first_tsn =
         };
       };
       longest_delay = as_nanos options.delayed_ack_max_timeout;
+      follows_rfc = options.follow_rfc;
     }
 
 -- the duplicates with a TSN that isn't new, if there is room
@@ -129,9 +137,15 @@ with_duplicate tsn false duplicates = if nat_lt (length duplicates) 20 then dupl
 abbrev pub is_new_tsn : ℕ → TrackerState → Bool
 is_new_tsn tsn tracker = not (has_received tracker (number_of tracker.cumulative tsn))
 
--- Is data to be acknowledged at once? Yes if it is the association's first, has the I flag, came before, or leaves a gap.
+-- Does data that comes while these ranges are there come into a gap? By the RFC that counts (RFC 9260, section 6.7).
+abbrev pub heeds_gap : Bool → List TsnRange → Bool
+heeds_gap follows_rfc ranges = follows_rfc && has_ranges ranges
+
+-- Is data to be acknowledged at once? Yes if it is the association's first, has the I flag, came before, or leaves a gap; also if
+-- it closes one, by the RFC.
 abbrev pub is_urgent : Bool → Bool → TrackerState → List TsnRange → Bool
-is_urgent is_new immediate tracker ranges = not is_new || immediate || not tracker.has_seen_data || has_ranges ranges
+is_urgent is_new immediate tracker ranges =
+    not is_new || immediate || not tracker.has_seen_data || has_ranges ranges || heeds_gap tracker.follows_rfc tracker.ranges
 
 -- data with this TSN and I flag was received
 abbrev pub observed : ℕ → Bool → TrackerState → TrackerState
@@ -146,6 +160,10 @@ observed tsn immediate tracker =
       acknowledgement = after_arrival tracker.acknowledgement (is_urgent is_new immediate tracker left.ranges);
       delay = stopped tracker.delay;
     }
+
+-- Was a later TSN received than this one?
+abbrev pub is_below_highest : ℕ → TrackerState → Bool
+is_below_highest tsn tracker = nat_lt (number_of tracker.cumulative tsn) (highest tracker.cumulative tracker.ranges)
 
 -- Does a FORWARD TSN with this TSN move the cumulative one?
 abbrev pub is_forward : ℕ → ℕ → Bool
@@ -165,6 +183,14 @@ moved_forward tsn tracker =
 -- An acknowledgement is due: its delay is over, and doesn't start again by itself.
 abbrev pub delay_over : TrackerState → TrackerState
 delay_over tracker = record tracker { acknowledgement = Immediate; delay = stopped tracker.delay }
+
+-- An acknowledgement is due at this moment: it is delayed until then.
+abbrev pub hastened : ℕ → TrackerState → TrackerState
+hastened moment tracker =
+    record tracker {
+      acknowledgement = Delayed;
+      delay = record tracker.delay { running = started moment (record tracker.delay.settings { duration = 0 }) };
+    }
 
 -- A FORWARD TSN was received. If it doesn't move the cumulative TSN, an acknowledgement is due at once.
 abbrev pub after_forward : ℕ → TrackerState → TrackerState

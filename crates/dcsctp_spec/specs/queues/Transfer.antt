@@ -1,11 +1,11 @@
 -- The transfer layer: what an association has in flight and has received; and what waits to be sent.
-use Rattle.std.specs.Prelude.{◌==◌, ℕ, nat_lt, not, ◌&&◌, ◌||◌, Bool, true, false, Option, None, Some, List, [], ◌∷◌}
+use Rattle.std.specs.Prelude.{◌==◌, ℕ, nat_lt, not, ◌&&◌, ◌||◌, Bool, true, false, if◌then◌else◌, Option, None, Some, List, [], ◌∷◌}
 use Rattle.dcsctp_types.specs.declared.capabilities.Capabilities.{Capabilities}
 use Rattle.dcsctp_types.specs.declared.options.Options.{Options}
 use Rattle.dcsctp_spec.specs.queues.Items.{marked_items}
 use Rattle.dcsctp_spec.specs.queues.Outstanding.{next_tsn}
 use Rattle.dcsctp_spec.specs.queues.OwnResets.{ready_streams}
-use Rattle.dcsctp_spec.specs.queues.Reassembly.{ReassemblyState, new_reassembly}
+use Rattle.dcsctp_spec.specs.queues.Reassembly.{ReassemblyState, new_reassembly, remaining_bytes, bytes_to_watermark}
 use Rattle.dcsctp_spec.specs.queues.Retransmission.{RetransmissionState, new_retransmission, outstanding_count, can_send}
 use Rattle.dcsctp_spec.specs.queues.SendQueue.{SendQueueState, empty_queue, has_data}
 use Rattle.dcsctp_spec.specs.queues.Timeout.{TimeoutState, new_timeout}
@@ -26,6 +26,10 @@ new_transfer options capabilities first_tsn peer_first_tsn window =
       tracker = new_tracker options peer_first_tsn;
       reassembly = new_reassembly options.max_receiver_window_buffer_size;
     }
+
+-- What a SACK says is left of the receive window. By the RFC it is what is left for new data.
+abbrev pub window_told : Transfer → ℕ
+window_told transfer = if transfer.tracker.follows_rfc then bytes_to_watermark transfer.reassembly else remaining_bytes transfer.reassembly
 
 -- the TSN that is sent next, if there is an association
 abbrev pub next_tsn_of : Option Transfer → ℕ

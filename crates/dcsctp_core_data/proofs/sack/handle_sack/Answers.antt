@@ -38,11 +38,12 @@ returns-in_err-proceed-in-Valid g c =
     let after = c.handle_sack.new.self in
     let content = sack_content c.args.chunk.now in
     let left = left_with old.state tcb after in
-    let sack = taken old content c.in-Valid.acknowledges left c.handle_sack.new.events
-    (ap is_some (found old.state tcb c.in-Some.ensures.tcb)) (sacks_lent old.moment content old.state tcb after _ _ _ c.in-Some.ensures.tcb (rw c.in-Valid.is at c.in_ok-handled.ensures)) in
+    let shows = c.shows_peer-is_there.result in
+    let sack = taken old content c.in-Valid.acknowledges shows left c.handle_sack.new.events
+    (ap is_some (found old.state tcb c.in-Some.ensures.tcb)) c.shows_peer-is_there.ensures (sacks_lent old.moment content old.state tcb after _ _ _ c.in-Some.ensures.tcb (rw c.in-Valid.is at c.in_ok-handled.ensures)) in
     rw (err_from_is_err_and c.from_residual-in_err-proceed-in-Valid.result c.from_residual-in_err-proceed-in-Valid.ensures.1).1
-    (sack_cut old content c.in-Valid.acknowledges left c.handle_sack.new.events c.heed_answer.new.context c.proceed.new.context sack c.heed_answer.ensures
-    (c.in_err-proceed-in-Valid.ensures (still_held old content c.in-Valid.acknowledges left c.handle_sack.new.events c.heed_answer.new.context sack c.heed_answer.ensures)))
+    (sack_cut old content shows left c.handle_sack.new.events c.heed_answer.new.context c.proceed.new.context sack c.heed_answer.ensures
+    (c.in_err-proceed-in-Valid.ensures (still_held old content shows left c.handle_sack.new.events c.heed_answer.new.context sack c.heed_answer.ensures)))
 
 pub returns-in_ok-proceed-in-Valid : goal.returns-in_ok-proceed-in-Valid
 returns-in_ok-proceed-in-Valid g c =
@@ -51,7 +52,8 @@ returns-in_ok-proceed-in-Valid g c =
     let after = c.handle_sack.new.self in
     let content = sack_content c.args.chunk.now in
     let left = left_with old.state tcb after in
-    let sack = taken old content c.in-Valid.acknowledges left c.handle_sack.new.events
-    (ap is_some (found old.state tcb c.in-Some.ensures.tcb)) (sacks_lent old.moment content old.state tcb after _ _ _ c.in-Some.ensures.tcb (rw c.in-Valid.is at c.in_ok-handled.ensures)) in
-    sack_done g.R.Rng.stream old content c.in-Valid.acknowledges left c.handle_sack.new.events c.heed_answer.new.context c.proceed.new.context sack c.heed_answer.ensures
-    (c.in_ok-proceed-in-Valid.ensures (still_held old content c.in-Valid.acknowledges left c.handle_sack.new.events c.heed_answer.new.context sack c.heed_answer.ensures))
+    let shows = c.shows_peer-is_there.result in
+    let sack = taken old content c.in-Valid.acknowledges shows left c.handle_sack.new.events
+    (ap is_some (found old.state tcb c.in-Some.ensures.tcb)) c.shows_peer-is_there.ensures (sacks_lent old.moment content old.state tcb after _ _ _ c.in-Some.ensures.tcb (rw c.in-Valid.is at c.in_ok-handled.ensures)) in
+    sack_done g.R.Rng.stream old content shows left c.handle_sack.new.events c.heed_answer.new.context c.proceed.new.context sack c.heed_answer.ensures
+    (c.in_ok-proceed-in-Valid.ensures (still_held old content shows left c.handle_sack.new.events c.heed_answer.new.context sack c.heed_answer.ensures))

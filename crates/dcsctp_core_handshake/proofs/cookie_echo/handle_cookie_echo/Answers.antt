@@ -31,14 +31,14 @@ pub returns-in-Discard : goal.returns-in-Discard
 returns-in-Discard g c =
     works_discard g.R.Rng.stream (view_of c.args.context.now) c.args.header_tag c.args.chunk.now.cookie.now (cookie_of c.in-Ok.cookie) (record { reads = c.in-Ok.ensures; is = c.in-Discard.ensures })
 
-pub returns-in_err-establish-in-EstablishNew : goal.returns-in_err-establish-in-EstablishNew
-returns-in_err-establish-in-EstablishNew g c =
-    rw (err_from_is_err_and c.from_residual-in_err-establish-in-EstablishNew.result c.from_residual-in_err-establish-in-EstablishNew.ensures.1).1
-    (works_new_cut g.R.Rng.stream (view_of c.args.context.now) _ c.args.header_tag c.args.chunk.now.cookie.now (cookie_of c.in-Ok.cookie) (record { reads = c.in-Ok.ensures; is = c.in-EstablishNew.ensures }) c.in_err-establish-in-EstablishNew.ensures)
+pub returns-in_err-establish_new-in-EstablishNew : goal.returns-in_err-establish_new-in-EstablishNew
+returns-in_err-establish_new-in-EstablishNew g c =
+    rw (err_from_is_err_and c.from_residual-in_err-establish_new-in-EstablishNew.result c.from_residual-in_err-establish_new-in-EstablishNew.ensures.1).1
+    (works_new_cut g.R.Rng.stream (view_of c.args.context.now) _ c.args.header_tag c.args.chunk.now.cookie.now (cookie_of c.in-Ok.cookie) (record { reads = c.in-Ok.ensures; is = c.in-EstablishNew.ensures }) c.in_err-establish_new-in-EstablishNew.ensures)
 
-pub returns-in_ok-establish-in-EstablishNew : goal.returns-in_ok-establish-in-EstablishNew
-returns-in_ok-establish-in-EstablishNew g c =
-    works_new g.R.Rng.stream (view_of c.args.context.now) _ c.args.header_tag c.args.chunk.now.cookie.now (cookie_of c.in-Ok.cookie) (record { reads = c.in-Ok.ensures; is = c.in-EstablishNew.ensures }) c.in_ok-establish-in-EstablishNew.ensures
+pub returns-in_ok-establish_new-in-EstablishNew : goal.returns-in_ok-establish_new-in-EstablishNew
+returns-in_ok-establish_new-in-EstablishNew g c =
+    works_new g.R.Rng.stream (view_of c.args.context.now) _ c.args.header_tag c.args.chunk.now.cookie.now (cookie_of c.in-Ok.cookie) (record { reads = c.in-Ok.ensures; is = c.in-EstablishNew.ensures }) c.in_ok-establish_new-in-EstablishNew.ensures
 
 pub returns-in-RestartDetected : goal.returns-in-RestartDetected
 returns-in-RestartDetected g c =

@@ -7,7 +7,7 @@ use Rattle.dcsctp_core_messages.proofs.taking.get_next_message.Goals as goal
 pub returns-in-None : goal.returns-in-None
 returns-in-None g c =
     let old = c.args.context.now in
-    taken_next old old.state None (takes_nobody old.state c.in-None.ensures.tcb)
+    taken_next old old.state None (takes_nobody old.options old.moment old.state c.in-None.ensures.tcb)
 
 pub returns-in-Some : goal.returns-in-Some
 returns-in-Some g c =
@@ -16,4 +16,4 @@ returns-in-Some g c =
     let after = c.get_next_message.new.self in
     let taken = c.get_next_message.ensures in
     taken_next old (left_with old.state tcb after) c.get_next_message.result
-    (takes_lent old.state tcb after c.get_next_message.result c.in-Some.ensures.tcb taken.some taken.left taken.none)
+    (takes_lent old.options old.moment old.state tcb after c.get_next_message.result c.in-Some.ensures.tcb taken.some taken.left taken.none)

@@ -1,7 +1,6 @@
 use Rattle.std.proofs.Common.{◌∙◌, ap, sym, ℕ, ◌%◌, ◌^◌}
-use Rattle.dcsctp_send_retransmission.specs.spec.queues.Reassembly.{remaining_bytes}
 use Rattle.dcsctp_send_retransmission.specs.spec.queues.Transfer.{Transfer}
-use Rattle.dcsctp_transfer.proofs.SackLemmas.{gives_wanted}
+use Rattle.dcsctp_transfer.proofs.SackLemmas.{told_where, gives_wanted}
 use Rattle.dcsctp_transfer.proofs.transfer.Transfer.acknowledge.Goals as goal
 
 pub returns-clause-ok : goal.returns-clause-ok
@@ -18,5 +17,5 @@ returns-clause-ok c =
       duplicates = c.in_ok-sack.ensures.duplicates;
       few = c.in_ok-sack.ensures.few;
     })
-    (c.in_ok-sack.ensures.window ∙ (ap (λ (n : ℕ). n % 2 ^ 32) c.remaining_bytes-window.ensures.left ∙ ap (λ (t : Transfer). (remaining_bytes t.reassembly) % 2 ^ 32) c.self.view_is))
+    (c.in_ok-sack.ensures.window ∙ (ap (λ (n : ℕ). n % 2 ^ 32) c.window_told-window.ensures ∙ ap (λ (t : Transfer). (told_where c.should_send_ack.new.self.follows_rfc t.reassembly) % 2 ^ 32) c.self.view_is))
     c.add_sack.ensures.added

@@ -1,0 +1,105 @@
+-- Outside examples of what `follow_rfc` changes, worked by hand and computed by the definitions: a wrong rule in specs/ would not
+-- check here. Shutdown and COOKIE ECHO have theirs in ShutdownFacts and CookieEchoFacts.
+use Rattle.std.proofs.Common.{◌≡◌, ℕ, zero, suc, Bool, true, false, None, Some, List, [], ◌∷◌, refl}
+use Rattle.dcsctp_types.specs.declared.options.Options.{Options}
+use Rattle.dcsctp_types.specs.declared.tracking.TsnRange.{TsnRange}
+use Rattle.dcsctp_types.specs.declared.tracking.AckState.TheVariants.{Idle, Immediate, BecomingDelayed, Delayed}
+use Rattle.dcsctp_types.specs.queues.Messages.{MessageContent}
+use Rattle.dcsctp_spec.specs.endpoint.Timers.{running_deadline}
+use Rattle.dcsctp_spec.specs.queues.Reassembly.{ReassemblyState, bytes_to_watermark, remaining_bytes}
+use Rattle.dcsctp_spec.specs.queues.Tracker.{TrackerState, observed, hastened, is_below_highest}
+use Rattle.dcsctp_spec.specs.queues.Transfer.{Transfer, window_told}
+use Rattle.dcsctp_spec.specs.endpoint.DataOutcomes.{heeds_window, opens_window, taken_to}
+use Rattle.dcsctp_spec.specs.endpoint.TransferMoves.{has_room, dropping}
+
+-- ---- what is received
+
+-- TSNs up to 10 and from 12 to 13 were received
+abbrev gap_at_11 : Bool → TrackerState → TrackerState
+gap_at_11 follows tracker =
+    record tracker { cumulative = 10; ranges = record { first = 12; last = 13 } ∷ []; has_seen_data = true; acknowledgement = Idle; follows_rfc = follows }
+
+-- TSN 11 closes the gap.
+closed_gap : (tracker : TrackerState) → (observed 11 false (gap_at_11 true tracker)).acknowledgement ≡ Immediate
+closed_gap tracker = refl
+
+closed_gap_by_port : (tracker : TrackerState) → (observed 11 false (gap_at_11 false tracker)).acknowledgement ≡ BecomingDelayed
+closed_gap_by_port tracker = refl
+
+-- ---- the receive window
+
+-- a message of so many bytes, of a byte each
+abbrev bytes : ℕ → List ℕ
+bytes zero = []
+bytes (suc more) = 1 ∷ bytes more
+
+abbrev message : ℕ → MessageContent
+message count = record { stream = 1; ppid = 53; payload = bytes count }
+
+-- Messages of 5 and 4 bytes are ready, and the window has 10 bytes: nine tenths are held. With one of 3 bytes it isn't.
+abbrev holding : List MessageContent → ReassemblyState → ReassemblyState
+holding messages queue =
+    record queue { max_size = 10; deferral = None; incoming = record { messages_received = 2; ready = messages; streams = []; unordered = []; last_tsn_number = 1 } }
+
+abbrev full : Bool → Transfer → Transfer
+full follows transfer = record transfer { tracker = gap_at_11 follows transfer.tracker; reassembly = holding (message 5 ∷ message 4 ∷ []) transfer.reassembly }
+
+-- TSN 11 fills the gap, TSN 14 doesn't.
+room_in_gap : (transfer : Transfer) → has_room 11 (full true transfer) ≡ true
+room_in_gap transfer = refl
+
+no_room_behind : (transfer : Transfer) → has_room 14 (full true transfer) ≡ false
+no_room_behind transfer = refl
+
+no_room_by_port : (transfer : Transfer) → has_room 11 (full false transfer) ≡ false
+no_room_by_port transfer = refl
+
+-- With the last byte in use there is no room even for what fills a gap.
+no_room_at_all : (transfer : Transfer) → has_room 11 (record (full true transfer) { reassembly = holding (message 5 ∷ message 5 ∷ []) transfer.reassembly }) ≡ false
+no_room_at_all transfer = refl
+
+-- What is dropped is answered at once.
+answered : (transfer : Transfer) → (dropping true (full true transfer)).tracker.acknowledgement ≡ Immediate
+answered transfer = refl
+
+-- Nothing is left for new data, though a byte is left of the window.
+nothing_told : (transfer : Transfer) → window_told (full true transfer) ≡ 0
+nothing_told transfer = refl
+
+one_told_by_port : (transfer : Transfer) → window_told (full false transfer) ≡ 1
+one_told_by_port transfer = refl
+
+-- A window of 15 bytes has room for new data up to 13.5 of them, so with 13 in use one more is told.
+rounded_up : (queue : ReassemblyState) → bytes_to_watermark (record (holding (message 9 ∷ message 4 ∷ []) queue) { max_size = 15 }) ≡ 1
+rounded_up queue = refl
+
+-- ---- a window that opens
+
+-- packets of 32 bytes, and a window of 10
+abbrev small : Options → Options
+small options = record options { mtu = 32; max_receiver_window_buffer_size = 10; follow_rfc = true }
+
+-- The first message is taken: 5 of 9 bytes are free, which is half of the window.
+opens : (options : Options) (transfer : Transfer) → (taken_to (small options) 70 (message 4 ∷ []) (full true transfer)).tracker.acknowledgement ≡ Delayed
+opens options transfer = refl
+
+due_at_once : (options : Options) (transfer : Transfer) → running_deadline (taken_to (small options) 70 (message 4 ∷ []) (full true transfer)).tracker.delay.running ≡ Some 70
+due_at_once options transfer = refl
+
+-- One of 4 bytes isn't enough.
+stays_small : (options : Options) (transfer : Transfer) → (taken_to (small options) 70 (message 5 ∷ []) (full true transfer)).tracker.acknowledgement ≡ Idle
+stays_small options transfer = refl
+
+opens_by_port : (options : Options) (transfer : Transfer) → (taken_to (small options) 70 (message 4 ∷ []) (full false transfer)).tracker.acknowledgement ≡ Idle
+opens_by_port options transfer = refl
+
+-- ---- a probe of a closed window
+
+answered_probe : (options : Options) → heeds_window (small options) 31 ≡ true
+answered_probe options = refl
+
+open_window_counts : (options : Options) → heeds_window (small options) 32 ≡ false
+open_window_counts options = refl
+
+answered_by_port : (options : Options) → heeds_window (record (small options) { follow_rfc = false }) 0 ≡ false
+answered_by_port options = refl
