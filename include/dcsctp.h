@@ -349,9 +349,10 @@ int32_t dcsctp_messages_ready_count(dcsctp_socket *socket, size_t *count) DCSCTP
 
 /* Takes the message that became ready first and writes what it is: 1. Where none is ready: 0, and
  * its length is 0. Its bytes leave the receive window. They can be copied until the next call of
- * dcsctp_get_next_message. Messages that weren't taken are lost when the next association begins.
- * With `follow_rfc` the deadline is the present moment once a full window opens, so that
- * dcsctp_advance_time tells the peer. It allocates nothing. Error: NO_SOCKET. */
+ * dcsctp_get_next_message. Messages that weren't taken are lost when the association ends, so take
+ * all before you hand in the next packet. With `follow_rfc` the deadline is the present moment once
+ * a full window opens, so that dcsctp_advance_time tells the peer. It allocates nothing.
+ * Error: NO_SOCKET. */
 int32_t dcsctp_get_next_message(dcsctp_socket *socket, dcsctp_message *message) DCSCTP_CALL;
 
 /* Copies the bytes of the message that was taken last, and writes its length.
