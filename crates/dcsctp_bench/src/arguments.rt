@@ -1,5 +1,6 @@
 //! What the arguments of the program say.
 
+use crate::rules::{Case, Rule};
 use crate::strain::{Following, HOLES, Holding, Strain};
 
 /// What the program is to do.
@@ -13,6 +14,9 @@ pub enum Command {
 
     /// Strains a receiver.
     Strain(Strain),
+
+    /// Tries a rule.
+    Rules(Case),
 
     /// Keeps that many pairs of connected sockets, each, if the flag says so, after 1 MiB was sent each way.
     Hold(u32, bool),
@@ -165,11 +169,56 @@ fn parse_strain(words: &[String]) -> Option<Strain> {
     })
 }
 
+// What a word says about which rule is tried; `None` if it says nothing.
+fn parse_rule(word: &str) -> Option<Rule> {
+    match word {
+        "readers" => Some(Rule::Readers),
+        "windows" => Some(Rule::Windows),
+        "shutdown" => Some(Rule::Shutdown),
+        "bulk" => Some(Rule::Bulk),
+        "reconnects" => Some(Rule::Reconnects),
+        "closes" => Some(Rule::Closes),
+        "equals" => Some(Rule::Equals),
+        _ => None,
+    }
+}
+
+// Is an option on, by this word? `None` if it says nothing.
+fn parse_switch(word: &str) -> Option<bool> {
+    match word {
+        "on" => Some(true),
+        "off" => Some(false),
+        _ => None,
+    }
+}
+
+// How a rule is tried, by these words.
+fn parse_case(words: &[String]) -> Option<Case> {
+    let mut case = Case {
+        rule: parse_rule(words.first()?.as_str())?,
+        follows_rfc: parse_switch(words.get(1)?.as_str())?,
+        loss: 0,
+        seed: 7,
+        window: 5_242_880,
+    };
+    for word in words.get(2..)? {
+        match word.as_str().split_once('=')? {
+            ("loss", value) => case.loss = number(value, 0, 1000)?,
+            ("seed", value) => case.seed = number(value, 0, MOST)?,
+            ("window", value) => case.window = number(value, 1500, MOST)?,
+            _ => return None,
+        }
+    }
+    Some(case)
+}
+
 /// The command that these words say, without the name of the program; `None` if they say no command.
 pub fn parse_command(words: &[String]) -> Option<Command> {
     let (name, words) = words.split_first()?;
-    if name.as_str() == "strain" {
-        return Some(Command::Strain(parse_strain(words)?));
+    match name.as_str() {
+        "strain" => return Some(Command::Strain(parse_strain(words)?)),
+        "rules" => return Some(Command::Rules(parse_case(words)?)),
+        _ => {}
     }
     let count = number(words.first()?.as_str(), 1, MOST)?;
     let rest = words.get(1..)?;

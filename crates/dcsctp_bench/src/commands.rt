@@ -4,6 +4,7 @@ use crate::arguments::{Command, Plan};
 use crate::chunks::Chunks;
 use crate::failure::Failure;
 use crate::pair::{BenchSocket, Link, Pair};
+use crate::rules::try_rule;
 use crate::strain::strain_receiver;
 use crate::traffic::Traffic;
 use std::alloc::{AllocError, Global};
@@ -16,6 +17,7 @@ pub fn obey(rt: &(impl Print + Alloc<A = Global>), command: Command) -> Result<(
         Command::Handshakes(count) => shake_hands(rt, count),
         Command::Messages(plan) => carry(rt, &plan),
         Command::Strain(strain) => strain_receiver(rt.alloc(), &strain),
+        Command::Rules(case) => try_rule(rt, &case),
         Command::Hold(count, is_used) => hold(rt, count, is_used),
     }
 }

@@ -8,6 +8,8 @@
 //! dcsctp_bench hold N [used]
 //! dcsctp_bench strain fragments|interleaved|gaps|links|waiting|streams|reset|skips-repeated|skips-rising|
 //!     skips-waiting|skips-interleaved HELD MORE
+//! dcsctp_bench rules readers|windows|shutdown|bulk|reconnects|closes|equals on|off [loss=PERMILLE] [seed=SEED]
+//!     [window=BYTES]
 //! ```
 //!
 //! `handshakes` makes N pairs of sockets one after another, connects each and drops it. `messages` sends N
@@ -18,8 +20,9 @@
 //! passed, the chunks of data that were sent, and those that the peer had when they arrived. `hold` makes N
 //! pairs and keeps them, `used` after 1 MiB was sent each way. `strain` has one socket hold HELD unfinished
 //! or waiting things that its peer sent. Then it hands it MORE packets, 10 at most, whose contents belong
-//! among those, or that name their stream as often as a FORWARD-TSN can. The exit status is 0 if all went well and 2 at bad arguments. Else it is 1, and standard
-//! error says why.
+//! among those, or that name their stream as often as a FORWARD-TSN can. `rules` tries what the option
+//! `follow_rfc` changes, `on` or `off`, with a receive window of BYTES: `rules.rt` says what the users do. The
+//! exit status is 0 if all went well and 2 at bad arguments. Else it is 1, and standard error says why.
 #![tactic(auto)]
 
 mod arguments;
@@ -28,8 +31,10 @@ mod commands;
 mod failure;
 mod ledger;
 mod pair;
+mod rules;
 mod strain;
 mod traffic;
+mod trial;
 
 use crate::arguments::{Command, parse_command};
 use std::alloc::Global;
@@ -42,7 +47,9 @@ const USAGE: &str = "usage: dcsctp_bench handshakes N
            [zero-checksum] [counts] [chunks]
        dcsctp_bench hold N [used]
        dcsctp_bench strain fragments|interleaved|gaps|links|waiting|streams|reset|skips-repeated|skips-rising|
-           skips-waiting|skips-interleaved HELD MORE";
+           skips-waiting|skips-interleaved HELD MORE
+       dcsctp_bench rules readers|windows|shutdown|bulk|reconnects|closes|equals on|off [loss=PERMILLE] [seed=SEED]
+           [window=BYTES]";
 
 // The command that the arguments say; none if they say no command.
 fn command(rt: &(impl Env + Alloc<A = Global>)) -> io::Result<Option<Command>> {

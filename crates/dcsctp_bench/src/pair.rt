@@ -6,7 +6,7 @@ ghost use Rattle.dcsctp_types.specs.Settings.{IsValid};
 use crate::chunks::Chunks;
 use crate::failure::Failure;
 use dcsctp_socket::{
-    DcSctpSocket, Options, Socket, SocketEvent, SocketFault, SocketTime,
+    DcSctpSocket, Message, Options, SendOptions, Socket, SocketEvent, SocketFault, SocketTime,
     ZERO_CHECKSUM_ALTERNATE_ERROR_DETECTION_METHOD_LOWER_LAYER_DTLS,
 };
 use rand_core::{Rng, SeedableRng};
@@ -118,6 +118,61 @@ impl Link {
     }
 }
 
+/// How often a socket has told what isn't a packet.
+#[derive(Clone, Copy)]
+pub struct Told {
+    /// An association was made.
+    pub connections: u32,
+
+    /// An association was ended in an orderly way.
+    pub closes: u32,
+
+    /// An association was cut off.
+    pub aborts: u32,
+
+    /// An own stream was reset.
+    pub resets: usize,
+}
+
+impl Told {
+    // It has told nothing.
+    fn new() -> Told {
+        Told {
+            connections: 0,
+            closes: 0,
+            aborts: 0,
+            resets: 0,
+        }
+    }
+
+    // Notes an event.
+    fn note(&mut self, event: &SocketEvent) {
+        match event {
+            SocketEvent::OnConnected() => self.connections = self.connections.saturating_add(1),
+            SocketEvent::OnClosed() => self.closes = self.closes.saturating_add(1),
+            SocketEvent::OnAborted(..) => self.aborts = self.aborts.saturating_add(1),
+            SocketEvent::OnStreamsResetPerformed(streams) => {
+                self.resets = self.resets.saturating_add(streams.len());
+            }
+            _ => {}
+        }
+    }
+
+    /// How often an association has ended.
+    pub fn ends(&self) -> u32 {
+        self.closes.saturating_add(self.aborts)
+    }
+}
+
+// Why a run fails by an event, if it bears no error and no end.
+fn failure_of(event: &SocketEvent) -> Option<Failure> {
+    match event {
+        SocketEvent::OnError(kind, _) => Some(Failure::Told(*kind)),
+        SocketEvent::OnClosed() | SocketEvent::OnAborted(..) => Some(Failure::Ended),
+        _ => None,
+    }
+}
+
 /// A socket, and what it has told.
 #[derive(Drop)]
 pub struct End {
@@ -126,7 +181,11 @@ pub struct End {
     // Whom its packets go to.
     peer: Side,
 
-    is_connected: bool,
+    // May it tell an error, or an end?
+    bears_ends: bool,
+
+    /// What it has told beside packets.
+    pub told: Told,
 
     /// How many packets it has sent.
     pub packets: u64,
@@ -146,24 +205,24 @@ impl End {
         Ok(End {
             socket: Socket::new(alloc, "bench", options, rng)?,
             peer,
-            is_connected: false,
+            bears_ends: false,
+            told: Told::new(),
             packets: 0,
         })
     }
 
     // Notes an event: a packet goes by the link.
     fn note(&mut self, link: &mut Link, event: &SocketEvent) -> Result<(), Failure> {
-        match event {
-            SocketEvent::SendPacket(packet) => {
-                self.packets = self.packets.saturating_add(1);
-                link.put(self.peer, packet.as_slice())?;
-            }
-            SocketEvent::OnConnected() => self.is_connected = true,
-            SocketEvent::OnError(kind, _) => return Err(Failure::Told(*kind)),
-            SocketEvent::OnClosed() | SocketEvent::OnAborted(..) => return Err(Failure::Ended),
-            _ => {}
+        if let SocketEvent::SendPacket(packet) = event {
+            self.packets = self.packets.saturating_add(1);
+            link.put(self.peer, packet.as_slice())?;
+            return Ok(());
         }
-        Ok(())
+        self.told.note(event);
+        match failure_of(event) {
+            Some(failure) if !self.bears_ends => Err(failure),
+            _ => Ok(()),
+        }
     }
 
     /// Takes all events. It is called after each call of the socket.
@@ -175,6 +234,24 @@ impl End {
             self.note(link, &event)?;
         }
         Ok(())
+    }
+
+    /// Sends a message, and takes all events.
+    pub fn send(
+        &mut self,
+        link: &mut Link,
+        message: Message,
+        options: &SendOptions,
+    ) -> Result<(), Failure> {
+        let answer = self.socket.send(message, options)?;
+        answer.map_err(Failure::Refused)?;
+        self.drain(link)
+    }
+
+    /// Begins to connect to the other side.
+    pub fn connect(&mut self, link: &mut Link) -> Result<(), Failure> {
+        self.socket.connect()?;
+        self.drain(link)
     }
 
     // Handles a packet.
@@ -214,8 +291,8 @@ impl Pair {
         Pair::with(alloc, &options)
     }
 
-    // Two closed sockets with these options.
-    fn with(alloc: Global, options: &Options) -> Result<Pair, Failure> {
+    /// Two closed sockets with these options, and a link that loses nothing.
+    pub fn with(alloc: Global, options: &Options) -> Result<Pair, Failure> {
         if !options.is_valid() {
             return Err(Failure::NotConnected);
         }
@@ -241,17 +318,22 @@ impl Pair {
 
     /// Connects the two.
     pub fn connect(&mut self) -> Result<(), Failure> {
-        self.a.socket.connect()?;
-        self.a.drain(&mut self.link)?;
+        self.a.connect(&mut self.link)?;
         for _ in 0..u64::MAX {
             if self.deliver()?.is_none() {
                 break;
             }
         }
-        if !self.a.is_connected || !self.b.is_connected {
+        if self.a.told.connections == 0 || self.b.told.connections == 0 {
             return Err(Failure::NotConnected);
         }
         Ok(())
+    }
+
+    /// From now on errors and ends are counted, and no run fails by them.
+    pub fn bear_ends(&mut self) {
+        self.a.bears_ends = true;
+        self.b.bears_ends = true;
     }
 
     /// Hands over the packet that was sent first, and returns to whom; `None` if none has arrived.
@@ -274,7 +356,12 @@ impl Pair {
 
     /// Lets time pass for both, until something happens.
     pub fn pass(&mut self) -> Result<(), Failure> {
-        let now = self.next_moment();
+        self.pass_until(SocketTime::infinite_future())
+    }
+
+    /// Lets time pass for both, until something happens or this moment has come.
+    pub fn pass_until(&mut self, end: SocketTime) -> Result<(), Failure> {
+        let now = earlier(self.next_moment(), end);
         self.link.now = now;
         self.a.socket.advance_time(now)?;
         self.a.drain(&mut self.link)?;

@@ -69,9 +69,7 @@ impl Traffic {
     fn send(&mut self, pair: &mut Pair) -> Result<(), Failure> {
         let message = self.ledger.message(self.sent)?;
         let bytes = u64::try_from(message.payload.len()).unwrap_or(u64::MAX);
-        let answer = pair.a.socket.send(message, &self.options)?;
-        answer.map_err(Failure::Refused)?;
-        pair.a.drain(&mut pair.link)?;
+        pair.a.send(&mut pair.link, message, &self.options)?;
         self.sent = self.sent.saturating_add(1);
         self.sent_bytes = self.sent_bytes.saturating_add(bytes);
         Ok(())
