@@ -174,11 +174,19 @@ typedef struct dcsctp_socket {
  * is off at 0, and on at any other number. The options are valid if `mtu` is 32 to 65,535, and
  * `max_receiver_window_buffer_size` and `max_send_buffer_size` are at most 4,294,967,295.
  *
+ * Not all valid options connect. The end that connects needs an `mtu` with room for the peer's
+ *   cookie and 16 bytes: 72 where the peer is this library. The other end needs 104, or 112 with
+ *   `zero_checksum_method`. Both need a `max_receiver_window_buffer_size` of at least 1,500, one
+ *   stream or more each way, and a `max_burst` of at least 1. `remote_port` has to be the peer's
+ *   `local_port`. Where one of these fails, DCSCTP_EVENT_ABORTED comes once the end that connects
+ *   gives up. Port 0 is forbidden (RFC 9260, section 3.1): this library takes it, others may not.
  * `max_receiver_window_buffer_size`: once nine tenths of it are held, new data is dropped. What was
  *   lost and is sent again is taken until all of it is held; without `follow_rfc` that is dropped,
  *   too, and nothing that is dropped is answered. If what is held waits for data that is dropped,
  *   nothing is delivered any more, though both ends stay connected. So let it be far more than a
  *   peer has in flight, and than the longest message that it sends.
+ * `total_buffered_amount_low_threshold`: DCSCTP_EVENT_TOTAL_BUFFERED_AMOUNT_LOW comes only after
+ *   more than this has waited. So let it be below `max_send_buffer_size`, also if you lower that.
  * `rto_initial`: let it be longer than any round trip. Else the first flight is sent twice, and at
  *   twice the value all data is, as long as the association lasts.
  * `follow_rfc`: rules of RFC 9260 hold that dcsctp 0.1.16 doesn't keep. A shutdown sends first what

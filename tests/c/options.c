@@ -345,6 +345,34 @@ static void streams(void) {
     destroy_pair(&pair);
 }
 
+/* The event comes where what waits was above the threshold. */
+static void total_threshold(void) {
+    const struct {
+        const char *name;
+        size_t limit, threshold, bytes;
+        unsigned events;
+    } rows[] = {
+        {"above it", 1000, 99, 100, 1},
+        {"no more than it", 1000, 100, 100, 0},
+        {"a full buffer, and the default threshold", 100, 1800000, 100, 0},
+        {"at the limit, which the last message exceeds", 100, 100, 101, 1},
+    };
+    dcsctp_options options = quiet_options();
+    for (size_t i = 0; i < sizeof rows / sizeof rows[0]; i++) {
+        options.max_send_buffer_size = rows[i].limit;
+        options.total_buffered_amount_low_threshold = rows[i].threshold;
+        create_pair(&pair, &options, &options);
+        EQUAL(rows[i].name, send_bytes(&pair.a, 1, rows[i].bytes), DCSCTP_OK);
+        if (rows[i].limit == 100)
+            EQUAL(rows[i].name, send_bytes(&pair.a, 1, 1), DCSCTP_ERROR_RESOURCE_EXHAUSTION);
+        EQUAL("connect", dcsctp_connect(&pair.a.socket), DCSCTP_OK);
+        settle(&pair);
+        EQUAL("all is sent", take_messages(&pair.b, rows[i].bytes), 1);
+        EQUAL(rows[i].name, pair.a.seen[DCSCTP_EVENT_TOTAL_BUFFERED_AMOUNT_LOW], rows[i].events);
+        destroy_pair(&pair);
+    }
+}
+
 static void congestion(void) {
     dcsctp_options options = quiet_options();
     options.mtu = 1000;
@@ -588,6 +616,87 @@ static void following(void) {
     }
 }
 
+/* ---- Which options connect ------------------------------------------------------------------ */
+
+/* A connects to B, and time passes until it has, or has given up. Then a message goes each way. */
+static int connects(const dcsctp_options *of_a, const dcsctp_options *of_b) {
+    create_pair(&pair, of_a, of_b);
+    EQUAL("connect", dcsctp_connect(&pair.a.socket), DCSCTP_OK);
+    settle(&pair);
+    while (dcsctp_state(&pair.a.socket) == DCSCTP_STATE_CONNECTING) {
+        pass(&pair, until_deadline(&pair, &pair.a));
+        settle(&pair);
+    }
+    int connected = dcsctp_state(&pair.a.socket) == DCSCTP_STATE_CONNECTED;
+    if (connected) {
+        EQUAL("no time has passed", pair.now, BEGIN);
+        EQUAL("B", dcsctp_state(&pair.b.socket), DCSCTP_STATE_CONNECTED);
+        EQUAL("send", send_bytes(&pair.a, 1, 10), DCSCTP_OK);
+        EQUAL("send", send_bytes(&pair.b, 1, 10), DCSCTP_OK);
+        settle(&pair);
+        EQUAL("at B", take_messages(&pair.b, 10), 1);
+        EQUAL("at A", take_messages(&pair.a, 10), 1);
+    } else {
+        EQUAL("A is told", pair.a.seen[DCSCTP_EVENT_ABORTED], 1);
+        EQUAL("kind", pair.a.last[DCSCTP_EVENT_ABORTED].error_kind, DCSCTP_KIND_TOO_MANY_RETRIES);
+        EQUAL("after so long", pair.now - BEGIN, 511 * SECONDS);
+    }
+    destroy_pair(&pair);
+    return connected;
+}
+
+#define FIELD(field) offsetof(dcsctp_options, field), sizeof(((dcsctp_options *)NULL)->field)
+
+/* One option isn't the default, at A, which connects, or at B. The longest packet of A is its
+ * COOKIE ECHO, and that of B its INIT ACK (RFC 9260, sections 3.3.2, 3.3.3 and 3.3.11). The header
+ * of a packet is 12 bytes, that of a chunk or a parameter 4, and a cookie 56. So a COOKIE ECHO has
+ * 12 + 4 + 56 bytes. An INIT ACK has 12 + 20, the cookie's 60, 4 for Forward-TSN-Supported, and 8
+ * for Supported Extensions. */
+static void which_connect(void) {
+    const struct {
+        const char *name;
+        size_t offset, size;
+        uint64_t value;
+        int at_a, at_b;
+    } rows[] = {
+        {"mtu that has no room for an INIT ACK", FIELD(mtu), 103, 1, 0},
+        {"mtu of an INIT ACK", FIELD(mtu), 104, 1, 1},
+        {"mtu that has no room for a COOKIE ECHO", FIELD(mtu), 71, 0, 0},
+        {"mtu of a COOKIE ECHO", FIELD(mtu), 72, 1, 0},
+        {"window that is too small", FIELD(max_receiver_window_buffer_size), 1499, 0, 0},
+        {"least window", FIELD(max_receiver_window_buffer_size), 1500, 1, 1},
+        {"no incoming stream", FIELD(announced_maximum_incoming_streams), 0, 0, 0},
+        {"two incoming streams", FIELD(announced_maximum_incoming_streams), 2, 1, 1},
+        {"no outgoing stream", FIELD(announced_maximum_outgoing_streams), 0, 0, 0},
+        {"two outgoing streams", FIELD(announced_maximum_outgoing_streams), 2, 1, 1},
+        {"no packet in a flush", FIELD(max_burst), 0, 0, 0},
+        {"a packet in a flush", FIELD(max_burst), 1, 1, 1},
+        {"a port that the other doesn't use", FIELD(local_port), 5001, 0, 0},
+        {"a port that isn't the other's", FIELD(remote_port), 5001, 0, 0},
+        {"no congestion window", FIELD(cwnd_mtus_initial), 0, 1, 1},
+    };
+    const dcsctp_options others = quiet_options();
+    for (size_t i = 0; i < sizeof rows / sizeof rows[0]; i++) {
+        dcsctp_options options = quiet_options();
+        memcpy((char *)&options + rows[i].offset, &rows[i].value, rows[i].size);
+        EQUAL(rows[i].name, connects(&options, &others), rows[i].at_a);
+        EQUAL(rows[i].name, connects(&others, &options), rows[i].at_b);
+    }
+}
+
+/* A parameter of 8 bytes more, for packets without checksums (RFC 9653, section 4). And port 0 at
+ * both ends, which RFC 9260, section 3.1, allows nobody. */
+static void which_connect_by_two(void) {
+    dcsctp_options of_a = quiet_options(), of_b = quiet_options();
+    of_a.zero_checksum_method = of_b.zero_checksum_method = 1;
+    of_b.mtu = 111;
+    EQUAL("mtu that has no room for an INIT ACK", connects(&of_a, &of_b), 0);
+    of_a.mtu = of_b.mtu = 112;
+    EQUAL("mtu of an INIT ACK", connects(&of_a, &of_b), 1);
+    of_a.local_port = of_a.remote_port = of_b.local_port = of_b.remote_port = 0;
+    EQUAL("port 0", connects(&of_a, &of_b), 1);
+}
+
 /* ---- Metrics -------------------------------------------------------------------------------- */
 
 static void counts(void) {
@@ -664,6 +773,7 @@ int main(void) {
     checksums();
     send_buffers();
     streams();
+    total_threshold();
     congestion();
     bursts();
     handshake_timers();
@@ -674,6 +784,8 @@ int main(void) {
     heartbeats();
     handover();
     following();
+    which_connect();
+    which_connect_by_two();
     counts();
     implementations();
     puts("options: each does what dcsctp.h says");
