@@ -23,7 +23,7 @@ PACKAGE = $(OUT)/dcsctp.pc $(OUT)/dcsctpConfig.cmake $(OUT)/dcsctpConfigVersion.
 VERSION := $(shell awk '/define DCSCTP_VERSION_/ { v = v s $$3; s = "." } END { print v }' \
     include/dcsctp.h)
 
-TESTS = calls options events handover refusals random threads
+TESTS = calls options events ends handover refusals random threads
 EXAMPLES = two_sockets file_transfer
 WARNINGS = -Wall -Wextra -Wshadow -pedantic -Werror
 COMPILE = $(CC) -std=c11 $(WARNINGS) $(CFLAGS) -Iinclude

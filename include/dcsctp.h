@@ -178,8 +178,16 @@ typedef struct dcsctp_socket {
  *   cookie and 16 bytes: 72 where the peer is this library. The other end needs 104, or 112 with
  *   `zero_checksum_method`. Both need a `max_receiver_window_buffer_size` of at least 1,500, one
  *   stream or more each way, and a `max_burst` of at least 1. `remote_port` has to be the peer's
- *   `local_port`. Where one of these fails, DCSCTP_EVENT_ABORTED comes once the end that connects
- *   gives up. Port 0 is forbidden (RFC 9260, section 3.1): this library takes it, others may not.
+ *   `local_port`. Where one of these fails, the end that connects gives up. Port 0 is forbidden
+ *   (RFC 9260, section 3.1): this library takes it, others may not.
+ * A silent peer is given up by DCSCTP_EVENT_ABORTED. By default that takes 511 s while no INIT ACK
+ *   comes, and as long while no COOKIE ACK does. It takes 330.5 s where nothing is sent but
+ *   HEARTBEATs: the eleventh has no answer for half a second. With data under way it takes 2 to 5.5
+ *   minutes, as the retransmission timeout is: 127.5 s before a round trip was measured, and 162.5
+ *   s at the least timeout, 400 ms. Smaller `max_init_retransmits`, `max_retransmissions`,
+ *   `heartbeat_interval` or `max_timer_backoff_duration` make it shorter; `rto_max` doesn't bound
+ *   what doubles. A `heartbeat_interval` of 0, or no longer than `rto_initial`, finds no silent
+ *   peer: with 0, data takes 1,023.5 s, and where nothing is sent it never ends.
  * `max_receiver_window_buffer_size`: once nine tenths of it are held, new data is dropped. What was
  *   lost and is sent again is taken until all of it is held; without `follow_rfc` that is dropped,
  *   too, and nothing that is dropped is answered. If what is held waits for data that is dropped,
@@ -248,18 +256,20 @@ void dcsctp_destroy(dcsctp_socket *socket) DCSCTP_CALL;
 
 /* ---- Commands ------------------------------------------------------------------------------- */
 
-/* Begins an association: DCSCTP_EVENT_CONNECTED or DCSCTP_EVENT_ABORTED follows. On a socket that
- * isn't closed it changes nothing. Errors: NO_SOCKET, FAILED, OUT_OF_MEMORY. */
+/* Begins an association: DCSCTP_EVENT_CONNECTED follows, or DCSCTP_EVENT_ABORTED, which takes 511 s
+ * by default if nobody answers (see dcsctp_options). On a socket that isn't closed it changes
+ * nothing. Errors: NO_SOCKET, FAILED, OUT_OF_MEMORY. */
 int32_t dcsctp_connect(dcsctp_socket *socket) DCSCTP_CALL;
 
 /* Ends the association in an orderly way: all that was sent is acknowledged first, and with
- * `follow_rfc` what waits is sent before that. From now on no message is taken. Those that wait for
- * a reset of their stream may be lost, and without `follow_rfc` all that wait: to lose nothing,
- * first wait until dcsctp_buffered_amount is 0. DCSCTP_EVENT_CLOSED follows when the peer has
- * answered. If it hasn't answered the first INIT, the association ends at once, and while the
- * handshake isn't over it never connects. On a closed socket it changes nothing. A peer's SHUTDOWN
- * acknowledges nothing here: where it sends no SACK, both ends wait for minutes, until one gives
- * up. dcsctp_close ends that.
+ * `follow_rfc` what waits is sent before that. From now on dcsctp_send is refused. Messages that
+ * wait for a reset of their stream may be lost, and without `follow_rfc` all that wait: to lose
+ * nothing, first wait until dcsctp_buffered_amount is 0. DCSCTP_EVENT_CLOSED follows when the peer
+ * has answered. DCSCTP_EVENT_ABORTED comes in its place if the peer aborts, or is silent: then by
+ * default at most 330.5 s later (see dcsctp_options). If it hasn't answered the first INIT, the
+ * association ends at once, and while the handshake isn't over it never connects. On a closed
+ * socket it changes nothing. A peer's SHUTDOWN acknowledges nothing here: where it sends no SACK,
+ * both ends wait for minutes, until one gives up. dcsctp_close ends that.
  * Errors: NO_SOCKET, FAILED, OUT_OF_MEMORY. */
 int32_t dcsctp_shutdown(dcsctp_socket *socket) DCSCTP_CALL;
 
@@ -292,7 +302,7 @@ int32_t dcsctp_poll_timeout(dcsctp_socket *socket, uint64_t *moment) DCSCTP_CALL
 #define DCSCTP_EVENT_NONE 0u
 #define DCSCTP_EVENT_SEND_PACKET 1u              /* bytes: a packet for the peer, at most `mtu` */
 #define DCSCTP_EVENT_CONNECTED 2u                /* an association was made, by either end */
-#define DCSCTP_EVENT_CLOSED 3u                   /* it has ended, not by an abort of the peer */
+#define DCSCTP_EVENT_CLOSED 3u                   /* it has ended: a shutdown, close or handover */
 #define DCSCTP_EVENT_CONNECTION_RESTARTED 4u     /* the peer began anew: then CONNECTED comes */
 #define DCSCTP_EVENT_ABORTED 5u                  /* it was cut off: error_kind; bytes: a text */
 #define DCSCTP_EVENT_ERROR 6u                    /* it goes on: error_kind; bytes: a text */

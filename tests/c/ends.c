@@ -1,0 +1,137 @@
+/* How long a silent peer is waited for, and which event ends it. */
+#include "pair.h"
+
+static struct pair pair;
+
+/* ---- A peer that is silent ------------------------------------------------------------------ */
+
+/* Goes from deadline to deadline, and loses each packet, until the socket is closed. Returns how
+ * long that took. */
+static uint64_t given_up(struct end *end, uint64_t now) {
+    const uint64_t begin = now;
+    while (dcsctp_state(&end->socket) != DCSCTP_STATE_CLOSED) {
+        EQUAL("deadline", dcsctp_poll_timeout(&end->socket, &now), DCSCTP_OK);
+        EQUAL("there is one", now != DCSCTP_NEVER, 1);
+        EQUAL("time", dcsctp_advance_time(&end->socket, now), DCSCTP_OK);
+        carry(end, NULL);
+    }
+    EQUAL("it is told", end->seen[DCSCTP_EVENT_ABORTED], 1);
+    EQUAL("kind", end->last[DCSCTP_EVENT_ABORTED].error_kind, DCSCTP_KIND_TOO_MANY_RETRIES);
+    EQUAL("by that alone", end->seen[DCSCTP_EVENT_CLOSED], 0);
+    return now - begin;
+}
+
+static dcsctp_options default_options(void) {
+    dcsctp_options options;
+    dcsctp_options_init(&options);
+    return options;
+}
+
+/* An INIT goes out 9 times, and then a COOKIE ECHO. The waits are 1, 2, 4, .., 256 s, which are
+ * 511 s together. */
+static void no_handshake(void) {
+    const dcsctp_options options = default_options();
+    create_pair(&pair, &options, &options);
+    EQUAL("connect", dcsctp_connect(&pair.a.socket), DCSCTP_OK);
+    EQUAL("no INIT ACK", given_up(&pair.a, BEGIN), 511 * SECONDS);
+    EQUAL("nine times", pair.a.packets, 9);
+    destroy_pair(&pair);
+    create_pair(&pair, &options, &options);
+    EQUAL("connect", dcsctp_connect(&pair.a.socket), DCSCTP_OK);
+    EQUAL("INIT", carry(&pair.a, &pair.b), 1);
+    EQUAL("INIT ACK", carry(&pair.b, &pair.a), 1);
+    EQUAL("no COOKIE ACK", given_up(&pair.a, BEGIN), 511 * SECONDS);
+    EQUAL("nine times, after the INIT", pair.a.packets, 1 + 9);
+    destroy_pair(&pair);
+}
+
+/* Nothing is sent but a HEARTBEAT each 30 s. Half a second after the eleventh, which is one more
+ * than `max_retransmissions`, an ABORT follows. */
+static void idle(void) {
+    const dcsctp_options options = default_options(), quiet = quiet_options();
+    connect_pair(&pair, &options, &options);
+    size_t before = pair.a.packets;
+    EQUAL("idle", given_up(&pair.a, BEGIN), 11 * 30 * SECONDS + 500 * MILLISECONDS);
+    EQUAL("11 HEARTBEAT and an ABORT", pair.a.packets - before, 12);
+    destroy_pair(&pair);
+    connect_pair(&pair, &quiet, &quiet);
+    EQUAL("without heartbeats it waits for ever",
+          until_deadline(&pair, &pair.a) == DCSCTP_NEVER, 1);
+    destroy_pair(&pair);
+}
+
+/* The next HEARTBEAT goes out before, or as, the wait for an answer to the last one ends. So none
+ * counts. A nanosecond later each does. */
+static void too_many_heartbeats(void) {
+    dcsctp_options options = default_options();
+    options.heartbeat_interval = options.rto_initial;
+    connect_pair(&pair, &options, &options);
+    for (int i = 0; i < 1000; i++) {
+        pass(&pair, until_deadline(&pair, &pair.a));
+        carry(&pair.a, NULL);
+    }
+    EQUAL("500 s later", pair.now, BEGIN + 500 * SECONDS);
+    EQUAL("A", dcsctp_state(&pair.a.socket), DCSCTP_STATE_CONNECTED);
+    destroy_pair(&pair);
+    options.heartbeat_interval++;
+    connect_pair(&pair, &options, &options);
+    EQUAL("longer", given_up(&pair.a, BEGIN), 12 * 500 * MILLISECONDS + 11);
+    destroy_pair(&pair);
+}
+
+/* A message is lost however often it is sent. The timeout is 500 ms at first, and doubles: 7 of
+ * them end by 63.5 s, and the eighth at 127.5 s. A HEARTBEAT goes out 30 s after the last packet of
+ * data, at 61.5 s, 93.5 s and 123.5 s. So the eleventh error comes at 127.5 s. Without heartbeats
+ * it is the eleventh timeout. */
+static void data_before_a_round_trip(void) {
+    const dcsctp_options options = default_options(), quiet = quiet_options();
+    connect_pair(&pair, &options, &options);
+    EQUAL("send", send_bytes(&pair.a, 1, 10), DCSCTP_OK);
+    EQUAL("with heartbeats", given_up(&pair.a, BEGIN), 127500 * MILLISECONDS);
+    destroy_pair(&pair);
+    connect_pair(&pair, &quiet, &quiet);
+    EQUAL("send", send_bytes(&pair.a, 1, 10), DCSCTP_OK);
+    EQUAL("without", given_up(&pair.a, BEGIN), 500 * MILLISECONDS * ((1 << 11) - 1));
+    destroy_pair(&pair);
+}
+
+/* The same with the least timeout, 400 ms. Eight of them end by 102 s, and a HEARTBEAT at 80.8 s
+ * isn't answered. The ninth would end at 204.4 s: before that HEARTBEATs go out at 132 s and 162 s,
+ * and the wait for the second ends half a second later. */
+static void data_after_a_round_trip(void) {
+    const dcsctp_options options = default_options();
+    connect_pair(&pair, &options, &options);
+    EQUAL("send", send_bytes(&pair.a, 1, 10), DCSCTP_OK);
+    settle(&pair);
+    EQUAL("a round trip of no time", metrics_of(&pair.a).srtt, 0);
+    EQUAL("acknowledged", metrics_of(&pair.a).unack_data_count, 0);
+    EQUAL("send", send_bytes(&pair.a, 1, 10), DCSCTP_OK);
+    EQUAL("the least timeout", until_deadline(&pair, &pair.a), 400 * MILLISECONDS);
+    EQUAL("with heartbeats", given_up(&pair.a, BEGIN), 162500 * MILLISECONDS);
+    destroy_pair(&pair);
+}
+
+/* A SHUTDOWN that isn't answered. Its own timer would expire for the eleventh time at 1,023.5 s, as
+ * that of a message; the eleventh HEARTBEAT that isn't answered comes first. */
+static void no_end_of_a_shutdown(void) {
+    const dcsctp_options options = default_options(), quiet = quiet_options();
+    connect_pair(&pair, &options, &options);
+    EQUAL("shutdown", dcsctp_shutdown(&pair.a.socket), DCSCTP_OK);
+    EQUAL("with heartbeats", given_up(&pair.a, BEGIN), 330500 * MILLISECONDS);
+    destroy_pair(&pair);
+    connect_pair(&pair, &quiet, &quiet);
+    EQUAL("shutdown", dcsctp_shutdown(&pair.a.socket), DCSCTP_OK);
+    EQUAL("without", given_up(&pair.a, BEGIN), 500 * MILLISECONDS * ((1 << 11) - 1));
+    destroy_pair(&pair);
+}
+
+int main(void) {
+    no_handshake();
+    idle();
+    too_many_heartbeats();
+    data_before_a_round_trip();
+    data_after_a_round_trip();
+    no_end_of_a_shutdown();
+    puts("ends: as dcsctp.h says");
+    return 0;
+}
