@@ -29,13 +29,15 @@
  *         if (dcsctp_advance_time(&s, now()) != DCSCTP_OK)
  *             break;                                               // out of memory
  *         if ((n = recv(fd, packet, sizeof packet, MSG_DONTWAIT)) >= 0)
- *             dcsctp_handle_input(&s, packet, n);
+ *             dcsctp_handle_input(&s, packet, n);                  // one, then from the top
  *     }
  *     dcsctp_destroy(&s);
  *
  * A call that hands something in, be it a packet, the time or a command, may add events and
  * messages, and move the deadline. A message that is taken may move it, too. So take all of them,
  * and then ask for the deadline, before you wait.
+ * Take all messages before each packet that you hand in, and before dcsctp_close: what isn't taken
+ * when its association ends is lost, though the peer was told that it was delivered.
  * `packet` has room for the longest packet of either end (the greater `mtu`), and `buffer` for
  * `message.length` bytes: the peer says how long a message is. Check what dcsctp_create
  * returns.
@@ -274,8 +276,8 @@ int32_t dcsctp_connect(dcsctp_socket *socket) DCSCTP_CALL;
 int32_t dcsctp_shutdown(dcsctp_socket *socket) DCSCTP_CALL;
 
 /* Ends the association at once: an ABORT goes to the peer if it is known, and the last event is
- * DCSCTP_EVENT_CLOSED. On a closed socket it changes nothing.
- * Errors: NO_SOCKET, FAILED, OUT_OF_MEMORY. */
+ * DCSCTP_EVENT_CLOSED. Messages that weren't taken are lost, here and at the peer. On a closed
+ * socket it changes nothing. Errors: NO_SOCKET, FAILED, OUT_OF_MEMORY. */
 int32_t dcsctp_close(dcsctp_socket *socket) DCSCTP_CALL;
 
 /* ---- Packets and time ----------------------------------------------------------------------- */
@@ -367,10 +369,15 @@ int32_t dcsctp_messages_ready_count(dcsctp_socket *socket, size_t *count) DCSCTP
 
 /* Takes the message that became ready first and writes what it is: 1. Where none is ready: 0, and
  * its length is 0. Its bytes leave the receive window. They can be copied until the next call of
- * dcsctp_get_next_message. Messages that weren't taken are lost when the association ends, so take
- * all before you hand in the next packet. With `follow_rfc` the deadline is the present moment once
- * a full window opens, so that dcsctp_advance_time tells the peer. It allocates nothing.
- * Error: NO_SOCKET. */
+ * dcsctp_get_next_message. With `follow_rfc` the deadline is the present moment once a full window
+ * opens, so that dcsctp_advance_time tells the peer.
+ *
+ * A message that isn't taken is lost when its association ends, by a shutdown, ABORT or close of
+ * either end or because the peer is silent, and when the peer begins anew. That it was acknowledged
+ * doesn't matter. So take all messages before the next packet is handed in. One that comes in the
+ * same packet as an ABORT can't be taken.
+ *
+ * It allocates nothing. Error: NO_SOCKET. */
 int32_t dcsctp_get_next_message(dcsctp_socket *socket, dcsctp_message *message) DCSCTP_CALL;
 
 /* Copies the bytes of the message that was taken last, and writes its length.

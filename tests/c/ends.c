@@ -1,4 +1,5 @@
-/* How long a silent peer is waited for, and which event ends it. */
+/* How an association ends: how long a silent peer is waited for, which event says it, and what
+ * becomes of messages that nobody has taken. */
 #include "pair.h"
 
 static struct pair pair;
@@ -125,6 +126,120 @@ static void no_end_of_a_shutdown(void) {
     destroy_pair(&pair);
 }
 
+/* ---- Messages that nobody has taken --------------------------------------------------------- */
+
+static void a_closes(void) {
+    EQUAL("close", dcsctp_close(&pair.a.socket), DCSCTP_OK);
+    EQUAL("ABORT", carry(&pair.a, &pair.b), 1);
+}
+
+static void b_closes(void) {
+    EQUAL("close", dcsctp_close(&pair.b.socket), DCSCTP_OK);
+}
+
+static void a_shuts_down(void) {
+    EQUAL("shutdown", dcsctp_shutdown(&pair.a.socket), DCSCTP_OK);
+    settle(&pair);
+}
+
+static void b_shuts_down(void) {
+    EQUAL("shutdown", dcsctp_shutdown(&pair.b.socket), DCSCTP_OK);
+    settle(&pair);
+}
+
+static void b_gives_up(void) {
+    EQUAL("send", send_bytes(&pair.b, 1, 10), DCSCTP_OK);
+    EQUAL("no answer", given_up(&pair.b, pair.now), 500 * MILLISECONDS * ((1 << 11) - 1));
+}
+
+static void a_restarts(void) {
+    const dcsctp_options options = quiet_options();
+    dcsctp_destroy(&pair.a.socket);
+    EQUAL("another A", create(&pair.a, &options, 3, pair.now), DCSCTP_OK);
+    EQUAL("connect", dcsctp_connect(&pair.a.socket), DCSCTP_OK);
+    settle(&pair);
+    EQUAL("B is told", pair.b.seen[DCSCTP_EVENT_CONNECTION_RESTARTED], 1);
+}
+
+static size_t ready_count(struct end *end) {
+    size_t count = 77;
+    EQUAL("ready", dcsctp_messages_ready_count(&end->socket, &count), DCSCTP_OK);
+    return count;
+}
+
+/* Connects, and sends two messages to B, the second of which is `last` bytes long. A is told that
+ * both were delivered. */
+static void deliver_two(size_t last) {
+    const dcsctp_options options = quiet_options();
+    const dcsctp_send_options how = {.lifecycle_id = 7};
+    static const uint8_t bytes[100];
+    connect_pair(&pair, &options, &options);
+    EQUAL("send", dcsctp_send(&pair.a.socket, 1, 51, bytes, 10, &how), DCSCTP_OK);
+    EQUAL("send", dcsctp_send(&pair.a.socket, 1, 51, bytes, last, &how), DCSCTP_OK);
+    settle(&pair);
+    pass(&pair, 200 * MILLISECONDS);
+    settle(&pair);
+    EQUAL("both count as delivered", pair.a.seen[DCSCTP_EVENT_LIFECYCLE_DELIVERED], 2);
+    EQUAL("both are ready", ready_count(&pair.b), 2);
+}
+
+/* Of two messages one is taken, and the other isn't: that one is gone once the association has
+ * ended, or the peer began anew. The bytes of the first can still be copied. */
+static void untaken_messages(void) {
+    const struct {
+        const char *name;
+        void (*end)(void);
+        int32_t state;
+    } rows[] = {
+        {"the peer closes", a_closes, DCSCTP_STATE_CLOSED},
+        {"this end closes", b_closes, DCSCTP_STATE_CLOSED},
+        {"the peer shuts down", a_shuts_down, DCSCTP_STATE_CLOSED},
+        {"this end shuts down", b_shuts_down, DCSCTP_STATE_CLOSED},
+        {"the peer is silent", b_gives_up, DCSCTP_STATE_CLOSED},
+        {"the peer restarts", a_restarts, DCSCTP_STATE_CONNECTED},
+    };
+    for (size_t i = 0; i < sizeof rows / sizeof rows[0]; i++) {
+        uint8_t bytes[100];
+        dcsctp_message message;
+        size_t length = 77;
+        deliver_two(20);
+        EQUAL(rows[i].name, dcsctp_get_next_message(&pair.b.socket, &message), 1);
+        rows[i].end();
+        EQUAL(rows[i].name, dcsctp_state(&pair.b.socket), rows[i].state);
+        EQUAL(rows[i].name, ready_count(&pair.b), 0);
+        EQUAL(rows[i].name, dcsctp_message_bytes(&pair.b.socket, bytes, 100, &length), DCSCTP_OK);
+        EQUAL(rows[i].name, length, 10);
+        EQUAL(rows[i].name, dcsctp_get_next_message(&pair.b.socket, &message), 0);
+        destroy_pair(&pair);
+    }
+}
+
+/* A message and an ABORT arrive one after the other. The message is there if it is taken between
+ * the two. If both come in one packet, it can't be. */
+static void message_before_an_abort(void) {
+    static const uint8_t abort_chunk[] = {6, 0, 0, 4};
+    const dcsctp_options options = quiet_options();
+    uint8_t packet[100];
+    for (int together = 0; together <= 1; together++) {
+        connect_pair(&pair, &options, &options);
+        EQUAL("send", send_bytes(&pair.a, 1, 10), DCSCTP_OK);
+        EQUAL("it is under way", carry(&pair.a, NULL), 1);
+        size_t length = pair.a.length;
+        memcpy(packet, pair.a.packet, length);
+        if (together) {
+            memcpy(packet + length, abort_chunk, sizeof abort_chunk);
+            length += sizeof abort_chunk;
+            put_checksum(packet, length);
+        }
+        EQUAL("handled", dcsctp_handle_input(&pair.b.socket, packet, length), DCSCTP_OK);
+        EQUAL("the message", take_messages(&pair.b, 10), together ? 0 : 1);
+        if (!together)
+            EQUAL("ABORT", forge(&pair.b, packet, abort_chunk, sizeof abort_chunk), DCSCTP_OK);
+        EQUAL("closed", dcsctp_state(&pair.b.socket), DCSCTP_STATE_CLOSED);
+        destroy_pair(&pair);
+    }
+}
+
 int main(void) {
     no_handshake();
     idle();
@@ -132,6 +247,8 @@ int main(void) {
     data_before_a_round_trip();
     data_after_a_round_trip();
     no_end_of_a_shutdown();
+    untaken_messages();
+    message_before_an_abort();
     puts("ends: as dcsctp.h says");
     return 0;
 }
