@@ -358,9 +358,9 @@ int32_t dcsctp_event_streams(dcsctp_socket *socket, uint16_t *buffer, size_t cap
 /* ---- Messages ------------------------------------------------------------------------------- */
 
 typedef struct dcsctp_message {
-    size_t length; /* how many bytes there are to copy, at least 1 */
-    uint32_t ppid; /* the payload protocol identifier (RFC 8831, section 8) */
-    uint16_t stream_id;
+    size_t length;      /* how many bytes there are to copy, at least 1 */
+    uint32_t ppid;      /* the payload protocol identifier (RFC 8831, section 8) */
+    uint16_t stream_id; /* any: it isn't compared with what was negotiated */
     uint16_t reserved;
 } dcsctp_message;
 
@@ -409,6 +409,11 @@ typedef struct dcsctp_send_options {
  * refuse it: the first of them in this order that holds. Then a DCSCTP_EVENT_ERROR says the same,
  * after a DCSCTP_EVENT_LIFECYCLE_END where the message has a name. If there is no memory for the
  * copy, it is OUT_OF_MEMORY, nothing has changed, and the call may be tried again.
+ *
+ * The streams of this end are those below `negotiated_maximum_outgoing_streams` of
+ * dcsctp_get_metrics, so 65,535 is never one (RFC 8831, section 6.2). A message on another stream
+ * is sent all the same, and DCSCTP_EVENT_LIFECYCLE_DELIVERED comes once it is acknowledged. But a
+ * peer drops it (RFC 9260, section 6.5), unless it is this library.
  *
  * A message that is longer than nine tenths of the peer's receive window may never arrive, and one
  * that needs more than all of it can't, whatever `follow_rfc` is at either end. Nothing tells, and
@@ -499,8 +504,8 @@ typedef struct dcsctp_metrics {
     uint32_t peer_implementation;        /* DCSCTP_PEER_.. */
     uint32_t uses_message_interleaving;  /* 0 or 1 */
     uint32_t uses_zero_checksum;         /* 0 or 1 */
-    uint16_t negotiated_maximum_incoming_streams;
-    uint16_t negotiated_maximum_outgoing_streams;
+    uint16_t negotiated_maximum_incoming_streams; /* the peer is to use streams below this */
+    uint16_t negotiated_maximum_outgoing_streams; /* and dcsctp_send those below this */
     uint32_t reserved;
 } dcsctp_metrics;
 

@@ -261,6 +261,41 @@ static void unordered(void) {
     }
 }
 
+/* ---- Streams -------------------------------------------------------------------------------- */
+
+/* A may send on 5 streams, and sends on 5, which is one too many. B, a socket of this library,
+ * takes the message. A peer that follows RFC 9260, section 6.5, drops it: its SACK (3) and its ERROR
+ * (9), of the cause Invalid Stream Identifier (1), are made by hand. */
+static void stream_that_is_none(void) {
+    uint8_t sack[] = {3, 0, 0, 16, 0, 0, 0, 0, 0, 1, 0, 0, 0, 0, 0, 0};
+    static const uint8_t error[] = {9, 0, 0, 12, 0, 1, 0, 8, 0, 5, 0, 0};
+    const dcsctp_send_options how = {.lifecycle_id = 7};
+    dcsctp_options of_a = quiet_options(), of_b = quiet_options();
+    dcsctp_message message;
+    uint8_t from_b[12];
+    connect_pair(&pair, &of_a, &of_b);
+    EQUAL("by default", metrics_of(&pair.a).negotiated_maximum_outgoing_streams, 65535);
+    destroy_pair(&pair);
+    of_b.announced_maximum_incoming_streams = 5;
+    connect_pair(&pair, &of_a, &of_b);
+    memcpy(from_b, pair.b.packet, 12);
+    EQUAL("bound", metrics_of(&pair.a).negotiated_maximum_outgoing_streams, 5);
+    EQUAL("bound", metrics_of(&pair.b).negotiated_maximum_incoming_streams, 5);
+    EQUAL("send", dcsctp_send(&pair.a.socket, 5, 51, (const uint8_t *)"x", 1, &how), DCSCTP_OK);
+    EQUAL("DATA", carry(&pair.a, &pair.b), 1);
+    EQUAL("this library takes it", dcsctp_get_next_message(&pair.b.socket, &message), 1);
+    EQUAL("its stream", message.stream_id, 5);
+    /* the TSN of the DATA */
+    memcpy(sack + 4, pair.a.packet + 16, 4);
+    EQUAL("SACK", forge(&pair.a, from_b, sack, sizeof sack), DCSCTP_OK);
+    EQUAL("ERROR", forge(&pair.a, from_b, error, sizeof error), DCSCTP_OK);
+    carry(&pair.a, NULL);
+    EQUAL("it counts as delivered", pair.a.seen[DCSCTP_EVENT_LIFECYCLE_DELIVERED], 1);
+    EQUAL("an error", pair.a.seen[DCSCTP_EVENT_ERROR], 1);
+    EQUAL("kind", pair.a.last[DCSCTP_EVENT_ERROR].error_kind, DCSCTP_KIND_PEER_REPORTED);
+    destroy_pair(&pair);
+}
+
 /* ---- Resets --------------------------------------------------------------------------------- */
 
 static void streams_reset(void) {
@@ -355,6 +390,7 @@ int main(void) {
     texts();
     lifecycles();
     unordered();
+    stream_that_is_none();
     streams_reset();
     reset_refused();
     resets_unsupported();
