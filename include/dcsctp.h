@@ -72,6 +72,11 @@
  * Seed. All random numbers of a socket come from its 32 bytes of seed. Take them from the system's
  *   generator, for each socket anew: who knows them can forge packets.
  *
+ * DTLS. It is below, or another layer that lets in nothing but what the peer has sent. Else one
+ *   COOKIE ECHO, which anyone can make, connects a closed socket: cookies aren't authenticated.
+ *   Most other packets need the verification tag, but the text of an error names the one that was
+ *   expected. Each INIT is answered, and each chunk of a packet may bring a packet.
+ *
  * Results. A call returns DCSCTP_OK or a number that its description names. An error is negative.
  *   Errors are listed at each call, without DCSCTP_ERROR_. Unless the error or the call says more,
  *   an error changes nothing and writes nothing.

@@ -190,6 +190,105 @@ static void texts(void) {
     destroy_pair(&pair);
 }
 
+/* ---- What a forged packet does -------------------------------------------------------------- */
+
+/* A closed socket that has sent no INIT ACK takes a cookie that is made by hand. Its fields are the
+ * maker's name, the tags of both ends, their first TSNs, a window, a tie tag, what is supported, a
+ * method, the streams and the moment. */
+static void forged_cookie(void) {
+    static const uint8_t echo[] = {10, 0, 0, 60, 'd', 'c', 'S', 'C', 'T', 'P', 'r', '0',
+                                   0, 0, 0, 11, 0, 0, 0, 22, 0, 0, 0, 33, 0, 0, 0, 44,
+                                   0, 1, 0, 0, 0, 0, 0, 0, 0, 0, 0, 0, 1, 0, 1, 0,
+                                   0, 0, 0, 0, 255, 255, 255, 255, 0, 0, 3, 70, 48, 184, 160, 0};
+    static const uint8_t header[12] = {19, 136, 19, 136, 0, 0, 0, 22};
+    const dcsctp_options options = quiet_options();
+    create_pair(&pair, &options, &options);
+    EQUAL("COOKIE ECHO", forge(&pair.a, header, echo, sizeof echo), DCSCTP_OK);
+    EQUAL("COOKIE ACK", carry(&pair.a, NULL), 1);
+    EQUAL("A is connected", pair.a.seen[DCSCTP_EVENT_CONNECTED], 1);
+    EQUAL("with the forged tag", u32_at(pair.a.packet + 4), 11);
+    destroy_pair(&pair);
+}
+
+/* The tag that packets have to bear stands at the end of the text for a packet with another one. */
+static void tag_in_a_text(void) {
+    static const uint8_t heartbeat[] = {4, 0, 0, 4};
+    const dcsctp_options options = quiet_options();
+    uint8_t header[12];
+    char expected[9];
+    connect_pair(&pair, &options, &options);
+    memcpy(header, pair.b.packet, 12);
+    snprintf(expected, sizeof expected, "%08" PRIx32, u32_at(header + 4));
+    header[4] ^= 1;
+    EQUAL("wrong tag", forge(&pair.a, header, heartbeat, sizeof heartbeat), DCSCTP_OK);
+    EQUAL("no answer", carry(&pair.a, NULL), 0);
+    EQUAL("an error", pair.a.seen[DCSCTP_EVENT_ERROR], 1);
+    EQUAL("the tag", strcmp(pair.a.text + strlen(pair.a.text) - 8, expected), 0);
+    destroy_pair(&pair);
+}
+
+/* An INIT is answered by an INIT ACK (2), whatever the socket does, and changes nothing. */
+static void inits_answered(void) {
+    static const uint8_t init[] = {1, 0, 0, 20, 0, 0, 0, 9, 0, 0, 8, 0, 0, 1, 0, 1, 0, 0, 0, 1};
+    static const uint8_t header[12] = {19, 136, 19, 136};
+    const dcsctp_options options = quiet_options();
+    for (int32_t state = DCSCTP_STATE_CLOSED; state <= DCSCTP_STATE_SHUTTING_DOWN; state++) {
+        if (state < DCSCTP_STATE_CONNECTED)
+            create_pair(&pair, &options, &options);
+        else
+            connect_pair(&pair, &options, &options);
+        if (state == DCSCTP_STATE_CONNECTING)
+            EQUAL("connect", dcsctp_connect(&pair.a.socket), DCSCTP_OK);
+        if (state == DCSCTP_STATE_SHUTTING_DOWN)
+            EQUAL("shutdown", dcsctp_shutdown(&pair.a.socket), DCSCTP_OK);
+        carry(&pair.a, NULL);
+        EQUAL("state", dcsctp_state(&pair.a.socket), state);
+        EQUAL("INIT", forge(&pair.a, header, init, sizeof init), DCSCTP_OK);
+        EQUAL("an answer", carry(&pair.a, NULL), 1);
+        EQUAL("INIT ACK", pair.a.packet[12], 2);
+        EQUAL("to the tag of the INIT", u32_at(pair.a.packet + 4), 9);
+        EQUAL("state", dcsctp_state(&pair.a.socket), state);
+        EQUAL("no event", pair.a.seen[DCSCTP_EVENT_ERROR], 0);
+        destroy_pair(&pair);
+    }
+}
+
+/* 290 chunks of 4 bytes in one packet: HEARTBEAT (4) to an open socket, or SHUTDOWN ACK (8) to a
+ * closed one, under any tag. */
+static void many_answers(void) {
+    const struct {
+        const char *name;
+        uint8_t type;
+        uint32_t follow_rfc;
+        size_t packets;
+    } rows[] = {
+        {"HEARTBEAT", 4, 0, 290},
+        {"HEARTBEAT, follow_rfc", 4, 1, 290},
+        {"SHUTDOWN ACK", 8, 0, 290},
+        {"SHUTDOWN ACK, follow_rfc", 8, 1, 1},
+    };
+    static const uint8_t any_tag[12] = {19, 136, 19, 136, 1, 2, 3, 4};
+    for (size_t i = 0; i < sizeof rows / sizeof rows[0]; i++) {
+        dcsctp_options options = quiet_options();
+        uint8_t header[12], chunks[290 * 4] = {0};
+        options.follow_rfc = rows[i].follow_rfc;
+        memcpy(header, any_tag, 12);
+        if (rows[i].type == 4) {
+            connect_pair(&pair, &options, &options);
+            memcpy(header, pair.b.packet, 12);
+        } else {
+            create_pair(&pair, &options, &options);
+        }
+        for (size_t at = 0; at < sizeof chunks; at += 4) {
+            chunks[at] = rows[i].type;
+            chunks[at + 3] = 4;
+        }
+        EQUAL("one packet", forge(&pair.a, header, chunks, sizeof chunks), DCSCTP_OK);
+        EQUAL(rows[i].name, carry(&pair.a, NULL), rows[i].packets);
+        destroy_pair(&pair);
+    }
+}
+
 /* ---- What becomes of a message -------------------------------------------------------------- */
 
 static int32_t send_named(uint64_t name, uint32_t flags, size_t length) {
@@ -388,6 +487,10 @@ int main(void) {
     errors();
     errors_of_the_state();
     texts();
+    forged_cookie();
+    tag_in_a_text();
+    inits_answered();
+    many_answers();
     lifecycles();
     unordered();
     stream_that_is_none();
