@@ -433,11 +433,12 @@ int32_t dcsctp_send(dcsctp_socket *socket, uint16_t stream_id, uint32_t ppid,
 /* ---- Streams -------------------------------------------------------------------------------- */
 
 /* Resets streams of this end (RFC 6525), which closes data channels. A `count` of 0 names none.
- * Messages on them that weren't begun are dropped. None is begun until
+ * Messages on them that weren't begun are dropped: to send them, first wait until
+ * dcsctp_buffered_amount of each stream is 0. No later one is begun until
  * DCSCTP_EVENT_STREAMS_RESET_PERFORMED or .._FAILED. The peer gets
  * DCSCTP_EVENT_INCOMING_STREAM_RESET, and drops what waits there for an earlier message.
  *
- * First wait until `unack_data_count` of dcsctp_get_metrics is 0. A peer that misses data when the
+ * Wait also until `unack_data_count` of dcsctp_get_metrics is 0. A peer that misses data when the
  * request comes doesn't perform it yet, and some peers never do: then neither event comes. If it
  * misses data because its user takes no messages, the request is sent again and again, and each one
  * that is lost counts as an error. That can abort a live association within a minute.

@@ -478,6 +478,35 @@ static void resets_unsupported(void) {
     destroy_pair(&pair);
 }
 
+/* Four messages of 1,000 bytes, in a congestion window of 1,191. Two are in flight: after the first
+ * there is still room. A reset drops the two that wait, unless they were sent before it. */
+static void reset_while_messages_wait(void) {
+    dcsctp_options options = quiet_options();
+    const uint16_t ids[] = {1};
+    options.cwnd_mtus_initial = 1;
+    for (unsigned waits = 0; waits <= 1; waits++) {
+        size_t amount = 77;
+        connect_pair(&pair, &options, &options);
+        for (int i = 0; i < 4; i++)
+            EQUAL("send", send_named(7, 0, 1000), DCSCTP_OK);
+        EQUAL("amount", dcsctp_buffered_amount(&pair.a.socket, 1, &amount), DCSCTP_OK);
+        EQUAL("two wait", amount, 2000);
+        if (waits) {
+            settle(&pair);
+            EQUAL("amount", dcsctp_buffered_amount(&pair.a.socket, 1, &amount), DCSCTP_OK);
+            EQUAL("none waits", amount, 0);
+        }
+        EQUAL("reset", dcsctp_reset_streams(&pair.a.socket, ids, 1), DCSCTP_OK);
+        settle(&pair);
+        pass(&pair, 1 * SECONDS);
+        settle(&pair);
+        EQUAL("what arrives", take_messages(&pair.b, 1000), waits ? 4 : 2);
+        EQUAL("what is dropped", pair.a.seen[DCSCTP_EVENT_LIFECYCLE_EXPIRED], waits ? 0 : 2);
+        EQUAL("it is reset", pair.a.seen[DCSCTP_EVENT_STREAMS_RESET_PERFORMED], 1);
+        destroy_pair(&pair);
+    }
+}
+
 int main(void) {
     connected();
     shut_down();
@@ -497,6 +526,7 @@ int main(void) {
     streams_reset();
     reset_refused();
     resets_unsupported();
+    reset_while_messages_wait();
     puts("events: each comes when dcsctp.h says");
     return 0;
 }
