@@ -157,7 +157,7 @@ extern "C" {
 /* The socket can't be handed over now: dcsctp_get_handover_readiness says why. */
 #define DCSCTP_ERROR_NOT_READY (-14)
 
-/* These bytes are no snapshot, or the options of the socket don't fit it. */
+/* These bytes are no snapshot, or one that needs a `zero_checksum_method`. */
 #define DCSCTP_ERROR_INVALID_SNAPSHOT (-15)
 
 /* The socket has an association, or begins one. */
@@ -562,6 +562,10 @@ int32_t dcsctp_handover_bytes(dcsctp_socket *socket, uint8_t *buffer, size_t cap
  * be past a minute, since older times count as moment 0. By another clock, cookies that were given
  * before may be judged too young or too old. Restore only what you trust: a forged
  * snapshot can make an association, and can take long to check.
+ *
+ * That the options are the same is up to you. One alone is compared: INVALID_SNAPSHOT if
+ * `zero_checksum_method` is 0, and the association goes without checksums. The others count from
+ * now on, but what was negotiated stays. With other ports the peer reads no packet, or this end.
  *
  * Errors: NO_SOCKET, NOT_CLOSED, INVALID_SNAPSHOT, FAILED, OUT_OF_MEMORY. If there is no memory to
  * read the bytes, nothing has changed, and the call may be tried again. */

@@ -322,6 +322,70 @@ static void other_options(void) {
     destroy_pair(&pair);
 }
 
+/* No option but `zero_checksum_method` is compared with a snapshot. Where a socket with others goes
+ * on, what was negotiated stays, and the new ports count. */
+static void all_other_options(void) {
+    dcsctp_options options = quiet_options();
+    options.enable_message_interleaving = 1;
+    options.zero_checksum_method = 1;
+    const dcsctp_options others = {
+        .mtu = 500,
+        .max_message_size = 30,
+        .max_receiver_window_buffer_size = 2000,
+        .max_send_buffer_size = 1000,
+        .per_stream_send_queue_limit = 900,
+        .total_buffered_amount_low_threshold = 1,
+        .default_stream_buffered_amount_low_threshold = 2,
+        .cwnd_mtus_initial = 3,
+        .cwnd_mtus_min = 2,
+        .rtt_max = 1 * SECONDS,
+        .rto_initial = 2 * SECONDS,
+        .rto_max = 3 * SECONDS,
+        .rto_min = 1 * SECONDS,
+        .t1_init_timeout = 4 * SECONDS,
+        .t1_cookie_timeout = 5 * SECONDS,
+        .cookie_lifetime = 6 * SECONDS,
+        .max_timer_backoff_duration = 7 * SECONDS,
+        .heartbeat_interval = 8 * SECONDS,
+        .delayed_ack_max_timeout = 100 * MILLISECONDS,
+        .min_rtt_variance = 1,
+        .max_burst = 1,
+        .max_retransmissions = 3,
+        .max_init_retransmits = 4,
+        .zero_checksum_method = 2,
+        .disable_checksum_verification = 1,
+        .enable_handover_with_outstanding_data = 1,
+        .announced_maximum_incoming_streams = 7,
+        .announced_maximum_outgoing_streams = 8,
+        .default_stream_priority = 9,
+    };
+    const struct {
+        const char *name;
+        uint16_t local_port, remote_port;
+        unsigned at_b, errors_of_a, errors_of_b;
+    } rows[] = {
+        {"the same ports", 5000, 5000, 1, 0, 0},
+        {"sent to another port", 5000, 5001, 0, 0, 1},
+        {"read at another port", 5001, 5000, 1, 1, 0},
+    };
+    for (size_t i = 0; i < sizeof rows / sizeof rows[0]; i++) {
+        dcsctp_options used = others;
+        used.local_port = rows[i].local_port;
+        used.remote_port = rows[i].remote_port;
+        connect_pair(&pair, &options, &options);
+        replace_a(&used, hand_over(&pair.a));
+        EQUAL("streams stay", metrics_of(&pair.a).negotiated_maximum_outgoing_streams, 65535);
+        EQUAL("interleaving stays", metrics_of(&pair.a).uses_message_interleaving, 1);
+        EQUAL("no checksum stays", metrics_of(&pair.a).uses_zero_checksum, 1);
+        EQUAL("send", send_bytes(&pair.a, 1, 20), DCSCTP_OK);
+        settle(&pair);
+        EQUAL(rows[i].name, take_messages(&pair.b, 20), rows[i].at_b);
+        EQUAL(rows[i].name, pair.a.seen[DCSCTP_EVENT_ERROR], rows[i].errors_of_a);
+        EQUAL(rows[i].name, pair.b.seen[DCSCTP_EVENT_ERROR], rows[i].errors_of_b);
+        destroy_pair(&pair);
+    }
+}
+
 int main(void) {
     reasons_of_a_pair();
     reasons_of_a_loss();
@@ -331,6 +395,7 @@ int main(void) {
     prefixes();
     changed_bytes();
     other_options();
+    all_other_options();
     puts("handover: an association goes on by its snapshot alone");
     return 0;
 }
