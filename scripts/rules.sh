@@ -90,15 +90,15 @@ rows() {
 table() {
     echo '| Tried | Loss | Off | On |'
     echo '|---|---|---|---|'
-    rows '(131,072): aborted; stalled; seconds' readers '0 10 50' window=131072
-    rows '(default): aborted; stalled; seconds' readers '0 10 50'
-    rows '(20,000): stalled; seconds' windows '10 50 100' window=20000
-    rows '(default): closed; messages' shutdown '0 10 50'
-    rows '(5,000): closed; messages' shutdown '0 10 50' window=5000
-    rows '(default): seconds' bulk '0 10 100'
-    rows '(default): messages of five' reconnects 0
-    rows '(default): streams of 200' closes '10 50 200'
-    rows '(default): messages of either stream' equals 10
+    rows '(131,072): runs aborted; stalled for ten minutes; seconds until a new message' readers '0 10 50' window=131072
+    rows '(default): the same' readers '0 10 50'
+    rows '(20,000): runs stalled; seconds until all arrived' windows '10 50 100' window=20000
+    rows '(default): runs closed at both ends; messages that arrived, of 200' shutdown '0 10 50'
+    rows '(5,000): the same' shutdown '0 10 50' window=5000
+    rows '(default): seconds for 5 MiB' bulk '0 10 100'
+    rows '(default): messages that arrived, of five' reconnects 0
+    rows '(default): resets that ended in five minutes, of 200' closes '10 50 200'
+    rows '(default): messages in 30 s, of one stream; of the other' equals 10
 }
 
 keep_table rules "$(table)" "$@"
