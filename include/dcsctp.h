@@ -204,10 +204,10 @@ typedef struct dcsctp_socket {
  *   more than this has waited. So let it be below `max_send_buffer_size`, also if you lower that.
  * `rto_initial`: let it be longer than any round trip. Else the first flight is sent twice, and at
  *   twice the value all data is, as long as the association lasts.
- * `follow_rfc`: rules of RFC 9260 hold that dcsctp 0.1.16 doesn't keep. A shutdown sends first what
- *   waits, data that finds no room or fills a gap is answered at once, and the peer is told when a
- *   full receive window opens. At 0 all is as in dcsctp 0.1.16. docs/DIFFERENCES.md has a row for
- *   each rule. */
+ * `follow_rfc`: rules of the RFCs hold that dcsctp 0.1.16 doesn't keep. A shutdown sends first what
+ *   waits, data that finds no room or fills a gap is answered at once, the peer is told when a full
+ *   receive window opens, a peer's SHUTDOWN acknowledges data, and streams of equal priority take
+ *   turns. At 0 all is as in dcsctp 0.1.16. docs/DIFFERENCES.md has a row for each rule. */
 typedef struct dcsctp_options {
     size_t mtu;                                          /* longest packet that is sent: 1,191 */
     size_t max_message_size;                             /* longest message to send: 262,144 */
@@ -275,8 +275,8 @@ int32_t dcsctp_connect(dcsctp_socket *socket) DCSCTP_CALL;
  * has answered. DCSCTP_EVENT_ABORTED comes in its place if the peer aborts, or is silent: then by
  * default at most 330.5 s later (see dcsctp_options). If it hasn't answered the first INIT, the
  * association ends at once, and while the handshake isn't over it never connects. On a closed
- * socket it changes nothing. A peer's SHUTDOWN acknowledges nothing here: where it sends no SACK,
- * both ends wait for minutes, until one gives up. dcsctp_close ends that.
+ * socket it changes nothing. Without `follow_rfc` a peer's SHUTDOWN acknowledges nothing: where it
+ * sends no SACK, both ends wait for minutes, until one gives up. dcsctp_close ends that.
  * Errors: NO_SOCKET, FAILED, OUT_OF_MEMORY. */
 int32_t dcsctp_shutdown(dcsctp_socket *socket) DCSCTP_CALL;
 
@@ -440,8 +440,9 @@ int32_t dcsctp_send(dcsctp_socket *socket, uint16_t stream_id, uint32_t ppid,
  *
  * Wait also until `unack_data_count` of dcsctp_get_metrics is 0. A peer that misses data when the
  * request comes doesn't perform it yet, and some peers never do: then neither event comes. If it
- * misses data because its user takes no messages, the request is sent again and again, and each one
- * that is lost counts as an error. That can abort a live association within a minute.
+ * misses data because its user takes no messages, the request is sent again and again. Without
+ * `follow_rfc` each one that is lost counts as an error, which can abort a live association within
+ * a minute.
  *
  * Errors: NO_SOCKET, NOT_CONNECTED, NOT_SUPPORTED, FAILED, OUT_OF_MEMORY. If there is no memory for
  * a copy of the numbers, nothing has changed, and the call may be tried again. */
@@ -460,8 +461,9 @@ int32_t dcsctp_buffered_amount_low_threshold(dcsctp_socket *socket, uint16_t str
 int32_t dcsctp_set_buffered_amount_low_threshold(dcsctp_socket *socket, uint16_t stream_id,
                                                  size_t bytes) DCSCTP_CALL;
 
-/* The priority of a stream: one of the greatest priority is sent first, and of those with the same
- * the one of the lowest number. They don't take turns: as long as it has messages, the others wait.
+/* The priority of a stream: one of the greatest priority is sent first. Those with the same take
+ * turns, a message each; without `follow_rfc` the lowest stream number goes first as long as it has
+ * messages.
  * So give a stream that must not wait a greater priority. It outlasts an association.
  * Errors: NO_SOCKET, and where it is set FAILED and OUT_OF_MEMORY, too. */
 int32_t dcsctp_get_stream_priority(dcsctp_socket *socket, uint16_t stream_id, uint16_t *priority)

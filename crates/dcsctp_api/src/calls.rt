@@ -72,9 +72,10 @@ pub trait DcSctpSocket {
 
     /// Shuts the association down (RFC 9260, section 9.2). A SHUTDOWN is sent once all that was sent is
     /// acknowledged or abandoned. `SocketEvent::OnClosed` follows when the peer has answered. From now on no
-    /// message is accepted, and messages that wait in the queue may be lost. If no peer has answered the INIT
-    /// yet, the association ends at once. If its COOKIE ACK is awaited, it never connects. On a closed
-    /// socket, and on one that is shutting down, it returns `Ok`, changes nothing and allocates nothing.
+    /// message is accepted. Messages that wait in the queue may be lost; with `Options::follow_rfc` those that
+    /// can be sent go first. If no peer has answered the INIT yet, the association ends at once. If its COOKIE
+    /// ACK is awaited, it never connects. On a closed socket, and on one that is shutting down, it returns
+    /// `Ok`, changes nothing and allocates nothing.
     fn shutdown(&mut self) -> Result<(), SocketFault>
         ensures call { ShutsDown (user_view self.old) result (user_view self.new) }
         ensures idle { (user_view self.old).failed ≡ false
@@ -146,8 +147,9 @@ pub trait DcSctpSocket {
             → reset_refusal (user_view self.old).endpoint ≢ None → IsOk result };
 
     /// Takes the message that became ready first, if one is ready, and gives its bytes back to the receive
-    /// window. Allocates nothing, and works on a socket that has failed, too. A new association starts
-    /// without messages; those that weren't taken before the old one ended are lost.
+    /// window. With `Options::follow_rfc` that may make an acknowledgement due at once, so ask `poll_timeout`
+    /// again. Allocates nothing, and works on a socket that has failed, too. A new association starts without
+    /// messages; those that weren't taken before the old one ended are lost.
     fn get_next_message(&mut self) -> Option<Message>
         ensures { TakesNext (user_view self.old) result (user_view self.new) };
 

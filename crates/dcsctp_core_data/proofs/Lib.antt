@@ -1,5 +1,6 @@
 pub mod ArrivalLemmas
 pub mod EndLemmas
+pub mod HeardLemmas
 pub mod ProceedLemmas
 pub mod RefusalLemmas
 pub mod ResendLemmas

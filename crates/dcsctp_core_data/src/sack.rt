@@ -76,6 +76,7 @@ fn proceed<R: Rng>(context: &mut Context<R>) -> Result<(), AllocError>
 /// that was never sent, changes nothing. Without an association it is reported.
 ///
 /// `Err`: an allocation failed; the first of its events may already have been added.
+#[inline(always)]
 pub fn handle_sack<R: Rng>(
     context: &mut Context<R>,
     chunk: &SackChunk<'_>,

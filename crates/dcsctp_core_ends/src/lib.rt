@@ -13,7 +13,7 @@ pub use abort::handle_abort;
 pub use aborting::abort_association;
 pub use error::handle_error;
 pub use shutdown::{
-    answer_data, do_shutdown, handle_shutdown, handle_shutdown_ack, handle_shutdown_complete,
-    handle_t2, reflect_shutdown_ack, send_shutdown_ack, step_shutdown,
+    answer_data, do_shutdown, handle_shutdown_ack, handle_shutdown_complete, handle_t2,
+    receive_shutdown, reflect_shutdown_ack, send_shutdown_ack, step_shutdown,
 };
 pub use violation::violation_of;

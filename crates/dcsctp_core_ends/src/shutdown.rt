@@ -11,7 +11,7 @@ mod t2;
 
 pub use call::do_shutdown;
 pub use chunks::{
-    handle_shutdown, handle_shutdown_ack, handle_shutdown_complete, reflect_shutdown_ack,
+    handle_shutdown_ack, handle_shutdown_complete, receive_shutdown, reflect_shutdown_ack,
 };
 pub use sending::send_shutdown_ack;
 pub use stepping::step_shutdown;

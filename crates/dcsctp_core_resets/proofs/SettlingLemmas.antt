@@ -6,7 +6,8 @@ use Rattle.dcsctp_core.specs.spec.endpoint.Event.{Event}
 use Rattle.dcsctp_core.specs.spec.Reconfiguration.{RequestedReset}
 use Rattle.dcsctp_core.specs.spec.queues.Transfer.{Transfer}
 use Rattle.dcsctp_core.specs.spec.endpoint.Endpoint.{OutstandingRequest, cookie_echoed, open_in}
-use Rattle.dcsctp_core.specs.spec.endpoint.Timers.{RunningTimer}
+use Rattle.dcsctp_core.specs.spec.endpoint.Timers.{RunningTimer, started}
+use Rattle.dcsctp_core.specs.spec.endpoint.BegunResets.{reconfiguration_settings, rto_of}
 use Rattle.dcsctp_core.specs.spec.endpoint.ResetOutcomes.{OwnAnswer, unanswered, retried, was_performed, has_failed, waiting, own_streams}
 use Rattle.dcsctp_core.specs.api.declared.events.SocketEvent.{SocketEvent}
 use Rattle.dcsctp_core.specs.declared.context.Context.{Context}
@@ -25,7 +26,7 @@ use Rattle.dcsctp_core_resets.specs.declared.requests.OwnAnswer.TheVariants as o
 use Rattle.dcsctp_core_resets.specs.declared.requests.LastRequest.{LastRequest}
 use Rattle.dcsctp_core_resets.specs.declared.requests.HandledRequests.{HandledRequests}
 use Rattle.dcsctp_core_resets.specs.Requests.{held_out, own_kind}
-use Rattle.dcsctp_core_resets.specs.Resets.{RetriesIn, asked_at, left_at, settled_at, own_told, event_told, Settles, Tells, told_for, Treats, TreatsBelow, told_both, told_where, Carried}
+use Rattle.dcsctp_core_resets.specs.Resets.{RetriesIn, asked_at, heeded_at, left_at, settled_at, own_told, event_told, Settles, Tells, told_for, Treats, TreatsBelow, told_both, told_where, Carried}
 
 -- ---- the request that is outstanding
 
@@ -91,8 +92,12 @@ abbrev asking : {R : Type 0} → View R → Option OutstandingRequest → Option
 asking view request timer =
     record view { endpoint = record view.endpoint { outstanding = request; timers = record view.endpoint.timers { reconfiguration = timer } } }
 
+-- the view once it is in progress, but for the count of errors
+abbrev retried_at : {R : Type 0} → View R → View R
+retried_at view = asking view (option_map waiting view.endpoint.outstanding) (started view.endpoint.moment (reconfiguration_settings (rto_of view.endpoint.below.transfer)))
+
 echoed_view : {R : Type 0} (old : Context R) (echoed : CookieEchoState) (tcb : TransmissionControlBlock) → Retries old.moment echoed.tcb tcb → (echoed.tcb.reset_request ≡ None → ⊥)
-    → view_of (record old { state = CookieEchoed (record echoed { tcb = tcb }) }) ≡ settled_at retried (view_of (record old { state = CookieEchoed echoed }))
+    → view_of (record old { state = CookieEchoed (record echoed { tcb = tcb }) }) ≡ retried_at (view_of (record old { state = CookieEchoed echoed }))
 echoed_view {R = R} old echoed tcb h some =
     let v : View R = view_of (record old { state = CookieEchoed echoed }) in
     let numbered : Option ℕ → Option OutstandingRequest → Option RunningTimer → View R =
@@ -105,7 +110,7 @@ echoed_view {R = R} old echoed tcb h some =
     ∙ ap (λ (t : Option RunningTimer). numbered (number_of rr) (option_map waiting (request_of rr)) t) (timer_delayed h.timer _ rr h.runs some)
 
 open_view : {R : Type 0} (old : Context R) (opened : OpenState) (tcb : TransmissionControlBlock) → Retries old.moment opened.tcb tcb → (opened.tcb.reset_request ≡ None → ⊥)
-    → view_of (record old { state = Open (record opened { tcb = tcb }) }) ≡ settled_at retried (view_of (record old { state = Open opened }))
+    → view_of (record old { state = Open (record opened { tcb = tcb }) }) ≡ retried_at (view_of (record old { state = Open opened }))
 open_view {R = R} old opened tcb h some =
     let v : View R = view_of (record old { state = Open opened }) in
     let numbered : Option ℕ → Option OutstandingRequest → Option RunningTimer → View R =
@@ -122,7 +127,7 @@ asked_some : (request : Option ResetRequest) → (request_of request ≡ None �
 asked_some request asked none = let never = asked (ap request_of none) in absurd (cc)
 
 retried_view : {R : Type 0} (old : Context R) (s new : State) (tcb : TransmissionControlBlock) → Some tcb ≡ tcb_of s → (after : TransmissionControlBlock) → Retries old.moment tcb after
-    → new ≡ tcb_changed (λ _. after) s → (outstanding_of s ≡ None → own.InProgress ≡ own.Unanswered) → view_of (record old { state = new }) ≡ settled_at retried (view_of (record old { state = s }))
+    → new ≡ tcb_changed (λ _. after) s → (outstanding_of s ≡ None → own.InProgress ≡ own.Unanswered) → view_of (record old { state = new }) ≡ retried_at (view_of (record old { state = s }))
 retried_view old Closed new tcb holds after h is asked = let never = asked refl in absurd (cc)
 retried_view old (CookieWait wait) new tcb holds after h is asked = let never = asked refl in absurd (cc)
 retried_view old (CookieEchoed echoed) new tcb holds after h is asked =
@@ -132,13 +137,14 @@ retried_view old (Open opened) new tcb holds after h is asked =
     ap (λ (s : State). view_of (record old { state = s })) is
     ∙ open_view old opened after (subst (λ (t : TransmissionControlBlock). Retries old.moment t after) (cc) h) (asked_some opened.tcb.reset_request asked)
 
-retried_by : {R : Type 0} (old : Context R) (new : State) (found : Option TransmissionControlBlock) → found ≡ tcb_of old.state → RetriesIn old.moment found old.state new
-    → Settles own.InProgress old None (record old { state = new })
-retried_by old new None holds h = λ asked. let never = asked (ap (λ (t : Option TransmissionControlBlock). request_of (own_request t)) (sym holds)) in absurd (cc)
-retried_by old new (Some tcb) holds h = λ asked. (retried_view old old.state new tcb holds h.0 h.1 h.2 asked, refl)
+retried_by : {R : Type 0} (old : Context R) (new : State) (mid : Context R) (found : Option TransmissionControlBlock) → found ≡ tcb_of old.state → RetriesIn old.moment found old.state new
+    → view_of mid ≡ heeded_at (view_of (record old { state = new })) → Settles own.InProgress old None mid
+retried_by old new mid None holds h heeds = λ asked. let never = asked (ap (λ (t : Option TransmissionControlBlock). request_of (own_request t)) (sym holds)) in absurd (cc)
+retried_by {R = R} old new mid (Some tcb) holds h heeds = λ asked. (heeds ∙ ap (λ (v : View R). heeded_at v) (retried_view old old.state new tcb holds h.0 h.1 h.2 asked), refl)
 
-pub retried_settles : {R : Type 0} (old : Context R) (new : State) → RetriesIn old.moment (tcb_of old.state) old.state new → Settles own.InProgress old None (record old { state = new })
-retried_settles old new h = retried_by old new (tcb_of old.state) refl h
+pub retried_settles : {R : Type 0} (old : Context R) (new : State) (mid : Context R) → RetriesIn old.moment (tcb_of old.state) old.state new
+    → view_of mid ≡ heeded_at (view_of (record old { state = new })) → Settles own.InProgress old None mid
+retried_settles old new mid h heeds = retried_by old new mid (tcb_of old.state) refl h heeds
 
 -- ---- both requests
 

@@ -1,5 +1,5 @@
 -- What the handler of RE-CONFIG does, as turns of a socket's view (RFC 6525, section 5.2).
-use Rattle.std.specs.Prelude.{◌≡◌, ℕ, Bool, true, false, Option, None, Some, Result, Ok, Err, List, [], ◌∷◌, ◌++◌, take}
+use Rattle.std.specs.Prelude.{◌≡◌, ℕ, Bool, true, false, Option, None, Some, Result, Ok, Err, List, [], ◌∷◌, ◌++◌, take, if◌then◌else◌}
 use Rattle.rand_core.specs.Stream.{Stream}
 use Rattle.dcsctp_core.specs.wire.declared.reconfiguration.OutgoingSsnResetRequestParameter.{OutgoingSsnResetRequestParameter}
 use Rattle.dcsctp_core.specs.wire.declared.reconfiguration.ReconfigurationResponseResult.TheVariants.{SuccessNothingToDo}
@@ -112,6 +112,10 @@ abbrev pub settled_at : {R : Type 0} → OwnAnswer → View R → View R
 settled_at answer view =
     let moved : Endpoint = own_moved answer view.endpoint in
     record view { endpoint = record moved { core = core_settled answer view.endpoint.core } }
+
+-- By the RFC no error counts once it was answered.
+abbrev pub heeded_at : {R : Type 0} → View R → View R
+heeded_at view = record view { endpoint = record view.endpoint { error_count = if view.endpoint.options.follow_rfc then 0 else view.endpoint.error_count } }
 
 -- the events about it, if it resets these streams
 abbrev pub own_told : requests.OwnAnswer → List ℕ → List (Event (List ℕ))

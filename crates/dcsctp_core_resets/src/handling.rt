@@ -13,7 +13,7 @@ ghost use Rattle.dcsctp_core.specs.View.{tcb_of, transfer_of, view_of};
 ghost use Rattle.dcsctp_core.specs.Below.{ChangesBelow};
 ghost use Rattle.dcsctp_core.specs.Handling.{Emits, TakesOne, Tries, report_turn};
 ghost use Rattle.dcsctp_core_resets.specs.Requests.{AreResponses, reset_parameters};
-ghost use Rattle.dcsctp_core_resets.specs.Resets.{CarriesOut, Defers, DefersTo, Finishes, Performs, ReConfigAt, RetriesIn, Settles, Tells, Treats, WorksFor, asked_at, responses_turn, wanted_by};
+ghost use Rattle.dcsctp_core_resets.specs.Resets.{CarriesOut, Defers, DefersTo, Finishes, Performs, ReConfigAt, RetriesIn, Settles, Tells, Treats, WorksFor, asked_at, heeded_at, responses_turn, wanted_by};
 
 use crate::reading::{requested, streams_of};
 use crate::requests::{HandledRequests, LastRequest, OwnAnswer, Treatment, handle_requests};
@@ -180,6 +180,16 @@ fn end_reset(state: &mut State) -> Option<ResetRequest>
     }
 }
 
+// Our own request was answered. With `Options::follow_rfc` that shows that the peer is there, so no error
+// counts (RFC 9260, section 8.1).
+fn heed_answer<R: Rng>(context: &mut Context<R>)
+    ensures { view_of context.new ≡ heeded_at (view_of context.old) }
+{
+    if context.options.follow_rfc {
+        context.reset_errors();
+    }
+}
+
 // The peer has given this answer to our own request (RFC 6525, section 5.2.7). A request that is in progress
 // is sent again later. One that has ended gives its streams back to the send queue; returns the event for it.
 // Allocates nothing.
@@ -190,6 +200,7 @@ fn settle<R: Rng>(context: &mut Context<R>, own: OwnAnswer) -> Option<SocketEven
         OwnAnswer::Unanswered => None,
         OwnAnswer::InProgress => {
             retry_reset(&mut context.state, context.moment);
+            heed_answer(context);
             None
         }
         OwnAnswer::Performed => {

@@ -1,6 +1,6 @@
 -- A flush leaves the next identifier of a message, and how messages are numbered.
 use Rattle.std.proofs.Common.{◌≡◌, ◌==◌, ℕ, Bool, true, false, ◌-◌, List, length, map, refl, ◌∙◌, ap, inl, inr}
-use Rattle.std.specs.Prelude.{Option, None, Some, slice_set, if◌then◌else◌}
+use Rattle.std.specs.Prelude.{Option, None, Some, if◌then◌else◌}
 use Rattle.dcsctp_spec.specs.endpoint.Event.{Event}
 use Rattle.dcsctp_spec.specs.Packet.{Plain, Emission}
 use Rattle.dcsctp_spec.specs.endpoint.Endpoint.{Endpoint}
@@ -10,8 +10,8 @@ use Rattle.dcsctp_spec.specs.queues.Abandoning.{GivesUpFirst}
 use Rattle.dcsctp_spec.specs.queues.Items.{Item}
 use Rattle.dcsctp_spec.specs.queues.Outstanding.{header}
 use Rattle.dcsctp_spec.specs.queues.SendQueue.{SendQueueState}
-use Rattle.dcsctp_spec.specs.queues.Sending.{Fragment, Drops, none as drops_none, more as drops_more, numbered, reduced, after_part, after_last, produced, is_last, Takes, DiscardsNamed}
-use Rattle.dcsctp_spec.specs.types.queues.SendStreams.{Waiting, stream_at, counted}
+use Rattle.dcsctp_spec.specs.queues.Sending.{Fragment, Drops, none as drops_none, more as drops_more, counting as taking_turn, numbered, reduced, after_part, after_last, produced, is_last, Takes, DiscardsNamed}
+use Rattle.dcsctp_spec.specs.types.queues.SendStreams.{Waiting}
 use Rattle.dcsctp_spec.specs.queues.Transfer.{Transfer, Below, is_idle}
 use Rattle.dcsctp_spec.specs.endpoint.BegunResets.{BegunReset, queue_requesting}
 use Rattle.dcsctp_spec.specs.endpoint.FlushOutcomes.{told_event, Answer, answer_contents, filled, asked, next_draft, flush_of, Ask, later_ask, GivesUpWhere, FillsWhere, GivesWhere, AnsweredBelow, Answered, Answers, at_limit, at_empty, after_packet}
@@ -25,7 +25,7 @@ fixed queue = (queue.next_message_id, queue.is_interleaved)
 numbered_next : (place : ℕ) (message : Waiting) (under_way : UnderWay) (queue : SendQueueState) → fixed (numbered place message under_way queue) ≡ fixed queue
 numbered_next place message under_way queue = go (under_way.sent == 0)
   where
-    go : (b : Bool) → fixed (if b then record queue { streams = slice_set queue.streams place (counted queue.is_interleaved message.is_unordered (stream_at queue.streams place)) } else queue) ≡ fixed queue
+    go : (b : Bool) → fixed (if b then taking_turn place message.is_unordered queue else queue) ≡ fixed queue
     go true = refl
     go false = refl
 

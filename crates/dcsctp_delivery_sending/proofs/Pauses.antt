@@ -6,9 +6,9 @@ use Rattle.dcsctp_spec.specs.types.declared.sending.Pause.{Pause}
 use Rattle.dcsctp_spec.specs.types.declared.sending.Pause.TheVariants.{Open, Pausing, HandedOut}
 use Rattle.dcsctp_spec.specs.types.declared.sending.Turn.{Turn}
 use Rattle.dcsctp_spec.specs.types.declared.sending.UnderWay.{UnderWay}
-use Rattle.dcsctp_spec.specs.types.queues.SendStreams.{Waiting, Stream, without_front, counted, stream_at, unused, turn_if, turn_of}
+use Rattle.dcsctp_spec.specs.types.queues.SendStreams.{Waiting, Stream, without_front, counted, served, stream_at, unused, turn_if, turn_of}
 use Rattle.dcsctp_spec.specs.queues.SendQueue.{SendQueueState}
-use Rattle.dcsctp_spec.specs.queues.Sending.{Fragment, Drops, none as drops_none, more as drops_more, reduced, numbered, without_rest, after_part, after_last, produced, is_last, Takes, DiscardsNamed}
+use Rattle.dcsctp_spec.specs.queues.Sending.{Fragment, Drops, none as drops_none, more as drops_more, reduced, next_turn, counting as taking_turn, numbered, without_rest, after_part, after_last, produced, is_last, Takes, DiscardsNamed}
 use Rattle.dcsctp_delivery_sending.specs.Numbers.{stream_named, is_handed_out, KeptWhere, AreCurrent, AreKept}
 use Rattle.dcsctp_spec.specs.queues.Filling.{Stage, Closes, GivesUpAt, payload_room, StepAgain, StepNew, Steps, none as steps_none, more as steps_more, counting, FillsPacket}
 use Rattle.dcsctp_spec.specs.queues.Items.{Item}
@@ -61,10 +61,10 @@ pauses_numbered place message under_way queue id = go (under_way.sent == 0)
     its_pause false true s = refl
     its_pause false false s = refl
 
-    go : (b : Bool) → is_handed_out (stream_named id (if b then record queue { streams = slice_set queue.streams place (counted queue.is_interleaved message.is_unordered (stream_at queue.streams place)) } else queue).streams).pause
+    go : (b : Bool) → is_handed_out (stream_named id (if b then taking_turn place message.is_unordered queue else queue).streams).pause
         ≡ is_handed_out (stream_named id queue.streams).pause
     go true =
-        pauses_set place (counted queue.is_interleaved message.is_unordered (stream_at queue.streams place)) queue.streams (its_id queue.is_interleaved message.is_unordered (stream_at queue.streams place))
+        pauses_set place (served (next_turn queue) (counted queue.is_interleaved message.is_unordered (stream_at queue.streams place))) queue.streams (its_id queue.is_interleaved message.is_unordered (stream_at queue.streams place))
         (its_pause queue.is_interleaved message.is_unordered (stream_at queue.streams place)) id
     go false = refl
 
@@ -107,7 +107,7 @@ pauses_discarded old new stream message_id before after false discards id = ap (
 pub turn_open : (s : Stream) (turn : Turn) → turn_of s ≡ Some turn → is_handed_out s.pause ≡ false
 turn_open s turn is = go s.pause is
   where
-    go : (p : Pause) → turn_if s.priority s.id p s.messages ≡ Some turn → is_handed_out p ≡ false
+    go : (p : Pause) → turn_if s.priority s.last_turn s.id p s.messages ≡ Some turn → is_handed_out p ≡ false
     go Open e = refl
     go Pausing e = refl
     go HandedOut e = absurd (cc)

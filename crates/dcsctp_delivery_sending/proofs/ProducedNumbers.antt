@@ -4,9 +4,9 @@ use Rattle.std.specs.Prelude.{None, Some, slice_set, if◌then◌else◌}
 use Rattle.std.proofs.lemmas.Bool.Decides.{eqb_tells}
 use Rattle.std.proofs.lemmas.List.{length-set, get_or-set_same}
 use Rattle.dcsctp_spec.specs.types.declared.sending.UnderWay.{UnderWay}
-use Rattle.dcsctp_spec.specs.types.queues.SendStreams.{Waiting, Stream, front_of, counted, unused, stream_at}
+use Rattle.dcsctp_spec.specs.types.queues.SendStreams.{Waiting, Stream, front_of, counted, served, unused, stream_at}
 use Rattle.dcsctp_spec.specs.queues.SendQueue.{SendQueueState}
-use Rattle.dcsctp_spec.specs.queues.Sending.{reduced, numbered, after_part, after_last, produced, is_last}
+use Rattle.dcsctp_spec.specs.queues.Sending.{reduced, next_turn, counting, numbered, after_part, after_last, produced, is_last}
 use Rattle.dcsctp_delivery_sending.specs.Log.{Piece, Slot, HasBefore, History, with_slot}
 use Rattle.dcsctp_delivery_sending.specs.Numbers.{stream_named, next_mid, Counts, AreOfKind, IsCurrent}
 use Rattle.dcsctp_delivery_sending.proofs.Places.{at_cases}
@@ -21,7 +21,7 @@ use Rattle.dcsctp_delivery_sending.proofs.Counted.{GoesOn, counts_begun, counts_
 numbered_kind : (place : ℕ) (message : Waiting) (under_way : UnderWay) (queue : SendQueueState) → (numbered place message under_way queue).is_interleaved ≡ queue.is_interleaved
 numbered_kind place message under_way queue = go (under_way.sent == 0)
   where
-    go : (b : Bool) → (if b then record queue { streams = slice_set queue.streams place (counted queue.is_interleaved message.is_unordered (stream_at queue.streams place)) } else queue).is_interleaved ≡ queue.is_interleaved
+    go : (b : Bool) → (if b then counting place message.is_unordered queue else queue).is_interleaved ≡ queue.is_interleaved
     go true = refl
     go false = refl
 
@@ -34,12 +34,12 @@ produced_kind place max message under_way queue = go (is_last max message under_
 
 -- a message that is begun is counted
 numbered_begun : (place : ℕ) (message : Waiting) (under_way : UnderWay) (queue : SendQueueState) → under_way.sent ≡ 0 → queue.is_interleaved ≡ true
-    → (numbered place message under_way queue).streams ≡ slice_set queue.streams place (counted true message.is_unordered (stream_at queue.streams place))
+    → (numbered place message under_way queue).streams ≡ slice_set queue.streams place (served (next_turn queue) (counted true message.is_unordered (stream_at queue.streams place)))
 numbered_begun place message under_way queue sent kind = go (under_way.sent == 0) (ap (λ (k : ℕ). k == 0) sent)
   where
-    go : (b : Bool) → b ≡ true → (if b then record queue { streams = slice_set queue.streams place (counted queue.is_interleaved message.is_unordered (stream_at queue.streams place)) } else queue).streams
-        ≡ slice_set queue.streams place (counted true message.is_unordered (stream_at queue.streams place))
-    go true e = ap (λ (b : Bool). slice_set queue.streams place (counted b message.is_unordered (stream_at queue.streams place))) kind
+    go : (b : Bool) → b ≡ true → (if b then counting place message.is_unordered queue else queue).streams
+        ≡ slice_set queue.streams place (served (next_turn queue) (counted true message.is_unordered (stream_at queue.streams place)))
+    go true e = ap (λ (b : Bool). slice_set queue.streams place (served (next_turn queue) (counted b message.is_unordered (stream_at queue.streams place)))) kind
     go false e = absurd (cc)
 
 -- one that goes on is not
@@ -47,25 +47,25 @@ numbered_on : (place : ℕ) (message : Waiting) (under_way : UnderWay) (queue : 
 numbered_on place message under_way queue some =
     elim (eqb_tells under_way.sent 0) [ inl e ↦ absurd (let none : under_way.sent ≡ 0 = e.1 in omega arith) | inr e ↦ go (under_way.sent == 0) e.0 ]
   where
-    go : (b : Bool) → b ≡ false → (if b then record queue { streams = slice_set queue.streams place (counted queue.is_interleaved message.is_unordered (stream_at queue.streams place)) } else queue).streams ≡ queue.streams
+    go : (b : Bool) → b ≡ false → (if b then counting place message.is_unordered queue else queue).streams ≡ queue.streams
     go true e = absurd (cc)
     go false e = refl
 
 -- ---- a stream that is counted
 
-mid_counted : (kind : Bool) (s : Stream) → next_mid kind (counted true kind s) ≡ (next_mid kind s + 1) % 2 ^ 32
-mid_counted true s = refl
-mid_counted false s = refl
+mid_counted : (turn : ℕ) (kind : Bool) (s : Stream) → next_mid kind (served turn (counted true kind s)) ≡ (next_mid kind s + 1) % 2 ^ 32
+mid_counted turn true s = refl
+mid_counted turn false s = refl
 
-mid_apart : (kind b : Bool) (s : Stream) → (b ≡ kind → ⊥) → next_mid b (counted true kind s) ≡ next_mid b s
-mid_apart true true s ne = absurd (ne refl)
-mid_apart true false s ne = refl
-mid_apart false true s ne = refl
-mid_apart false false s ne = absurd (ne refl)
+mid_apart : (turn : ℕ) (kind b : Bool) (s : Stream) → (b ≡ kind → ⊥) → next_mid b (served turn (counted true kind s)) ≡ next_mid b s
+mid_apart turn true true s ne = absurd (ne refl)
+mid_apart turn true false s ne = refl
+mid_apart turn false true s ne = refl
+mid_apart turn false false s ne = absurd (ne refl)
 
-id_counted : (kind : Bool) (s : Stream) → (counted true kind s).id ≡ s.id
-id_counted true s = refl
-id_counted false s = refl
+id_counted : (turn : ℕ) (kind : Bool) (s : Stream) → (served turn (counted true kind s)).id ≡ s.id
+id_counted turn true s = refl
+id_counted turn false s = refl
 
 SameNext : Bool → Stream → Stream → Type 0
 SameNext b old new = next_mid b new ≡ next_mid b old
@@ -113,11 +113,12 @@ module _ (history : History) (max place : ℕ) (queue : SendQueueState) (message
     unfolding between
     counted_here size =
         let left : List Stream = (reduced place size queue).streams in
+        let turn : ℕ = next_turn (reduced place size queue) in
         let set = numbered_begun place message under_way (reduced place size queue) sent_is interleaved in
         let long : place < length left = (let sizes : length left ≡ length queue.streams = length-set queue.streams place _ in omega (arith, within)) in
         ap (next_mid kind) (there size) ∙ ap (λ (l : List Stream). next_mid kind (stream_at l place)) set
-        ∙ ap (next_mid kind) (get_or-set_same left place (counted true kind (stream_at left place)) (unused 0 0 0) long)
-        ∙ mid_counted kind (stream_at left place)
+        ∙ ap (next_mid kind) (get_or-set_same left place (served turn (counted true kind (stream_at left place))) (unused 0 0 0) long)
+        ∙ mid_counted turn kind (stream_at left place)
         ∙ ap (λ (s : Stream). (next_mid kind s + 1) % 2 ^ 32) (get_or-set_same queue.streams place _ (unused 0 0 0) within)
         ∙ ap (λ (k : ℕ). (k + 1) % 2 ^ 32) (same_next kind (stream_at queue.streams place))
         ∙ ap (λ (s : Stream). (next_mid kind s + 1) % 2 ^ 32) (sym (found_at (unused 0 0 0) place queue.streams within distinct))
@@ -130,11 +131,12 @@ module _ (history : History) (max place : ℕ) (queue : SendQueueState) (message
     unfolding between SameNext
     counted_else size other b apart =
         let left : List Stream = (reduced place size queue).streams in
+        let turn : ℕ = next_turn (reduced place size queue) in
         let set = numbered_begun place message under_way (reduced place size queue) sent_is interleaved in
         let long : (stream_at left place).id ≡ id = ap (λ (s : Stream). s.id) (get_or-set_same queue.streams place _ (unused 0 0 0) within) in
         ap (λ (l : List Stream). next_mid b (stream_named other l)) set
-        ∙ found_set (SameNext b) other (unused 0 0 0) (counted true kind (stream_at left place)) (λ s. refl) place left (id_counted kind (stream_at left place))
-        (λ same. mid_apart kind b (stream_at left place) (apart (sym same ∙ id_counted kind (stream_at left place) ∙ long)))
+        ∙ found_set (SameNext b) other (unused 0 0 0) (served turn (counted true kind (stream_at left place))) (λ s. refl) place left (id_counted turn kind (stream_at left place))
+        (λ same. mid_apart turn kind b (stream_at left place) (apart (sym same ∙ id_counted turn kind (stream_at left place) ∙ long)))
         ∙ mid_stays b (stream_named other queue.streams) (stream_named other left) ((numbers_reduced None place size queue).mids other)
 
     module _ (c : Counts history queue.streams None) (number_is : piece.mid ≡ history.floors id kind + c.counts id kind) where

@@ -5,9 +5,9 @@ use Rattle.std.proofs.lemmas.Bool.Decides.{eqb_tells, leb_tells}
 use Rattle.std.proofs.lemmas.List.{length-set, get_or-set_same, get_or-set_other, get_or_past}
 use Rattle.dcsctp_spec.specs.endpoint.Event.{Event}
 use Rattle.dcsctp_spec.specs.types.declared.sending.UnderWay.{UnderWay}
-use Rattle.dcsctp_spec.specs.types.queues.SendStreams.{Waiting, Stream, front_of, without_front, counted, unused, stream_at}
+use Rattle.dcsctp_spec.specs.types.queues.SendStreams.{Waiting, Stream, front_of, without_front, counted, served, unused, stream_at}
 use Rattle.dcsctp_spec.specs.queues.SendQueue.{SendQueueState}
-use Rattle.dcsctp_spec.specs.queues.Sending.{Drops, none, more, reduced, numbered, without_rest, after_last}
+use Rattle.dcsctp_spec.specs.queues.Sending.{Drops, none, more, reduced, next_turn, counting, numbered, without_rest, after_last}
 use Rattle.dcsctp_delivery_sending.specs.Places.{at_place}
 use Rattle.dcsctp_delivery_sending.specs.Log.{Message, Slot, newest}
 use Rattle.dcsctp_delivery_sending.specs.Pieces.{WaitingWasQueued, AllQueued, AllBeyond, Ascend, unbegun, Going, HoldsQueued}
@@ -212,17 +212,18 @@ front_queued queued id (v ∷ messages) w are e = let same : v ≡ w = cc in sub
 pub reduced_alike : (place size : ℕ) (queue : SendQueueState) → Alike queue.streams (reduced place size queue).streams
 reduced_alike place size queue = alike_set queue.streams place (record (stream_at queue.streams place) { amount = (stream_at queue.streams place).amount - size }) refl refl
 
-counted_alike : (interleaved unordered : Bool) (place : ℕ) (streams : List Stream) → Alike streams (slice_set streams place (counted interleaved unordered (stream_at streams place)))
-counted_alike true true place streams = alike_set streams place (counted true true (stream_at streams place)) refl refl
-counted_alike true false place streams = alike_set streams place (counted true false (stream_at streams place)) refl refl
-counted_alike false true place streams = alike_set streams place (counted false true (stream_at streams place)) refl refl
-counted_alike false false place streams = alike_set streams place (counted false false (stream_at streams place)) refl refl
+counted_alike : (interleaved unordered : Bool) (turn place : ℕ) (streams : List Stream)
+    → Alike streams (slice_set streams place (served turn (counted interleaved unordered (stream_at streams place))))
+counted_alike true true turn place streams = alike_set streams place (served turn (counted true true (stream_at streams place))) refl refl
+counted_alike true false turn place streams = alike_set streams place (served turn (counted true false (stream_at streams place))) refl refl
+counted_alike false true turn place streams = alike_set streams place (served turn (counted false true (stream_at streams place))) refl refl
+counted_alike false false turn place streams = alike_set streams place (served turn (counted false false (stream_at streams place))) refl refl
 
 numbered_alike : (place : ℕ) (message : Waiting) (under_way : UnderWay) (queue : SendQueueState) → Alike queue.streams (numbered place message under_way queue).streams
 numbered_alike place message under_way queue = go (under_way.sent == 0)
   where
-    go : (b : Bool) → Alike queue.streams (if b then record queue { streams = slice_set queue.streams place (counted queue.is_interleaved message.is_unordered (stream_at queue.streams place)) } else queue).streams
-    go true = counted_alike queue.is_interleaved message.is_unordered place queue.streams
+    go : (b : Bool) → Alike queue.streams (if b then counting place message.is_unordered queue else queue).streams
+    go true = counted_alike queue.is_interleaved message.is_unordered (next_turn queue) place queue.streams
     go false = alike_same queue.streams
 
 pub numbered_reduced : (place size : ℕ) (message : Waiting) (under_way : UnderWay) (queue : SendQueueState) → Alike queue.streams (numbered place message under_way (reduced place size queue)).streams

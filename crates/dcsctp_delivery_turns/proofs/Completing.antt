@@ -31,7 +31,8 @@ use Rattle.dcsctp_spec_laws.proofs.DataLemmas.{flushed_act, end_at, send_at, res
 use Rattle.dcsctp_spec_lemmas.proofs.FlushKeeps.{begun_by, flush_keeps}
 use Rattle.dcsctp_spec_laws.proofs.HeartbeatLemmas.{timer_controlled}
 use Rattle.dcsctp_spec_laws.proofs.PlainLemmas.{plain_controlled}
-use Rattle.dcsctp_spec_laws.proofs.ShutdownLemmas.{shutdown_controlled, shutdown_ack_controlled, shutdown_complete_controlled}
+use Rattle.dcsctp_spec_laws.proofs.HeardShutdownLemmas.{shutdown_controlled}
+use Rattle.dcsctp_spec_laws.proofs.ShutdownLemmas.{shutdown_ack_controlled, shutdown_complete_controlled}
 use Rattle.dcsctp_theorem_association.proofs.AnswerEndsTurns.{answers_end_requests}
 use Rattle.dcsctp_theorem_association.specs.OneSide.{parameters_in, IsSuccess, HasResponse}
 use Rattle.dcsctp_theorem_sockets.proofs.OneSocket.{noted_happened}

@@ -108,9 +108,14 @@ module _ (came : Option Content) (calm : IsCalm came) (to : ℕ) where
   fast_makes false e held transfer o tag known turn = subst (MakesTo came to (inside e)) (sym turn) (rests came to (inside e))
   fast_makes true e held transfer o tag known turn = subst (MakesTo came to (inside e)) (sym turn.is) (out_makes e held transfer o turn tag known turn.chunks refl)
 
-  acknowledges_goes : (e : Endpoint) (held : Held) (transfer : Transfer) (sack : SackContent) (o : Outcome) → IsPeerTag e.core to → held_in e.core ≡ Some held → e.below.transfer ≡ Some transfer
-      → is_sack_valid transfer.retransmission sack.cumulative_tsn_ack ≡ true → AcknowledgesBy e held transfer sack o → Goes came to e o
-  acknowledges_goes e held transfer sack o at holds known valid turn =
+  -- The association goes on, by actions.
+  pub record Continues (e : Endpoint) (o : Outcome) : Type 0 where
+    pub linked : link_in o.after.core ≡ link_in e.core
+    pub makes : MakesTo came to (inside e) o
+
+  pub acknowledged : (e : Endpoint) (held : Held) (transfer : Transfer) (sack : SackContent) (o : Outcome) → IsPeerTag e.core to → held_in e.core ≡ Some held → e.below.transfer ≡ Some transfer
+      → is_sack_valid transfer.retransmission sack.cumulative_tsn_ack ≡ true → AcknowledgesBy e held transfer sack o → Continues e o
+  acknowledged e held transfer sack o at holds known valid turn =
       let tag : held.peer.tag ≡ to = held_tag e.core held to holds at in
       let later : IsPeerTag turn.stepped.after.core to =
       subst (λ (x : Outcome). IsPeerTag x.after.core to) (sym turn.steps) (step_peer (sack_taken e transfer turn.left) e.core to at at) in
@@ -137,14 +142,17 @@ module _ (came : Option Content) (calm : IsCalm came) (to : ℕ) where
       flush_link turn.fast.after (draft_to held) turn.answers turn.allowed
       ∙ ap link_in (fast_core (has_fast_retransmit turn.left.retransmission) turn.stepped.after held turn.left turn.fast turn.resends)
       ∙ ap (λ (x : Outcome). link_in x.after.core) turn.steps ∙ step_link taken e.core refl in
-      subst (Goes came to e) (sym turn.is)
-      (goes_on calm linked (subst (λ (l : List Emission). Makes came to (inside e) l (inside flush.after))
-      (sym (packets_in-append (told ++ (turn.stepped.events ++ turn.fast.events)) flush.events ∙ ap (λ (l : List Emission). l ++ packets_in flush.events) fronts)) whole))
+      subst (Continues e) (sym turn.is)
+      (record {
+        linked = linked;
+        makes = subst (λ (l : List Emission). Makes came to (inside e) l (inside flush.after))
+            (sym (packets_in-append (told ++ (turn.stepped.events ++ turn.fast.events)) flush.events ∙ ap (λ (l : List Emission). l ++ packets_in flush.events) fronts)) whole;
+      })
 
   sack_where_goes : (b : Bool) (e : Endpoint) (held : Held) (transfer : Transfer) (sack : SackContent) (o : Outcome) → IsPeerTag e.core to → held_in e.core ≡ Some held → e.below.transfer ≡ Some transfer
       → is_sack_valid transfer.retransmission sack.cumulative_tsn_ack ≡ b → SackWhere b e held transfer sack o → Goes came to e o
   sack_where_goes false e held transfer sack o at holds known valid turn = subst (Goes came to e) (sym turn) (goes_on calm refl (rests came to (inside e)))
-  sack_where_goes true e held transfer sack o at holds known valid turn = acknowledges_goes e held transfer sack o at holds known valid turn
+  sack_where_goes true e held transfer sack o at holds known valid turn = (let on = acknowledged e held transfer sack o at holds known valid turn in goes_on calm on.linked on.makes)
 
   sack_by_goes : (e : Endpoint) (peer : Option Held) (transfer : Transfer) (sack : SackContent) (o : Outcome) → IsPeerTag e.core to → held_in e.core ≡ peer → e.below.transfer ≡ Some transfer → SackBy e peer transfer sack o → Goes came to e o
   sack_by_goes e None transfer sack o at holds known turn = subst (Goes came to e) (sym turn) (goes_on calm refl (rests came to (inside e)))

@@ -6,6 +6,7 @@ pub mod Fixed
 pub mod Shutdown
 pub mod Handshake
 pub mod Data
+pub mod HeardShutdown
 pub mod Messages
 pub mod Performed
 pub mod Resets

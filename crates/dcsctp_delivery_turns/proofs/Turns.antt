@@ -12,8 +12,9 @@ use Rattle.dcsctp_delivery_turns.specs.Actions.{IsCalm, inside, Becomes, goes_on
 use Rattle.dcsctp_delivery_turns.specs.Tags.{IsPeerTag}
 use Rattle.dcsctp_delivery_turns.proofs.Actions.{Goes, rests, action_of}
 use Rattle.dcsctp_delivery_turns.proofs.Handshake.{again_link, init_goes, connect_goes, init_ack_goes, cookie_ack_goes, echo_goes, hand_over_goes, abort_goes, aborting_goes, again_goes, gives_up_goes}
-use Rattle.dcsctp_delivery_turns.proofs.Shutdown.{step_link, step_makes, shut_down_goes, shutdown_goes, shutdown_ack_goes, shutdown_complete_goes, t2_again_goes, begin_goes}
+use Rattle.dcsctp_delivery_turns.proofs.Shutdown.{step_link, step_makes, shut_down_goes, shutdown_ack_goes, shutdown_complete_goes, t2_again_goes, begin_goes}
 use Rattle.dcsctp_delivery_turns.proofs.Data.{turn_link, flush_makes, end_goes}
+use Rattle.dcsctp_delivery_turns.proofs.HeardShutdown.{heard_goes}
 use Rattle.dcsctp_delivery_turns.proofs.Messages.{take_goes, send_goes, own_resets_go}
 use Rattle.dcsctp_delivery_turns.proofs.Resets.{reset_goes}
 use Rattle.dcsctp_delivery_turns.proofs.Others.{plain_goes, timer_goes}
@@ -35,7 +36,7 @@ content_goes e tag (cookie_echo bytes) o turn = subst (Goes _ (peer_tag e.core) 
 content_goes e tag cookie_ack o turn = subst (Goes _ (peer_tag e.core) e) (sym turn.2) (cookie_ack_goes _ (λ parameters is. absurd (cc)) (peer_tag e.core) e e.core turn.0 refl (own_peer e.core) turn.1)
 content_goes e tag (re_config parameters) o turn = reset_goes (peer_tag e.core) e e.core parameters o refl (own_peer e.core) (own_peer e.core) turn
 content_goes e tag (abort reflected causes) o turn = subst (Goes _ (peer_tag e.core) e) (sym turn) (abort_goes _ (λ parameters is. absurd (cc)) (peer_tag e.core) e causes e.core)
-content_goes e tag (shutdown tsn) o turn = subst (Goes _ (peer_tag e.core) e) (sym turn) (shutdown_goes _ (λ parameters is. absurd (cc)) (peer_tag e.core) e e.core refl)
+content_goes e tag (shutdown tsn) o turn = heard_goes _ (λ parameters is. absurd (cc)) (peer_tag e.core) e e.core tsn o refl (own_peer e.core) turn
 content_goes e tag shutdown_ack o turn = subst (Goes _ (peer_tag e.core) e) (sym turn) (shutdown_ack_goes _ (λ parameters is. absurd (cc)) (peer_tag e.core) e e.core tag)
 content_goes e tag (shutdown_complete reflected) o turn = subst (Goes _ (peer_tag e.core) e) (sym turn) (shutdown_complete_goes _ (λ parameters is. absurd (cc)) (peer_tag e.core) e e.core)
 content_goes e tag (plain chunk) o turn = plain_goes (peer_tag e.core) e chunk o (own_peer e.core) turn

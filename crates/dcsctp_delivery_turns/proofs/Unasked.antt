@@ -68,7 +68,7 @@ fast_waits true e held transfer o known turn =
     (subst (λ (b : Below). StillWaits (Some transfer) b.transfer) (sym (out_below base [] (draft_to held).with_checksum (draft_to held).packet.tag (plain_contents turn.chunks)))
     (some_wait (Some transfer) transfer (record transfer { retransmission = turn.left }) refl (same_waits transfer.reassembly.deferral)))
 
-acknowledges_asks : (e : Endpoint) (held : Held) (transfer : Transfer) (sack : SackContent) (o : Outcome) → e.below.transfer ≡ Some transfer → AcknowledgesBy e held transfer sack o → AsksNothing e.below.transfer o
+pub acknowledges_asks : (e : Endpoint) (held : Held) (transfer : Transfer) (sack : SackContent) (o : Outcome) → e.below.transfer ≡ Some transfer → AcknowledgesBy e held transfer sack o → AsksNothing e.below.transfer o
 acknowledges_asks e held transfer sack o known turn =
     let taken : Endpoint = sack_taken e transfer turn.left in
     let same : turn.stepped.after.below ≡ taken.below = ap (λ (x : Outcome). x.after.below) turn.steps ∙ step_below taken e.core in

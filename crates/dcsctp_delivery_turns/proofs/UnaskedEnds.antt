@@ -1,5 +1,5 @@
 -- The turns of a shutdown, and ends: no request of the peer is accepted or performed.
-use Rattle.std.proofs.Common.{ℕ, Bool, true, false, List, [], refl}
+use Rattle.std.proofs.Common.{◌≡◌, ℕ, Bool, true, false, Option, None, Some, List, [], refl}
 use Rattle.dcsctp_spec_lemmas.specs.spec.endpoint.Cause.{Cause}
 use Rattle.dcsctp_spec_lemmas.specs.types.declared.association.Held.{Held}
 use Rattle.dcsctp_spec_lemmas.specs.types.declared.association.Pair.{Pair}
@@ -12,8 +12,11 @@ use Rattle.dcsctp_spec_lemmas.specs.spec.Packet.{shutdown_complete}
 use Rattle.dcsctp_spec_lemmas.specs.spec.endpoint.Turn.{BeginTurn}
 use Rattle.dcsctp_spec_lemmas.specs.spec.endpoint.EndOutcomes.{abort_outcome, abort_to, aborting_outcome, end_of}
 use Rattle.dcsctp_spec_lemmas.specs.spec.endpoint.HandoverOutcomes.{hand_over_outcome}
+use Rattle.dcsctp_spec_lemmas.specs.spec.endpoint.HeardShutdown.{said_by_shutdown, heeds_shutdown, ShutdownWhere, ShutdownBy, ShutdownTurn}
 use Rattle.dcsctp_spec_lemmas.specs.spec.endpoint.ShutdownOutcomes.{phase_at, may_go_on, step_by, step_outcome, step_from, t1_stopped, shut_down_outcome, shutdown_outcome, shutdown_ack_outcome, shutdown_complete_outcome, sent_again}
 use Rattle.dcsctp_spec_lemmas.specs.spec.endpoint.TimerOutcomes.{t1_gives_up_outcome}
+use Rattle.dcsctp_spec_lemmas.specs.spec.queues.Transfer.{Transfer}
+use Rattle.dcsctp_delivery_turns.proofs.Unasked.{acknowledges_asks}
 use Rattle.dcsctp_delivery_turns.proofs.Waiting.{AsksNothing, as_this, rests, said, emitted, ended}
 
 -- ---- shutdown
@@ -45,7 +48,7 @@ shut_down_asks e (open_in shutdown_sent my held) = rests e
 shut_down_asks e (open_in shutdown_received my held) = rests e
 shut_down_asks e (open_in shutdown_ack_sent my held) = rests e
 
-pub shutdown_asks : (e : Endpoint) (core : Core) → AsksNothing e.below.transfer (shutdown_outcome e core)
+shutdown_asks : (e : Endpoint) (core : Core) → AsksNothing e.below.transfer (shutdown_outcome e core)
 shutdown_asks e closed = rests e
 shutdown_asks e (cookie_wait my) = rests e
 shutdown_asks e (cookie_echoed my held cookie) = rests e
@@ -54,6 +57,22 @@ shutdown_asks e (open_in shutdown_pending my held) = from_asks e shutdown_receiv
 shutdown_asks e (open_in shutdown_sent my held) = said e _ tt refl
 shutdown_asks e (open_in shutdown_received my held) = rests e
 shutdown_asks e (open_in shutdown_ack_sent my held) = said e _ tt refl
+
+heard_where_asks : (b : Bool) (e : Endpoint) (phase : OpenPhase) (my : Pair) (held : Held) (transfer : Transfer) (tsn : ℕ) (o : Outcome) → e.below.transfer ≡ Some transfer
+    → ShutdownWhere b e phase my held transfer tsn o → AsksNothing e.below.transfer o
+heard_where_asks true e phase my held transfer tsn o known turn = acknowledges_asks (phase_at e shutdown_received my held) held transfer (said_by_shutdown tsn transfer.retransmission) o known turn
+heard_where_asks false e phase my held transfer tsn o known turn = as_this e.below.transfer o _ turn (shutdown_asks e (open_in phase my held))
+
+heard_by_asks : (e : Endpoint) (phase : OpenPhase) (my : Pair) (held : Held) (found : Option Transfer) (tsn : ℕ) (o : Outcome) → e.below.transfer ≡ found → ShutdownBy e phase my held found tsn o
+    → AsksNothing e.below.transfer o
+heard_by_asks e phase my held None tsn o known turn = as_this e.below.transfer o _ turn (shutdown_asks e (open_in phase my held))
+heard_by_asks e phase my held (Some transfer) tsn o known turn = heard_where_asks (heeds_shutdown e.options phase transfer tsn) e phase my held transfer tsn o known turn
+
+pub heard_asks : (e : Endpoint) (core : Core) (tsn : ℕ) (o : Outcome) → ShutdownTurn e core tsn o → AsksNothing e.below.transfer o
+heard_asks e closed tsn o turn = as_this e.below.transfer o _ turn (shutdown_asks e closed)
+heard_asks e (cookie_wait my) tsn o turn = as_this e.below.transfer o _ turn (shutdown_asks e (cookie_wait my))
+heard_asks e (cookie_echoed my held cookie) tsn o turn = as_this e.below.transfer o _ turn (shutdown_asks e (cookie_echoed my held cookie))
+heard_asks e (open_in phase my held) tsn o turn = heard_by_asks e phase my held e.below.transfer tsn o refl turn
 
 pub shutdown_ack_asks : (e : Endpoint) (core : Core) (tag : ℕ) → AsksNothing e.below.transfer (shutdown_ack_outcome e core tag)
 shutdown_ack_asks e closed tag = said e _ tt refl

@@ -23,7 +23,7 @@ use Rattle.dcsctp_spec_lemmas.specs.spec.endpoint.TimerOutcomes.{t1_goes_on}
 use Rattle.dcsctp_delivery_turns.specs.Actions.{IsCalm, IsCall, came_by}
 use Rattle.dcsctp_delivery_turns.proofs.Unasked.{flush_asks, data_asks, forward_asks, sack_asks, end_asks, take_asks, delay_asks, loss_asks, send_asks, own_resets_ask}
 use Rattle.dcsctp_delivery_turns.proofs.Waiting.{all_wait, AsksNothing, as_this, rests, said, emitted}
-use Rattle.dcsctp_delivery_turns.proofs.UnaskedEnds.{step_asks, shut_down_asks, shutdown_asks, shutdown_ack_asks, shutdown_complete_asks, repeats_ask, begin_asks, abort_asks, aborting_asks, gives_up_asks, hand_over_asks}
+use Rattle.dcsctp_delivery_turns.proofs.UnaskedEnds.{step_asks, shut_down_asks, heard_asks, shutdown_ack_asks, shutdown_complete_asks, repeats_ask, begin_asks, abort_asks, aborting_asks, gives_up_asks, hand_over_asks}
 use Rattle.dcsctp_delivery_turns.proofs.UnaskedHandshake.{CalmTurns, goes_on, init_asks, connect_asks, again_asks, cookie_ack_asks, init_ack_calm, echo_calm}
 
 -- ---- other chunks and timers
@@ -105,7 +105,7 @@ content_calm e tag (cookie_echo bytes) o calm turn = subst (CalmTurns (Some (coo
 content_calm e tag cookie_ack o calm turn = goes_on (as_this e.below.transfer o _ turn.2 (cookie_ack_asks e e.core turn.0 turn.1))
 content_calm e tag (re_config parameters) o calm turn = absurd (calm parameters refl)
 content_calm e tag (abort reflected causes) o calm turn = goes_on (as_this e.below.transfer o _ turn (abort_asks e causes e.core))
-content_calm e tag (shutdown tsn) o calm turn = goes_on (as_this e.below.transfer o _ turn (shutdown_asks e e.core))
+content_calm e tag (shutdown tsn) o calm turn = goes_on (heard_asks e e.core tsn o turn)
 content_calm e tag shutdown_ack o calm turn = goes_on (as_this e.below.transfer o _ turn (shutdown_ack_asks e e.core tag))
 content_calm e tag (shutdown_complete reflected) o calm turn = goes_on (as_this e.below.transfer o _ turn (shutdown_complete_asks e e.core))
 content_calm e tag (plain chunk) o calm turn = goes_on (plain_asks e chunk (violation_at e.core chunk) o turn)

@@ -5,9 +5,9 @@ use Rattle.std.specs.List.{insert}
 use Rattle.dcsctp_api.specs.spec.endpoint.Event.{Event}
 use Rattle.dcsctp_api.specs.spec.queues.SendQueue.{SendQueueState, changed, with_stream, used, IsUnderWay, CanGoOn}
 use Rattle.dcsctp_api.specs.types.declared.sending.UnderWay.{UnderWay}
-use Rattle.dcsctp_api.specs.types.queues.SendStreams.{Waiting, Stream, unused, front_of, counted, stream_at, IsAscending}
+use Rattle.dcsctp_api.specs.types.queues.SendStreams.{Waiting, Stream, unused, front_of, counted, served, stream_at, IsAscending}
 use Rattle.dcsctp_send_streams.specs.Ranking.{IsFound}
-use Rattle.dcsctp_api.specs.spec.queues.Sending.{Chooses, IsNamed, Drops, none, more, reduced, after_part, after_last, produced, is_last}
+use Rattle.dcsctp_api.specs.spec.queues.Sending.{Chooses, IsNamed, Drops, none, more, reduced, next_turn, counting, after_part, after_last, produced, is_last}
 use Rattle.dcsctp_send_streams.proofs.StreamLemmas.{stream_at-set, length-set_at}
 use Rattle.dcsctp_send_streams.proofs.NextLemmas.{same_place}
 use Rattle.dcsctp_send_queue.proofs.QueueLemmas.{less_test, not_less_test, changed_at, used_found, lost_after, used_lost, changed_insert, stream_at-either, under_way_set}
@@ -65,17 +65,18 @@ counted-number false true s = refl
 counted-number true false s = refl
 counted-number true true s = refl
 
-pub part_at : (streams : List Stream) (p size amount : ℕ) (i b first : Bool) (u next : UnderWay) (message : Waiting)
+pub part_at : (streams : List Stream) (p size amount turn : ℕ) (i b first : Bool) (u next : UnderWay) (message : Waiting)
     → p < length streams → (stream_at streams p).id ≡ u.stream_id.0 → front_of (stream_at streams p).messages ≡ Some message
     → next.stream_id.0 ≡ u.stream_id.0 → 0 < next.sent → next.sent < length message.payload
     → let reduced = set streams p (record (stream_at streams p) { amount = amount }) in
-    IsUnderWay (if first then set reduced p (counted i b (stream_at reduced p)) else reduced) next
-part_at streams p size amount i b true u next message lt is front same some less =
+    IsUnderWay (if first then set reduced p (served turn (counted i b (stream_at reduced p))) else reduced) next
+part_at streams p size amount turn i b true u next message lt is front same some less =
     let s = record (stream_at streams p) { amount = amount } in
     let len = length-set_at streams p s in
     let at = stream_at-set streams p s lt in
-    let again = stream_at-set (set streams p s) p (counted i b (stream_at (set streams p s) p)) (omega (arith, len)) in
-    let more = length-set_at (set streams p s) p (counted i b (stream_at (set streams p s) p)) in
+    let last : Stream = served turn (counted i b (stream_at (set streams p s) p)) in
+    let again = stream_at-set (set streams p s) p last (omega (arith, len)) in
+    let more = length-set_at (set streams p s) p last in
     record {
       place = p;
       within = omega (arith, len, more);
@@ -85,7 +86,7 @@ part_at streams p size amount i b true u next message lt is front same some less
       begun = some;
       unfinished = less;
     }
-part_at streams p size amount i b false u next message lt is front same some less =
+part_at streams p size amount turn i b false u next message lt is front same some less =
     let s = record (stream_at streams p) { amount = amount } in
     let len = length-set_at streams p s in
     let at = stream_at-set streams p s lt in
@@ -102,11 +103,11 @@ part_at streams p size amount i b false u next message lt is front same some les
 pub part_goes : (queue : SendQueueState) (place size : ℕ) (first : Bool) (u next : UnderWay) (message : Waiting)
     → place < length queue.streams → (stream_at queue.streams place).id ≡ u.stream_id.0 → front_of (stream_at queue.streams place).messages ≡ Some message
     → next.stream_id.0 ≡ u.stream_id.0 → 0 < next.sent → next.sent < length message.payload
-    → IsUnderWay (if first then record (reduced place size queue) { streams = set (reduced place size queue).streams place (counted queue.is_interleaved message.is_unordered (stream_at (reduced place size queue).streams place)) } else reduced place size queue).streams next
+    → IsUnderWay (if first then counting place message.is_unordered (reduced place size queue) else reduced place size queue).streams next
 part_goes queue place size true u next message lt is front same some less =
-    part_at queue.streams place size ((stream_at queue.streams place).amount - size) queue.is_interleaved message.is_unordered true u next message lt is front same some less
+    part_at queue.streams place size ((stream_at queue.streams place).amount - size) (next_turn queue) queue.is_interleaved message.is_unordered true u next message lt is front same some less
 part_goes queue place size false u next message lt is front same some less =
-    part_at queue.streams place size ((stream_at queue.streams place).amount - size) queue.is_interleaved message.is_unordered false u next message lt is front same some less
+    part_at queue.streams place size ((stream_at queue.streams place).amount - size) (next_turn queue) queue.is_interleaved message.is_unordered false u next message lt is front same some less
 
 pub not_last : (rest max : ℕ) → nat_le rest max ≡ false → max < rest
 not_last rest max e = grind (arith, nat_tests)

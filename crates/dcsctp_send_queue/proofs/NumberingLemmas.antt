@@ -1,10 +1,27 @@
--- The message under way as other numbers count.
-use Rattle.std.proofs.Common.{◌≡◌, ◌∙◌, ℕ, Option, Some, Ok, List, set, refl}
+-- The numbers of messages that are begun, and the message under way as other numbers count.
+use Rattle.std.proofs.Common.{◌≡◌, ◌∙◌, ◌<◌, ℕ, zero, suc, Bool, Option, Some, Ok, List, [], ◌∷◌, length, set, refl, ap, arith}
 use Rattle.dcsctp_api.specs.spec.queues.SendQueue.{SendQueueState, front_counted, renumbered, numbered_anew}
+use Rattle.dcsctp_api.specs.spec.queues.Sending.{counting, next_turn}
 use Rattle.dcsctp_api.specs.types.declared.sending.UnderWay.{UnderWay}
-use Rattle.dcsctp_api.specs.types.queues.SendStreams.{Stream, unused, stream_at, IsAscending}
+use Rattle.dcsctp_api.specs.types.queues.SendStreams.{Stream, unused, counted, served, stream_at, IsAscending}
 use Rattle.dcsctp_send_streams.specs.Ranking.{IsFound}
 use Rattle.dcsctp_send_queue.proofs.QueueLemmas.{changed_at, found_in-at}
+
+-- a stream that was changed is changed again
+changed_again : (streams : List Stream) (p : ℕ) (s : Stream) (f : Stream → Stream) → p < length streams → set (set streams p s) p (f (stream_at (set streams p s) p)) ≡ set streams p (f s)
+changed_again [] p s f lt = absurd (omega arith)
+changed_again (x ∷ xs) zero s f lt = refl
+changed_again (x ∷ xs) (suc p) s f lt = ap (λ ts. x ∷ ts) (changed_again xs p s f (omega arith))
+
+-- A message was counted, and then the turn of its stream.
+pub counting_is : (queue : SendQueueState) (p turn : ℕ) (is_unordered : Bool) (between after : List Stream) → p < length queue.streams → turn ≡ next_turn queue
+    → between ≡ set queue.streams p (counted queue.is_interleaved is_unordered (stream_at queue.streams p))
+    → after ≡ set between p (served turn (stream_at between p))
+    → record queue { streams = after; turns_taken = turn } ≡ counting p is_unordered queue
+counting_is queue p turn is_unordered between after lt is first then =
+    let all = then ∙ (ap (λ ts. set ts p (served turn (stream_at ts p))) first
+    ∙ changed_again queue.streams p (counted queue.is_interleaved is_unordered (stream_at queue.streams p)) (served turn) lt) in
+    rw (all, is) refl
 
 -- The next number of the stream at its place is the message's now.
 pub anew_at : (queue : SendQueueState) (w : Option UnderWay) (u : UnderWay) (p : ℕ) (streams : List Stream) → w ≡ Some u → IsAscending queue.streams → IsFound queue.streams u.stream_id.0 (Ok p)

@@ -27,17 +27,17 @@ count-without [] p s message lt e is = absurd (omega arith)
 count-without (x ∷ xs) zero s message lt e is = let f = fewer_by x.messages message e in let g = ap length is in omega (arith, f, g)
 count-without (x ∷ xs) (suc p) s message lt e is = let ih = count-without xs p s message (omega arith) e is in omega (arith, ih)
 
-turn_has : (priority id : ℕ) (pause : Pause) (messages : List Waiting) (t : Turn) → turn_if priority id pause messages ≡ Some t → (m : Waiting) × (front_of messages ≡ Some m)
-turn_has priority id Open [] t e = cc
-turn_has priority id Open (m ∷ messages) t e = (m, refl)
-turn_has priority id Pausing messages t e = cc
-turn_has priority id HandedOut messages t e = cc
+turn_has : (priority last id : ℕ) (pause : Pause) (messages : List Waiting) (t : Turn) → turn_if priority last id pause messages ≡ Some t → (m : Waiting) × (front_of messages ≡ Some m)
+turn_has priority last id Open [] t e = cc
+turn_has priority last id Open (m ∷ messages) t e = (m, refl)
+turn_has priority last id Pausing messages t e = cc
+turn_has priority last id HandedOut messages t e = cc
 
 -- a stream with a turn has a message
 pub next_front : (streams : List Stream) (place : ℕ) → IsNext streams place → (m : Waiting) × (front_of (stream_at streams place).messages ≡ Some m)
 next_front streams place next =
     let s = stream_at streams place in
-    turn_has s.priority s.id s.pause s.messages next.turn next.is
+    turn_has s.priority s.last_turn s.id s.pause s.messages next.turn next.is
 
 count-same : (streams : List Stream) (p : ℕ) (s : Stream) → p < length streams → s.messages ≡ (stream_at streams p).messages → count_messages (set streams p s) ≡ count_messages streams
 count-same [] p s lt is = absurd (omega arith)

@@ -13,4 +13,6 @@ queue_of backlog =
       default_threshold = backlog.default_threshold;
       is_interleaved = backlog.is_interleaved;
       next_message_id = backlog.next_message_id;
+      takes_turns = backlog.takes_turns;
+      turns_taken = backlog.turns_taken;
     }

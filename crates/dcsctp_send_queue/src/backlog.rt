@@ -37,6 +37,12 @@ pub struct Backlog {
     pub is_interleaved: bool,
 
     pub next_message_id: u64,
+
+    /// Do streams of equal priority take turns?
+    pub takes_turns: bool,
+
+    /// How many turns were taken; 0 if streams don't take turns.
+    pub turns_taken: u64,
 }
 
 impl Backlog {

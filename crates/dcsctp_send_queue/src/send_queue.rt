@@ -75,6 +75,8 @@ impl SendQueue {
                 default_threshold: options.default_stream_buffered_amount_low_threshold,
                 is_interleaved: false,
                 next_message_id: 0,
+                takes_turns: options.follow_rfc,
+                turns_taken: 0,
             },
         }
     }
@@ -102,8 +104,9 @@ impl SendQueue {
 
     /// Takes the next fragment, of at most `max` payload bytes, of the message under way. Without one, that
     /// is the oldest message of a stream that isn't paused. Of those with messages, it is the stream of
-    /// greatest priority, and of these the one of least number. Messages there that are too old at the moment
-    /// `now` to be started are dropped. `None`: no message can be taken.
+    /// greatest priority, and of these the one of least number. With `follow_rfc` streams of equal priority
+    /// take turns: of these it is the one whose last turn is the oldest (RFC 8260, section 3.2). Messages
+    /// there that are too old at the moment `now` to be started are dropped. `None`: no message can be taken.
     ///
     /// A message that was started is never dropped here. One that fits is sent as one fragment, whose payload
     /// is not copied.

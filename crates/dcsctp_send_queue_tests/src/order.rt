@@ -42,6 +42,91 @@ fragment 100 stream 7 x
 fragment 100 stream 3 x
 fragment 1 size 0
 
+# streams of equal priority take turns by the RFC
+begin 0 0 by-rfc
+add 1 a
+add 1 b
+add 1 c
+add 2 d
+add 2 e
+add 2 f
+fragment 9 stream 1 ssn 0 a
+fragment 9 stream 2 ssn 0 d
+fragment 9 stream 1 ssn 1 b
+fragment 9 stream 2 ssn 1 e
+fragment 9 stream 1 ssn 2 c
+fragment 9 stream 2 ssn 2 f
+fragment 9 size 0
+
+# a stream of greater priority is first by the RFC too
+begin 0 0 by-rfc
+priority 3 257
+add 1 a
+add 1 b
+add 2 c
+add 2 d
+fragment 9 stream 1 a
+add 3 e
+add 3 f
+fragment 9 stream 3 e
+fragment 9 stream 3 f
+fragment 9 stream 2 c
+fragment 9 stream 1 b
+fragment 9 stream 2 d
+
+# without that the least stream sends all before the next
+begin 0 0
+priority 3 257
+add 1 a
+add 1 b
+add 1 c
+add 2 d
+add 2 e
+add 2 f
+add 3 g
+fragment 9 stream 3 g
+fragment 9 stream 1 a
+fragment 9 stream 1 b
+fragment 9 stream 1 c
+fragment 9 stream 2 d
+fragment 9 stream 2 e
+fragment 9 stream 2 f
+
+# a turn is a whole message
+begin 0 0 by-rfc
+add 1 abc
+add 1 d
+add 2 ef
+fragment 1 stream 1 a
+fragment 1 stream 1 b
+fragment 1 stream 1 c
+fragment 1 stream 2 e
+fragment 1 stream 2 f
+fragment 1 stream 1 d
+
+# a stream keeps its last turn while it has no message, and one that had none is first
+begin 0 0 by-rfc
+add 2 a
+fragment 9 stream 2 a
+add 1 b
+fragment 9 stream 1 b
+add 1 c
+add 2 d
+add 9 e
+fragment 9 stream 9 e
+fragment 9 stream 2 d
+fragment 9 stream 1 c
+
+# a message that expired takes no turn
+begin 0 0 by-rfc
+lifetime 5
+add 1 a
+add 1 b
+add 2 c
+now 6
+fragment 9 stream 1 b
+fragment 9 stream 2 c
+
 # a priority stays where there is none of its own
 begin 0 0
 state 3 priority 256

@@ -2,7 +2,8 @@
 //!
 //! `# NAME` names the test that follows. An empty line is skipped. S stands for a stream.
 //!
-//!     begin N N                   a new queue: the threshold of each stream, and that of all together
+//!     begin N N [by-rfc]          a new queue: the threshold of each stream, and that of all together; it follows
+//!                                 the RFCs if the line says so
 //!     now N                       the moment from here on, in milliseconds; after `begin` it is 0
 //!     later N                     it is this many nanoseconds later
 //!     name N, lifetime N, times N, unordered

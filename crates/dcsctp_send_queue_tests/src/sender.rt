@@ -110,9 +110,15 @@ impl Sender {
         }
     }
 
-    // Replaces it with a new one.
+    // Replaces it with a new one, which follows the RFCs where the line ends in `by-rfc`.
     fn begin(&mut self, row: &mut Row) {
-        *self = Sender::new(self.alloc, &read_thresholds(row));
+        let mut options = read_thresholds(row);
+        match row.next() {
+            "" => {}
+            "by-rfc" => options.follow_rfc = true,
+            _ => row.done(false),
+        }
+        *self = Sender::new(self.alloc, &options);
     }
 
     // Takes a new queue on another clock. The snapshot stays.

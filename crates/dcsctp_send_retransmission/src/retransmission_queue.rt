@@ -138,6 +138,13 @@ impl RetransmissionQueue {
         self.outstanding.next_tsn().wrapping_sub(1)
     }
 
+    /// The receive window that the peer told last, in bytes.
+    pub fn peer_window(&self) -> usize
+        ensures { result ≡ self.now.peer_window }
+    {
+        self.peer_window
+    }
+
     /// The peer's receive window less what is in flight, in bytes (RFC 9260, section 6.2.1).
     pub fn rwnd(&self) -> usize
         ensures { result ≡ window_left self.now }

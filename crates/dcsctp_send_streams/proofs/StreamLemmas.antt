@@ -22,15 +22,15 @@ ascending_at (x ∷ xs) zero (suc j) ascending lt within = IsBelow-at x.id xs j 
 ascending_at (x ∷ xs) (suc i) zero ascending lt within = absurd (omega arith)
 ascending_at (x ∷ xs) (suc i) (suc j) ascending lt within = ascending_at xs i j ascending.1 (omega arith) (omega arith)
 
-pub turn_if-id : (priority id : ℕ) (pause : Pause) (messages : List Waiting) (t : Turn) → turn_if priority id pause messages ≡ Some t → t.stream_id.0 ≡ id
-turn_if-id priority id Open [] t e = cc
-turn_if-id priority id Open (message ∷ messages) t e = let f : record { priority = priority; stream_id = record { 0 = id } } ≡ t = cc in rw (← f) refl
-turn_if-id priority id Pausing messages t e = cc
-turn_if-id priority id HandedOut messages t e = cc
+pub turn_if-id : (priority last id : ℕ) (pause : Pause) (messages : List Waiting) (t : Turn) → turn_if priority last id pause messages ≡ Some t → t.stream_id.0 ≡ id
+turn_if-id priority last id Open [] t e = cc
+turn_if-id priority last id Open (message ∷ messages) t e = let f : record { priority = priority; last_turn = last; stream_id = record { 0 = id } } ≡ t = cc in rw (← f) refl
+turn_if-id priority last id Pausing messages t e = cc
+turn_if-id priority last id HandedOut messages t e = cc
 
 -- a stream's turn bears its number
 pub turn_of-id : (stream : Stream) (t : Turn) → turn_of stream ≡ Some t → t.stream_id.0 ≡ stream.id
-turn_of-id stream t e = turn_if-id stream.priority stream.id stream.pause stream.messages t e
+turn_of-id stream t e = turn_if-id stream.priority stream.last_turn stream.id stream.pause stream.messages t e
 
 pub swap_turns : (a b : Option Turn) (i j : ℕ) (turns : List Turn) → ((t : Turn) → a ≡ Some t → t.stream_id.0 ≡ i) → ((t : Turn) → b ≡ Some t → t.stream_id.0 ≡ j) → i ≢ j → with_turns a (with_turns b turns) ≡ with_turns b (with_turns a turns)
 swap_turns None None i j turns ha hb apart = refl

@@ -1,5 +1,5 @@
--- The order in which streams are asked for a message: by priority, the greatest first, then by number, the
--- least first.
+-- The order in which streams are asked for a message: by priority, the greatest first, then by their last turn, the oldest first,
+-- and then by number, the least first.
 use Rattle.std.specs.Prelude.{◌≡◌, ℕ, ◌<◌, ◌≤◌, slice_index_or, true, false, Option, List, [], ◌∷◌, length}
 use Rattle.dcsctp_api.specs.types.declared.sending.Turn.{Turn}
 use Rattle.dcsctp_api.specs.types.queues.SendStreams.{comes_after, with_turns}

@@ -1,5 +1,7 @@
 //! What waits on one stream.
 
+mod numbering;
+
 use crate::message::QueuedMessage;
 use dcsctp_api::types::{HandoverOutgoingStream, HandoverStreamMessage, Pause, Turn, UnderWay};
 use dcsctp_api::{Events, SocketTime, StreamId};
@@ -25,6 +27,9 @@ pub struct OutgoingStream {
     next_mid: u32,
     next_unordered_mid: u32,
 
+    // Which turn it had last, counted from 1; 0 if it had none, or if streams don't take turns.
+    last_turn: u64,
+
     pause: Pause,
 
     // The oldest first. The message that is under way stays at the front until it is fully sent.
@@ -46,6 +51,7 @@ impl Model for OutgoingStream {
       next_ssn = stream.next_ssn;
       next_mid = stream.next_mid;
       next_unordered_mid = stream.next_unordered_mid;
+      last_turn = stream.last_turn;
       pause = stream.pause;
       messages = stream.messages.items;
     } };
@@ -57,7 +63,7 @@ impl OutgoingStream {
     ghost use Rattle.std.specs.Prelude.{◌≡◌, ◌-◌, ◌^◌, ◌++◌, min, drop, OnOk, OnErr, if◌then◌else◌};
     ghost use Rattle.dcsctp_send_streams.specs.Telling.{contents, TellsFront};
     ghost use Rattle.dcsctp_api.specs.spec.queues.SendEvents.{expiries};
-    ghost use Rattle.dcsctp_api.specs.types.queues.SendStreams.{size_of, unused, is_pausing, front_of, with_message, without_front, paused, resumed, handed_out, begun_anew, raised, next_numbers, counted, committed, rolled_back, turn_of};
+    ghost use Rattle.dcsctp_api.specs.types.queues.SendStreams.{size_of, unused, is_pausing, front_of, with_message, without_front, paused, resumed, handed_out, begun_anew, raised, committed, rolled_back, turn_of};
     ghost use Rattle.std.specs.Option.{option_copied};
     ghost use Rattle.dcsctp_api.specs.spec.queues.SendQueue.{HaveBytes, can_go_on, has_live};
     ghost use Rattle.dcsctp_api.specs.spec.queues.Readiness.{is_paused};
@@ -77,6 +83,7 @@ impl OutgoingStream {
             next_ssn: 0,
             next_mid: 0,
             next_unordered_mid: 0,
+            last_turn: 0,
             pause: Pause::Open,
             messages: VecDeque::new(alloc),
         }
@@ -166,6 +173,7 @@ impl OutgoingStream {
                 }
                 Some(Turn {
                     priority: self.priority,
+                    last_turn: self.last_turn,
                     stream_id: self.id,
                 })
             }
@@ -258,12 +266,14 @@ impl OutgoingStream {
         Ok(())
     }
 
-    /// Drops all its messages, and counts them from 0 again. It keeps its priority and its threshold.
+    /// Drops all its messages, and counts them from 0 again, as if it had had no turn. It keeps its priority
+    /// and its threshold.
     pub fn empty(&mut self)
         ensures { self.new ≡ emptied self.old }
     {
         self.messages.clear();
         self.amount = 0;
+        self.last_turn = 0;
         self.begin_anew();
     }
 
@@ -376,30 +386,5 @@ impl OutgoingStream {
         ensures { self.new ≡ raised size self.old }
     {
         self.amount = self.amount.saturating_add(size);
-    }
-
-    /// The numbers of an ordered or unordered message that is started next: SSN and MID. One of the two is
-    /// sent, by whether messages are interleaved.
-    pub fn next_numbers(&self, is_unordered: bool) -> (u16, u32)
-        ensures { result ≡ next_numbers is_unordered self.now }
-    {
-        if is_unordered {
-            (0, self.next_unordered_mid)
-        } else {
-            (self.next_ssn, self.next_mid)
-        }
-    }
-
-    /// Counts a message that is started: with interleaving its MID, else its SSN, which an unordered message
-    /// doesn't have (RFC 8260, section 2.1).
-    pub fn count_begun(&mut self, is_interleaved: bool, is_unordered: bool)
-        ensures { self.new ≡ counted is_interleaved is_unordered self.old }
-    {
-        match (is_interleaved, is_unordered) {
-            (false, false) => self.next_ssn = self.next_ssn.wrapping_add(1),
-            (false, true) => {}
-            (true, false) => self.next_mid = self.next_mid.wrapping_add(1),
-            (true, true) => self.next_unordered_mid = self.next_unordered_mid.wrapping_add(1),
-        }
     }
 }

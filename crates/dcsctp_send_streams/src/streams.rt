@@ -35,7 +35,7 @@ impl Model for Streams {
 impl Streams {
     ghost use Rattle.std.specs.List.{list_any, AllByRecursion};
     ghost use Rattle.std.specs.Prelude.{◌≡◌, ◌-◌, ◌<◌, ◌&&◌, [], length, is_some, map, slice_set, insert, OnOk, OnErr, IfSome, IfNone};
-    ghost use Rattle.dcsctp_api.specs.types.queues.SendStreams.{front_of, with_message, without_front, paused, handed_out, begun_anew, raised, counted, committed, rolled_back, stream_at, turn_of, turns_of, IsNext, IsAscending};
+    ghost use Rattle.dcsctp_api.specs.types.queues.SendStreams.{front_of, with_message, without_front, paused, handed_out, begun_anew, raised, counted, served, committed, rolled_back, stream_at, turn_of, turns_of, IsNext, IsAscending};
     ghost use Rattle.dcsctp_api.specs.spec.queues.SendQueue.{HaveBytes, can_go_on, has_live};
     ghost use Rattle.dcsctp_api.specs.spec.queues.Readiness.{has_messages, is_paused};
     ghost use Rattle.dcsctp_send_streams.specs.Ranking.{count_pausing, IsFound};
@@ -344,6 +344,18 @@ impl Streams {
     {
         let stream = &mut self.items[place];
         stream.count_begun(is_interleaved, is_unordered);
+    }
+
+    /// The stream has this turn.
+    pub fn serve(&mut self, place: usize, turn: u64)
+        requires { place < length self.old }
+        ensures { self.new ≡ slice_set self.old place (served turn (stream_at self.old place)) }
+    {
+        let stream = &mut self.items[place];
+        let before = stream.turn();
+        stream.serve(turn);
+        let after = stream.turn();
+        move_turn(&mut self.turns, before, after);
     }
 
     /// Ends every pause, and counts all messages from 0 again.

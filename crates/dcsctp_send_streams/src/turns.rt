@@ -1,5 +1,5 @@
-//! The order in which streams are asked for a message: by priority, the greatest first, then by number,
-//! the least first.
+//! The order in which streams are asked for a message: by priority, the greatest first, then by their last
+//! turn, the oldest first, and then by number, the least first.
 
 ghost use Rattle.std.specs.Prelude.{◌≡◌, ◌+◌, ◌<◌, List, Some, vec_len, vec_capacity};
 ghost use Rattle.dcsctp_api.specs.types.declared.sending.Turn.{Turn};

@@ -1,4 +1,4 @@
--- Behind the turns of data, COOKIE ACK and RE-CONFIG the next chunk follows.
+-- Behind the turns of data, SHUTDOWN, COOKIE ACK and RE-CONFIG the next chunk follows.
 use Rattle.std.proofs.Common.{◌≡◌, ℕ, Bool, true, false, cond, Option, None, Some, List, [], ◌∷◌, refl, ap, ◌∙◌}
 use Rattle.dcsctp_core.specs.wire.Content.{SackContent}
 use Rattle.dcsctp_core.specs.types.declared.association.Pair.{Pair}
@@ -9,13 +9,15 @@ use Rattle.dcsctp_core.specs.spec.Reconfiguration.{ResetParameter}
 use Rattle.dcsctp_core.specs.types.declared.arrivals.SkippedTo.{SkippedTo}
 use Rattle.dcsctp_core.specs.spec.queues.Arrivals.{Arrival}
 use Rattle.dcsctp_core.specs.spec.queues.Transfer.{Transfer}
-use Rattle.dcsctp_core.specs.spec.endpoint.Endpoint.{Endpoint, Core, closed, cookie_wait, cookie_echoed, open_in, held_in}
+use Rattle.dcsctp_core.specs.spec.endpoint.Endpoint.{Endpoint, Core, closed, cookie_wait, cookie_echoed, open_in, OpenPhase, established, shutdown_pending, shutdown_sent, shutdown_received, shutdown_ack_sent, held_in}
 use Rattle.dcsctp_core.specs.spec.endpoint.Following.{next_chunk}
 use Rattle.dcsctp_core.specs.spec.endpoint.Outcome.{Outcome, quiet, sends}
 use Rattle.dcsctp_core.specs.spec.endpoint.DataOutcomes.{no_user_data_outcome, ReceiveTurn, DataWhere, DataTurn, ForwardTurn, SackWhere, SackBy, SackTurn}
 use Rattle.dcsctp_core.specs.spec.queues.Acknowledging.{is_sack_valid}
 use Rattle.dcsctp_core.specs.spec.endpoint.FlushOutcomes.{Answer, first_ask, packets_allowed, draft_to, flush_answered}
 use Rattle.dcsctp_core.specs.spec.endpoint.HandshakeOutcomes.{connected_after, cookie_ack_by, CookieAckAnswers, CookieAckTurn}
+use Rattle.dcsctp_core.specs.spec.endpoint.HeardShutdown.{said_by_shutdown, heeds_shutdown, ShutdownWhere, ShutdownBy, ShutdownTurn}
+use Rattle.dcsctp_core.specs.spec.endpoint.ShutdownOutcomes.{may_go_on, step_by, phase_at, shutdown_outcome_in}
 use Rattle.dcsctp_core.specs.spec.endpoint.ResetOutcomes.{responses_outcome, responses_by, ResponseAnswers, worked_in, answered_in, resets_worked, told_of, WorksResets, ResetTurn}
 use Rattle.dcsctp_core.proofs.spec_lemmas.FlushKeeps.{flush_keeps}
 
@@ -61,6 +63,38 @@ sack_by e (Some held) transfer sack o turn = sack_where (is_sack_valid transfer.
 pub sack_goes : (e : Endpoint) (transfer : Option Transfer) (sack : SackContent) (o : Outcome) → SackTurn e transfer sack o → GoesOn o
 sack_goes e None sack o is = goes_as o _ is refl
 sack_goes e (Some transfer) sack o turn = sack_by e (held_in e.core) transfer sack o turn
+
+-- ---- SHUTDOWN
+
+step_goes : (b : Bool) (e : Endpoint) (phase : OpenPhase) (my : Pair) (held : Held) → GoesOn (step_by b e phase my held)
+step_goes false e phase my held = refl
+step_goes true e established my held = refl
+step_goes true e shutdown_pending my held = refl
+step_goes true e shutdown_sent my held = refl
+step_goes true e shutdown_received my held = refl
+step_goes true e shutdown_ack_sent my held = refl
+
+shutdown_in_goes : (e : Endpoint) (phase : OpenPhase) (my : Pair) (held : Held) → GoesOn (shutdown_outcome_in e phase my held)
+shutdown_in_goes e established my held = step_goes (may_go_on e) (phase_at e shutdown_received my held) shutdown_received my held
+shutdown_in_goes e shutdown_pending my held = step_goes (may_go_on e) (phase_at e shutdown_received my held) shutdown_received my held
+shutdown_in_goes e shutdown_sent my held = refl
+shutdown_in_goes e shutdown_received my held = refl
+shutdown_in_goes e shutdown_ack_sent my held = refl
+
+shutdown_where : (heeds : Bool) (e : Endpoint) (phase : OpenPhase) (my : Pair) (held : Held) (transfer : Transfer) (tsn : ℕ) (o : Outcome) → ShutdownWhere heeds e phase my held transfer tsn o → GoesOn o
+shutdown_where false e phase my held transfer tsn o is = goes_as o _ is (shutdown_in_goes e phase my held)
+shutdown_where true e phase my held transfer tsn o h =
+    sack_where true (phase_at e shutdown_received my held) held transfer (said_by_shutdown tsn transfer.retransmission) o h
+
+shutdown_by : (e : Endpoint) (phase : OpenPhase) (my : Pair) (held : Held) (transfer : Option Transfer) (tsn : ℕ) (o : Outcome) → ShutdownBy e phase my held transfer tsn o → GoesOn o
+shutdown_by e phase my held None tsn o is = goes_as o _ is (shutdown_in_goes e phase my held)
+shutdown_by e phase my held (Some transfer) tsn o turn = shutdown_where (heeds_shutdown e.options phase transfer tsn) e phase my held transfer tsn o turn
+
+pub shutdown_goes : (e : Endpoint) (core : Core) (tsn : ℕ) (o : Outcome) → ShutdownTurn e core tsn o → GoesOn o
+shutdown_goes e closed tsn o is = goes_as o _ is refl
+shutdown_goes e (cookie_wait my) tsn o is = goes_as o _ is refl
+shutdown_goes e (cookie_echoed my held cookie) tsn o is = goes_as o _ is refl
+shutdown_goes e (open_in phase my held) tsn o turn = shutdown_by e phase my held e.below.transfer tsn o turn
 
 -- ---- COOKIE ACK
 

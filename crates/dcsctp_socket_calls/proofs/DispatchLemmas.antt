@@ -22,7 +22,7 @@ use Rattle.dcsctp_core.specs.spec.endpoint.CallTurns.{Turned, ChunkTurns}
 use Rattle.dcsctp_core.specs.types.declared.association.Pair.{Pair}
 use Rattle.dcsctp_core.specs.types.declared.association.Held.{Held}
 use Rattle.dcsctp_core.specs.spec.endpoint.EndOutcomes.{aborting_outcome, reflected_outcome}
-use Rattle.dcsctp_core.specs.spec.endpoint.ShutdownOutcomes.{may_go_on, step_by, phase_at, shutdown_outcome, shutdown_ack_outcome}
+use Rattle.dcsctp_core.specs.spec.endpoint.ShutdownOutcomes.{shutdown_ack_outcome}
 use Rattle.dcsctp_core.specs.spec.endpoint.PlainOutcomes.{violation_at, PlainTurnBy, PlainTurn, error_outcome}
 use Rattle.dcsctp_core.specs.declared.context.Context.{Context}
 use Rattle.dcsctp_core.specs.declared.following.Following.TheVariants.{NextChunk, PacketEnd, DroppedRest}
@@ -32,7 +32,7 @@ use Rattle.dcsctp_core.specs.Handling.{TakesIn, CutIn, Handles, Works}
 use Rattle.dcsctp_core.proofs.Moving.{moves_one}
 use Rattle.dcsctp_spec_laws.proofs.TurnLemmas.{and_further}
 use Rattle.dcsctp_core_ends.specs.Ends.{violation_in, aborting_turn, error_turn}
-use Rattle.dcsctp_core_ends.specs.Shutdown.{is_open, reflected_turn, shutdown_turn}
+use Rattle.dcsctp_core_ends.specs.Shutdown.{is_open, reflected_turn}
 use Rattle.dcsctp_socket_calls.specs.Parts.{ChunkMoves, ChunkCut, AckMoves, AckEnds, WorksAck}
 use Rattle.dcsctp_socket_calls.specs.Unknown.{unknown_turn}
 use Rattle.dcsctp_socket_calls.proofs.AckLoop.{no_ack}
@@ -84,32 +84,6 @@ violation_cut old tag content violation events is cut =
     record { outcome = aborting_turn (reasons.Violation violation) old; turn = (violates old.endpoint tag content violation is).0; cut = cut }
 
 -- ---- the chunks of a shutdown
-
--- What follows a SHUTDOWN is the next chunk.
-step_follows : (b : Bool) (e : Endpoint) (phase : OpenPhase) (my : Pair) (held : Held) → (step_by b e phase my held).following ≡ next_chunk
-step_follows false e phase my held = refl
-step_follows true e established my held = refl
-step_follows true e shutdown_pending my held = refl
-step_follows true e shutdown_sent my held = refl
-step_follows true e shutdown_received my held = refl
-step_follows true e shutdown_ack_sent my held = refl
-
-shutdown_follows : (e : Endpoint) (core : Core) → (shutdown_outcome e core).following ≡ next_chunk
-shutdown_follows e closed = refl
-shutdown_follows e (cookie_wait my) = refl
-shutdown_follows e (cookie_echoed my held cookie) = refl
-shutdown_follows e (open_in established my held) = step_follows (may_go_on e) (phase_at e shutdown_received my held) shutdown_received my held
-shutdown_follows e (open_in shutdown_pending my held) = step_follows (may_go_on e) (phase_at e shutdown_received my held) shutdown_received my held
-shutdown_follows e (open_in shutdown_sent my held) = refl
-shutdown_follows e (open_in shutdown_received my held) = refl
-shutdown_follows e (open_in shutdown_ack_sent my held) = refl
-
-pub shutdown_worked : {R : Type 0} (stream : R → Stream) (old new : View R) (tag tsn : ℕ) → Moves stream old (shutdown_turn old) new → ChunkMoves stream tag (shutdown tsn) old NextChunk new
-shutdown_worked stream old new tag tsn moves =
-    record { outcome = shutdown_turn old; turn = refl; following = shutdown_follows old.endpoint old.endpoint.core; moves = moves }
-
-pub shutdown_cut : {R : Type 0} (old : View R) (tag tsn : ℕ) (events : List (Event (List ℕ))) → CutTurn old (shutdown_turn old) events → ChunkCut tag (shutdown tsn) old events
-shutdown_cut old tag tsn events cut = record { outcome = shutdown_turn old; turn = refl; cut = cut }
 
 -- No association that is set up awaits a SHUTDOWN ACK.
 reflects : (e : Endpoint) (core : Core) (tag : ℕ) → is_open core ≡ false → reflected_outcome e tag ≡ shutdown_ack_outcome e core tag

@@ -12,11 +12,11 @@ use dcsctp_core::types::AbortReason;
 use dcsctp_core::wire::Chunk;
 use dcsctp_core::{Context, Following};
 use dcsctp_core_data::{
-    DataPart, handle_data, handle_forward_tsn, handle_i_forward_tsn, handle_sack,
+    DataPart, handle_data, handle_forward_tsn, handle_i_forward_tsn, handle_sack, handle_shutdown,
 };
 use dcsctp_core_ends::{
-    abort_association, handle_abort, handle_error, handle_shutdown, handle_shutdown_ack,
-    handle_shutdown_complete, violation_of,
+    abort_association, handle_abort, handle_error, handle_shutdown_ack, handle_shutdown_complete,
+    violation_of,
 };
 use dcsctp_core_handshake::{handle_cookie_ack, handle_cookie_echo, handle_init, handle_init_ack};
 use dcsctp_core_heartbeat::{handle_heartbeat_ack, handle_heartbeat_request};
@@ -104,8 +104,8 @@ fn dispatch_chunk<R: Rng>(
             handle_re_config(context, re_config)?;
             Ok(Following::NextChunk)
         }
-        Chunk::Shutdown(_) => {
-            handle_shutdown(context)?;
+        Chunk::Shutdown(shutdown) => {
+            handle_shutdown(context, shutdown)?;
             Ok(Following::NextChunk)
         }
     }

@@ -1,12 +1,16 @@
 -- Outside examples of what `follow_rfc` changes, worked by hand and computed by the definitions: a wrong rule in specs/ would not
 -- check here. Shutdown and COOKIE ECHO have theirs in ShutdownFacts and CookieEchoFacts.
-use Rattle.std.proofs.Common.{◌≡◌, ℕ, zero, suc, Bool, true, false, None, Some, List, [], ◌∷◌, refl}
+use Rattle.std.proofs.Common.{◌≡◌, ◌^◌, ◌-◌, ℕ, zero, suc, Bool, true, false, None, Some, List, [], ◌∷◌, refl}
 use Rattle.dcsctp_types.specs.declared.options.Options.{Options}
 use Rattle.dcsctp_types.specs.declared.tracking.TsnRange.{TsnRange}
 use Rattle.dcsctp_types.specs.declared.tracking.AckState.TheVariants.{Idle, Immediate, BecomingDelayed, Delayed}
+use Rattle.dcsctp_types.specs.declared.sending.Turn.{Turn}
 use Rattle.dcsctp_types.specs.queues.Messages.{MessageContent}
+use Rattle.dcsctp_types.specs.queues.SendStreams.{comes_after}
 use Rattle.dcsctp_spec.specs.endpoint.Timers.{running_deadline}
 use Rattle.dcsctp_spec.specs.queues.Reassembly.{ReassemblyState, bytes_to_watermark, remaining_bytes}
+use Rattle.dcsctp_spec.specs.queues.SendQueue.{SendQueueState, empty_queue}
+use Rattle.dcsctp_spec.specs.queues.Sending.{next_turn}
 use Rattle.dcsctp_spec.specs.queues.Tracker.{TrackerState, observed, hastened, is_below_highest}
 use Rattle.dcsctp_spec.specs.queues.Transfer.{Transfer, window_told}
 use Rattle.dcsctp_spec.specs.endpoint.DataOutcomes.{heeds_window, opens_window, taken_to}
@@ -103,3 +107,46 @@ open_window_counts options = refl
 
 answered_by_port : (options : Options) → heeds_window (record (small options) { follow_rfc = false }) 0 ≡ false
 answered_by_port options = refl
+
+-- ---- streams of equal priority
+
+-- a stream that had this turn last
+abbrev turn : ℕ → ℕ → ℕ → Turn
+turn priority last id = record { priority = priority; last_turn = last; stream_id = record { 0 = id } }
+
+-- Stream 1 had the second turn and stream 2 the first, so stream 2 is asked before stream 1.
+oldest_first : comes_after (turn 256 2 1) (turn 256 1 2) ≡ true
+oldest_first = refl
+
+newest_last : comes_after (turn 256 1 2) (turn 256 2 1) ≡ false
+newest_last = refl
+
+-- Stream 3 had none.
+unserved_first : comes_after (turn 256 1 2) (turn 256 0 3) ≡ true
+unserved_first = refl
+
+-- A greater priority is asked before all.
+priority_first : comes_after (turn 256 0 3) (turn 257 9 4) ≡ true
+priority_first = refl
+
+priority_stays_first : comes_after (turn 257 9 4) (turn 256 0 3) ≡ false
+priority_stays_first = refl
+
+-- As none had a turn, the number counts.
+by_number : comes_after (turn 256 0 3) (turn 256 0 2) ≡ true
+by_number = refl
+
+abbrev taking_turns : Bool → ℕ → SendQueueState → SendQueueState
+taking_turns takes count queue = record queue { takes_turns = takes; turns_taken = count }
+
+takes_fifth : (queue : SendQueueState) → next_turn (taking_turns true 4 queue) ≡ 5
+takes_fifth queue = refl
+
+begins_at_0_again : (queue : SendQueueState) → next_turn (taking_turns true (2 ^ 64 - 1) queue) ≡ 0
+begins_at_0_again queue = refl
+
+none_by_port : (queue : SendQueueState) → next_turn (taking_turns false 0 queue) ≡ 0
+none_by_port queue = refl
+
+by_option : (options : Options) → (empty_queue options).takes_turns ≡ options.follow_rfc
+by_option options = refl

@@ -66,10 +66,10 @@ waiting =
 
 abbrev waits_on : ℕ → ℕ → ℕ → Stream
 waits_on next_ssn next_mid bytes =
-    record { id = 3; priority = 5; threshold = 7; amount = bytes; next_ssn = next_ssn; next_mid = next_mid; next_unordered_mid = 0; pause = Open; messages = waiting ∷ [] }
+    record { id = 3; priority = 5; threshold = 7; amount = bytes; next_ssn = next_ssn; next_mid = next_mid; next_unordered_mid = 0; last_turn = 0; pause = Open; messages = waiting ∷ [] }
 
 abbrev nothing_on : Pause → Stream
-nothing_on pause = record { id = 4; priority = 256; threshold = 0; amount = 0; next_ssn = 0; next_mid = 0; next_unordered_mid = 0; pause = pause; messages = [] }
+nothing_on pause = record { id = 4; priority = 256; threshold = 0; amount = 0; next_ssn = 0; next_mid = 0; next_unordered_mid = 0; last_turn = 0; pause = pause; messages = [] }
 
 abbrev pub queue : SendQueueState
 queue =
@@ -82,6 +82,8 @@ queue =
       default_threshold = 0;
       is_interleaved = false;
       next_message_id = 7;
+      takes_turns = false;
+      turns_taken = 0;
     }
 
 -- and it goes on under the next number, as messages are interleaved

@@ -39,11 +39,11 @@ message name =
 
 stream : ℕ → Pause → ℕ → List Waiting → Stream
 stream id pause bytes messages =
-    record { id = id; priority = 256; threshold = 0; amount = bytes; next_ssn = 7; next_mid = 8; next_unordered_mid = 9; pause = pause; messages = messages }
+    record { id = id; priority = 256; threshold = 0; amount = bytes; next_ssn = 7; next_mid = 8; next_unordered_mid = 9; last_turn = 0; pause = pause; messages = messages }
 
 queue : ℕ → Option UnderWay → List Stream → SendQueueState
 queue bytes under_way streams =
-    record { streams = streams; under_way = under_way; total_amount = bytes; total_threshold = 5; default_priority = 256; default_threshold = 0; is_interleaved = false; next_message_id = 9 }
+    record { streams = streams; under_way = under_way; total_amount = bytes; total_threshold = 5; default_priority = 256; default_threshold = 0; is_interleaved = false; next_message_id = 9; takes_turns = false; turns_taken = 0 }
 
 -- a byte of a message was sent on this stream
 under_way_on : ℕ → Option UnderWay

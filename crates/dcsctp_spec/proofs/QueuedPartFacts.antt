@@ -13,7 +13,7 @@ abbrev second : Waiting
 second = record { message_id = 8; ppid = 53; is_unordered = true; payload = 5 ∷ []; max_retransmissions = Some 3; expires_at = None; lifecycle = None }
 
 abbrev stream : Stream
-stream = record { id = 1; priority = 256; threshold = 0; amount = 2; next_ssn = 6; next_mid = 0; next_unordered_mid = 0; pause = Open; messages = first ∷ second ∷ [] }
+stream = record { id = 1; priority = 256; threshold = 0; amount = 2; next_ssn = 6; next_mid = 0; next_unordered_mid = 0; last_turn = 0; pause = Open; messages = first ∷ second ∷ [] }
 
 abbrev queue : SendQueueState
 queue =
@@ -26,6 +26,8 @@ queue =
       default_threshold = 0;
       is_interleaved = false;
       next_message_id = 9;
+      takes_turns = false;
+      turns_taken = 0;
     }
 
 -- the queue of another socket

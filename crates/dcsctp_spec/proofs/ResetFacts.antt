@@ -13,7 +13,7 @@ use Rattle.dcsctp_spec.specs.endpoint.Endpoint.{Endpoint, closed, cookie_wait}
 use Rattle.dcsctp_spec.specs.endpoint.Outcome.{still}
 use Rattle.dcsctp_spec.specs.association.Effect.{accepts, performs}
 use Rattle.dcsctp_spec.specs.association.ResetChanges.{WorkedParameters, work_chunk}
-use Rattle.dcsctp_spec.specs.endpoint.ResetOutcomes.{requested_in, unanswered, retried, was_performed, has_failed, answered_in, reset_events, their_streams, ResetTurn}
+use Rattle.dcsctp_spec.specs.endpoint.ResetOutcomes.{requested_in, unanswered, retried, was_performed, has_failed, answered_in, own_moved, reset_events, their_streams, ResetTurn}
 use Rattle.dcsctp_spec.specs.queues.Numbers.{is_tsn_beyond}
 
 -- ---- what is read
@@ -132,6 +132,13 @@ denied_is_answered c = refl
 
 in_progress_is_retried : (c : Capabilities) → answered_in (asking c) (after_answer c (reconfiguration_response 3 InProgress)) (reconfiguration_response 3 InProgress ∷ []) ≡ retried
 in_progress_is_retried c = refl
+
+-- By the RFC no error counts then.
+clears_errors : (e : Endpoint) → (own_moved retried (record e { options = record e.options { follow_rfc = true }; error_count = 2 })).error_count ≡ 0
+clears_errors e = refl
+
+keeps_errors_by_port : (e : Endpoint) → (own_moved retried (record e { options = record e.options { follow_rfc = false }; error_count = 2 })).error_count ≡ 2
+keeps_errors_by_port e = refl
 
 of_another_number : (c : Capabilities) → answered_in (asking c) (after_answer c (reconfiguration_response 2 SuccessPerformed)) (reconfiguration_response 2 SuccessPerformed ∷ []) ≡ unanswered
 of_another_number c = refl

@@ -49,14 +49,14 @@ plain_waits number =
 -- a stream whose next messages have the numbers 7, 8 and 9
 stream : ℕ → Pause → ℕ → List Waiting → Stream
 stream id pause amount messages =
-    record { id = id; priority = 256; threshold = 0; amount = amount; next_ssn = 7; next_mid = 8; next_unordered_mid = 9; pause = pause; messages = messages }
+    record { id = id; priority = 256; threshold = 0; amount = amount; next_ssn = 7; next_mid = 8; next_unordered_mid = 9; last_turn = 0; pause = pause; messages = messages }
 
 fresh : ℕ → ℕ → List Waiting → Stream
 fresh id amount messages = record (stream id Open amount messages) { next_ssn = 0; next_mid = 0; next_unordered_mid = 0 }
 
 queue : ℕ → ℕ → Option UnderWay → List Stream → SendQueueState
 queue total next under_way streams =
-    record { streams = streams; under_way = under_way; total_amount = total; total_threshold = 0; default_priority = 256; default_threshold = 0; is_interleaved = false; next_message_id = next }
+    record { streams = streams; under_way = under_way; total_amount = total; total_threshold = 0; default_priority = 256; default_threshold = 0; is_interleaved = false; next_message_id = next; takes_turns = false; turns_taken = 0 }
 
 -- It waits as it was sent, on a stream that was never used.
 first_waits : (name : LifecycleId) → sending_queued 1_000_000_000 (asked name) (queue 0 0 None []) ≡ queue 3 1 None (fresh 1 3 (asked_waits name ∷ []) ∷ [])

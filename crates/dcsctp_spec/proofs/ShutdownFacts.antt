@@ -20,6 +20,9 @@ use Rattle.dcsctp_spec.specs.endpoint.Outcome.{Outcome, still}
 use Rattle.dcsctp_spec.specs.endpoint.Turn.{act_input}
 use Rattle.dcsctp_spec.specs.endpoint.TimeTurns.{t2_timer, deadline, has_come, expiry_input}
 use Rattle.dcsctp_spec.specs.association.Acts.{shutdown_repeats, abort_with}
+use Rattle.dcsctp_types.specs.declared.options.Options.{Options}
+use Rattle.dcsctp_spec.specs.queues.Retransmission.{RetransmissionState}
+use Rattle.dcsctp_spec.specs.endpoint.HeardShutdown.{said_by_shutdown, heeds_shutdown}
 use Rattle.dcsctp_spec.specs.endpoint.ShutdownOutcomes.{step_outcome, shut_down_outcome, shutdown_outcome, shutdown_ack_outcome, shutdown_complete_outcome, t2_again_outcome, shutdown_repeated}
 use Rattle.dcsctp_spec.proofs.HandshakeTurnFacts.{mine, held, queue, packet_of}
 
@@ -177,6 +180,27 @@ answered_again e transfer = refl
 
 asked_in_cookie_echoed : (e : Endpoint) (cookie : List ℕ) → shutdown_outcome e (cookie_echoed mine held cookie) ≡ still e
 asked_in_cookie_echoed e cookie = refl
+
+-- By the RFC its TSN acknowledges, here that of the one item in flight.
+abbrev one_out : Transfer → Transfer
+one_out transfer =
+    record transfer { retransmission = record transfer.retransmission { outstanding = record { first_tsn = 10; is_interleaved = false; items = items_of 1 } } }
+
+heeds_it : (e : Endpoint) (transfer : Transfer) → heeds_shutdown (by_rfc e 4).options shutdown_pending (one_out transfer) 10 ≡ true
+heeds_it e transfer = refl
+
+-- One that was never sent doesn't, nor does any where nothing can be in flight.
+never_sent : (e : Endpoint) (transfer : Transfer) → heeds_shutdown (by_rfc e 4).options shutdown_pending (one_out transfer) 11 ≡ false
+never_sent e transfer = refl
+
+nothing_out : (e : Endpoint) (transfer : Transfer) → heeds_shutdown (by_rfc e 4).options shutdown_sent (one_out transfer) 10 ≡ false
+nothing_out e transfer = refl
+
+unheeded_by_port : (options : Options) (transfer : Transfer) → heeds_shutdown (record options { follow_rfc = false }) shutdown_pending (one_out transfer) 10 ≡ false
+unheeded_by_port options transfer = refl
+
+says_so : (state : RetransmissionState) → (said_by_shutdown 10 (record state { peer_window = 3000 })) ≡ record { cumulative_tsn_ack = 10; a_rwnd = 3000; gap_ack_blocks = []; duplicate_tsns = [] }
+says_so state = refl
 
 -- ---- SHUTDOWN ACK and SHUTDOWN COMPLETE
 

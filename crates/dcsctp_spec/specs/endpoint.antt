@@ -5,6 +5,7 @@ pub mod EndOutcomes
 pub mod FlushOutcomes
 pub mod HandoverOutcomes
 pub mod HandshakeOutcomes
+pub mod HeardShutdown
 pub mod HeartbeatOutcomes
 pub mod MessageOutcomes
 pub mod OwnTimers

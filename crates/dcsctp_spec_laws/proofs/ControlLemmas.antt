@@ -29,7 +29,8 @@ use Rattle.dcsctp_spec_laws.proofs.ResetLemmas.{reset_controlled}
 use Rattle.dcsctp_spec_lemmas.proofs.CookieLemmas.{names_read_back}
 use Rattle.dcsctp_spec_lemmas.proofs.ControlHandshake.{choices_of, ControlledAt, still_controlled, init_ack_controlled, cookie_ack_controlled, abort_controlled, connect_controlled}
 use Rattle.dcsctp_spec_laws.proofs.ControlEnds.{aborting_controlled, hand_over_controlled}
-use Rattle.dcsctp_spec_laws.proofs.ShutdownLemmas.{step_controlled, shut_down_controlled, shutdown_controlled, shutdown_ack_controlled, shutdown_complete_controlled, t2_again_controlled, repeated_controlled}
+use Rattle.dcsctp_spec_laws.proofs.HeardShutdownLemmas.{shutdown_controlled}
+use Rattle.dcsctp_spec_laws.proofs.ShutdownLemmas.{step_controlled, shut_down_controlled, shutdown_ack_controlled, shutdown_complete_controlled, t2_again_controlled, repeated_controlled}
 use Rattle.dcsctp_spec_laws.proofs.TimerLemmas.{t1_again_controlled, t1_gives_up_controlled}
 use Rattle.dcsctp_spec_lemmas.proofs.ControlEcho.{cookie_echo_controlled}
 

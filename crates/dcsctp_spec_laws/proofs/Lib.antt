@@ -3,6 +3,7 @@ pub mod ControlEnds
 pub mod ControlLemmas
 pub mod ControlRestores
 pub mod DataLemmas
+pub mod HeardShutdownLemmas
 pub mod HeartbeatLemmas
 pub mod PlainLemmas
 pub mod QueuedValidityLemmas

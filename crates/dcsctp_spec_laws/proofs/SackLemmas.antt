@@ -32,7 +32,7 @@ use Rattle.dcsctp_spec_laws.proofs.ShutdownLemmas.{step_at}
 -- ---- what it chooses
 
 -- a step of shutdown, where it may go on, these packets, and a flush that gets these answers
-abbrev stepped : Endpoint → ℕ → Bool → List (List Plain) → List Answer → Choices
+abbrev pub stepped : Endpoint → ℕ → Bool → List (List Plain) → List Answer → Choices
 stepped e tsn is_acknowledged packets answers = record (chosen e packets answers) { tsn = tsn; is_acknowledged = is_acknowledged }
 
 -- It is such a turn.
@@ -135,14 +135,16 @@ four_signs tsn state steps fast rest one more first second =
     ∙ ap (λ (ss : List Sign). ss ++ signs_of_events ((steps ++ fast) ++ rest)) (delivered_signs (take (acknowledged_by state.outstanding tsn) state.outstanding.items))
     ∙ ap signs_of_events (append_assoc steps fast rest) ∙ signs_then steps (fast ++ rest) one more first second
 
-acknowledges_at : (e : Endpoint) (held : Held) (transfer : Transfer) (sack : SackContent) (o : Outcome) → held_in e.core ≡ Some held → AcknowledgesBy e held transfer sack o → SteppedAt e e.core o
-acknowledges_at e held transfer sack o holds turn =
-    let base : Endpoint = sack_taken e transfer turn.left in
+-- at an endpoint whose phase may have moved
+pub acknowledges_at : (e at : Endpoint) (held : Held) (transfer : Transfer) (sack : SackContent) (o : Outcome) → SameOptions e.options at.options → held_in at.core ≡ Some held → AcknowledgesBy at held transfer sack o
+    → SteppedAt e at.core o
+acknowledges_at e at held transfer sack o same holds turn =
+    let base : Endpoint = sack_taken at transfer turn.left in
     let tsn : ℕ = received_tsn base.below.transfer in
     let is_acknowledged : Bool = may_go_on base in
-    let change : Change = shutdown_step_change e.core tsn is_acknowledged in
-    let step : IsControlled e turn.stepped change = subst (λ (x : Outcome). IsControlled e x change) (sym turn.steps) (step_at e base e.core refl refl) in
-    let is : StepIs e.core change = step_is e.core tsn is_acknowledged in
+    let change : Change = shutdown_step_change at.core tsn is_acknowledged in
+    let step : IsControlled e turn.stepped change = subst (λ (x : Outcome). IsControlled e x change) (sym turn.steps) (step_at e base at.core refl same) in
+    let is : StepIs at.core change = step_is at.core tsn is_acknowledged in
     let fast : FastIs turn.stepped.after held turn.fast = fast_is (has_fast_retransmit turn.left.retransmission) turn.stepped.after held turn.left turn.fast turn.resends in
     let flush : Outcome = flush_of turn.fast.after (draft_to held) turn.answers in
     let p : Outcome = behind [] turn.fast.events flush in
@@ -155,18 +157,18 @@ acknowledges_at e held transfer sack o holds turn =
       is_acknowledged,
       sent.0,
       sent.1,
-      subst (λ (x : Outcome). IsControlled e x (plain_change e.core false choices)) (sym turn.is) (record {
+      subst (λ (x : Outcome). IsControlled e x (plain_change at.core false choices)) (sym turn.is) (record {
         core = more.core;
         options = more.options;
-        signs = four_signs sack.cumulative_tsn_ack transfer.retransmission turn.stepped.events turn.fast.events flush.events change.effects effects step.signs more.signs ∙ sym (step_signs e.core change effects is);
-        effects = more.effects ∙ sym (step_notes e.core change effects is);
+        signs = four_signs sack.cumulative_tsn_ack transfer.retransmission turn.stepped.events turn.fast.events flush.events change.effects effects step.signs more.signs ∙ sym (step_signs at.core change effects is);
+        effects = more.effects ∙ sym (step_notes at.core change effects is);
         following = more.following ∙ flush_follows change.core choices;
       }),
     )
 
 sack_where_at : (b : Bool) (e : Endpoint) (held : Held) (transfer : Transfer) (sack : SackContent) (o : Outcome) → held_in e.core ≡ Some held → SackWhere b e held transfer sack o → SteppedAt e e.core o
 sack_where_at false e held transfer sack o holds turn = flushed_stepped e e.core o (flushed_as e e.core o (still e) turn (still_at e e e.core refl refl))
-sack_where_at true e held transfer sack o holds turn = acknowledges_at e held transfer sack o holds turn
+sack_where_at true e held transfer sack o holds turn = acknowledges_at e e held transfer sack o refl holds turn
 
 sack_by_at : (e : Endpoint) (peer : Option Held) (transfer : Transfer) (sack : SackContent) (o : Outcome) → held_in e.core ≡ peer → SackBy e peer transfer sack o → SteppedAt e e.core o
 sack_by_at e None transfer sack o holds turn = flushed_stepped e e.core o (flushed_as e e.core o (still e) turn (still_at e e e.core refl refl))

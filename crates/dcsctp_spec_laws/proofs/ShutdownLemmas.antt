@@ -3,13 +3,13 @@ use Rattle.std.proofs.Common.{◌≡◌, ℕ, Bool, true, false, refl, sym, subs
 use Rattle.dcsctp_spec_lemmas.specs.types.declared.association.Pair.{Pair}
 use Rattle.dcsctp_spec_lemmas.specs.types.declared.association.Held.{Held}
 use Rattle.dcsctp_spec_lemmas.specs.types.Settings.{SameOptions}
-use Rattle.dcsctp_spec_lemmas.specs.spec.Packet.{shutdown, shutdown_ack, shutdown_complete}
+use Rattle.dcsctp_spec_lemmas.specs.spec.Packet.{shutdown_ack, shutdown_complete}
 use Rattle.dcsctp_spec_lemmas.specs.spec.endpoint.Endpoint.{Endpoint, Core, closed, cookie_wait, cookie_echoed, open_in, OpenPhase, established, shutdown_pending, shutdown_sent, shutdown_received, shutdown_ack_sent}
 use Rattle.dcsctp_spec_lemmas.specs.spec.endpoint.Outcome.{Outcome}
 use Rattle.dcsctp_spec_lemmas.specs.spec.endpoint.EndOutcomes.{after_reflected, reflected_outcome}
-use Rattle.dcsctp_spec_lemmas.specs.spec.endpoint.ShutdownOutcomes.{received_tsn, phase_at, may_go_on, step_by, step_outcome, t1_stopped, shut_down_outcome, shutdown_outcome, shutdown_ack_outcome, shutdown_complete_outcome, t2_goes_on, sent_again, t2_again_outcome, shutdown_repeated}
+use Rattle.dcsctp_spec_lemmas.specs.spec.endpoint.ShutdownOutcomes.{received_tsn, phase_at, may_go_on, step_by, step_outcome, t1_stopped, shut_down_outcome, shutdown_ack_outcome, shutdown_complete_outcome, t2_goes_on, sent_again, t2_again_outcome, shutdown_repeated}
 use Rattle.dcsctp_spec_lemmas.specs.spec.association.Choices.{Choices}
-use Rattle.dcsctp_spec_lemmas.specs.spec.association.ShutdownChanges.{shutdown_step_change_in, shutdown_step_change, shutdown_call_change, shutdown_again_change, shutdown_change, reflected_change, shutdown_ack_change, shutdown_complete_change}
+use Rattle.dcsctp_spec_lemmas.specs.spec.association.ShutdownChanges.{shutdown_step_change_in, shutdown_step_change, shutdown_call_change, shutdown_again_change, reflected_change, shutdown_ack_change, shutdown_complete_change}
 use Rattle.dcsctp_spec_lemmas.specs.spec.association.Acts.{shut_down, step_of_shutdown, shutdown_repeats}
 use Rattle.dcsctp_spec_lemmas.specs.spec.association.Controlled.{IsControlled, ControlledChunk, ControlledAct}
 use Rattle.dcsctp_spec_lemmas.proofs.ControlHandshake.{no_choices, still_controlled}
@@ -71,20 +71,6 @@ pub shut_down_controlled : (e : Endpoint) (o : Outcome) → o ≡ shut_down_outc
 shut_down_controlled e o turn = subst (ControlledAct e shut_down) (sym turn) (stepping e, call_at e e.core refl)
 
 -- ---- chunks
-
-shutdown_at : (e : Endpoint) (core : Core) → e.core ≡ core
-    → IsControlled e (shutdown_outcome e core) (shutdown_change core (received_tsn e.below.transfer) (may_go_on e))
-shutdown_at e closed is = still_controlled e closed is
-shutdown_at e (cookie_wait my) is = still_controlled e (cookie_wait my) is
-shutdown_at e (cookie_echoed my held cookie) is = still_controlled e (cookie_echoed my held cookie) is
-shutdown_at e (open_in established my held) is = step_from_at e e shutdown_received my held refl
-shutdown_at e (open_in shutdown_pending my held) is = step_from_at e e shutdown_received my held refl
-shutdown_at e (open_in shutdown_sent my held) is = record { core = refl; options = refl; signs = refl; effects = refl; following = refl }
-shutdown_at e (open_in shutdown_received my held) is = still_controlled e (open_in shutdown_received my held) is
-shutdown_at e (open_in shutdown_ack_sent my held) is = record { core = refl; options = refl; signs = refl; effects = refl; following = refl }
-
-pub shutdown_controlled : (e : Endpoint) (tag tsn : ℕ) (o : Outcome) → o ≡ shutdown_outcome e e.core → ControlledChunk e tag (shutdown tsn) o
-shutdown_controlled e tag tsn o turn = subst (ControlledChunk e tag (shutdown tsn)) (sym turn) (_, (stepping e, tt, refl), shutdown_at e e.core refl)
 
 reflects : (e : Endpoint) (core : Core) (tag : ℕ) → e.core ≡ core → IsControlled e (reflected_outcome e tag) (reflected_change core tag (after_reflected e.options))
 reflects e core tag is = record { core = is; options = refl; signs = refl; effects = refl; following = refl }

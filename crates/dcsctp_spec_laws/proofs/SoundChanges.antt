@@ -9,7 +9,7 @@ use Rattle.dcsctp_spec_lemmas.specs.spec.Soundness.{IsSoundCore}
 use Rattle.dcsctp_spec_lemmas.specs.spec.association.Acts.{Act, connect, t1_expires, shut_down, step_of_shutdown, shutdown_repeats, abort_with, hands_over, flushes, request_again, act_change, chunk_change, flush_change, request_again_change, violation_change, plain_change}
 use Rattle.dcsctp_spec_lemmas.specs.spec.association.Choices.{Choices}
 use Rattle.dcsctp_spec_lemmas.specs.spec.association.Effect.{Change}
-use Rattle.dcsctp_spec_lemmas.specs.spec.association.ShutdownChanges.{shutdown_step_change}
+use Rattle.dcsctp_spec_lemmas.specs.spec.association.ShutdownChanges.{shutdown_step_change, shutdown_change}
 use Rattle.dcsctp_spec_laws.proofs.SoundHandshakes.{flush_sound, init_sound, init_ack_sound, cookie_ack_sound, t1_again_sound, gives_up_sound, read_echo_sound}
 use Rattle.dcsctp_spec_laws.proofs.SoundResets.{re_config_sound}
 use Rattle.dcsctp_spec_laws.proofs.SoundEnds.{step_sound, shutdown_call_sound, abort_call_sound, shutdown_again_sound, abort_sound, shutdown_sound, shutdown_ack_sound, shutdown_complete_sound, hand_over_sound}
@@ -74,7 +74,9 @@ module _ (p : Options) where
   chunk_sound core header cookie_ack choices said h = cookie_ack_sound p core choices h
   chunk_sound core header (re_config parameters) choices said h = re_config_sound p core parameters choices h
   chunk_sound core header (abort reflected causes) choices said h = abort_sound p core h
-  chunk_sound core header (shutdown tsn) choices said h = shutdown_sound p core choices.tsn choices.is_acknowledged h
+  chunk_sound core header (shutdown tsn) choices said h =
+      let stepped : Change = shutdown_change core choices.tsn choices.is_acknowledged in
+      flush_change_sound stepped.core choices (shutdown_sound p core choices.tsn choices.is_acknowledged h)
   chunk_sound core header shutdown_ack choices said h = shutdown_ack_sound p core header choices.following h
   chunk_sound core header (shutdown_complete reflected) choices said h = shutdown_complete_sound p core h
   chunk_sound core header (plain chunk) choices said h = plain_sound core choices.is_violation choices h

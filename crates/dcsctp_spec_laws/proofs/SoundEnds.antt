@@ -66,7 +66,7 @@ module _ (p : Options) where
   shutdown_sound (open_in established my held) tsn is_acknowledged h = step_in_sound shutdown_received my held tsn is_acknowledged h
   shutdown_sound (open_in shutdown_pending my held) tsn is_acknowledged h = step_in_sound shutdown_received my held tsn is_acknowledged h
   shutdown_sound (open_in shutdown_sent my held) tsn is_acknowledged h = h
-  shutdown_sound (open_in shutdown_received my held) tsn is_acknowledged h = h
+  shutdown_sound (open_in shutdown_received my held) tsn is_acknowledged h = step_in_sound shutdown_received my held tsn is_acknowledged h
   shutdown_sound (open_in shutdown_ack_sent my held) tsn is_acknowledged h = h
 
   pub shutdown_ack_sound : (core : Core) (header : ℕ) (following : Following) → IsSoundCore p core → IsSoundCore p (shutdown_ack_change core header following).core

@@ -9,7 +9,8 @@ use Rattle.dcsctp_spec_laws.proofs.HeartbeatLemmas.{timer_controlled}
 use Rattle.dcsctp_spec_laws.proofs.InitLemmas.{init_leaves_association}
 use Rattle.dcsctp_spec_laws.proofs.PlainLemmas.{plain_controlled}
 use Rattle.dcsctp_spec_laws.proofs.ResetLemmas.{reset_controlled}
-use Rattle.dcsctp_spec_laws.proofs.ShutdownLemmas.{shutdown_controlled, shutdown_ack_controlled, shutdown_complete_controlled}
+use Rattle.dcsctp_spec_laws.proofs.HeardShutdownLemmas.{shutdown_controlled}
+use Rattle.dcsctp_spec_laws.proofs.ShutdownLemmas.{shutdown_ack_controlled, shutdown_complete_controlled}
 use Rattle.dcsctp_spec_laws.proofs.SoundChanges.{IsOtherAct, SaysTag, act_sound, chunk_sound}
 use Rattle.dcsctp_spec_laws.proofs.TurnLemmas.{content_keeps_options}
 use Rattle.dcsctp_spec_lemmas.specs.spec.endpoint.CallTurns.{Turned, IsTurn, AlongTurns, after_all}

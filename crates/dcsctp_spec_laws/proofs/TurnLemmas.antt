@@ -14,7 +14,8 @@ use Rattle.dcsctp_spec_lemmas.specs.spec.endpoint.CallTurns.{Turned, IsTurn, Tur
 use Rattle.dcsctp_spec_lemmas.specs.spec.endpoint.HandshakeOutcomes.{init_outcome}
 use Rattle.dcsctp_spec_laws.proofs.PlainLemmas.{plain_controlled}
 use Rattle.dcsctp_spec_lemmas.proofs.ControlHandshake.{init_ack_controlled, cookie_ack_controlled, abort_controlled}
-use Rattle.dcsctp_spec_laws.proofs.ShutdownLemmas.{shutdown_controlled, shutdown_ack_controlled, shutdown_complete_controlled}
+use Rattle.dcsctp_spec_laws.proofs.HeardShutdownLemmas.{shutdown_controlled}
+use Rattle.dcsctp_spec_laws.proofs.ShutdownLemmas.{shutdown_ack_controlled, shutdown_complete_controlled}
 use Rattle.dcsctp_spec_laws.proofs.ResetLemmas.{reset_controlled}
 use Rattle.dcsctp_spec_lemmas.proofs.ControlEcho.{cookie_echo_controlled}
 

@@ -13,6 +13,7 @@ pub mod FlushKeeps
 pub mod ForwardEntries
 pub mod ForwardOutcomes
 pub mod GivingUpOutcomes
+pub mod HeardShutdowns
 pub mod IncomingLemmas
 pub mod ItemMessageLemmas
 pub mod LostOutcomes

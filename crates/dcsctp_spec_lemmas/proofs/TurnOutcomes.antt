@@ -90,15 +90,15 @@ next_turn streams = go (some_in_turn streams)
     go (inl nobody) = inl nobody.no_turns
     go (inr next) = inr next
 
-turn_has : (priority id : ℕ) (pause : Pause) (messages : List Waiting) (t : Turn) → turn_if priority id pause messages ≡ Some t → (m : Waiting) × (front_of messages ≡ Some m)
-turn_has priority id Open [] t e = cc
-turn_has priority id Open (m ∷ messages) t e = (m, refl)
-turn_has priority id Pausing messages t e = cc
-turn_has priority id HandedOut messages t e = cc
+turn_has : (priority last id : ℕ) (pause : Pause) (messages : List Waiting) (t : Turn) → turn_if priority last id pause messages ≡ Some t → (m : Waiting) × (front_of messages ≡ Some m)
+turn_has priority last id Open [] t e = cc
+turn_has priority last id Open (m ∷ messages) t e = (m, refl)
+turn_has priority last id Pausing messages t e = cc
+turn_has priority last id HandedOut messages t e = cc
 
 -- A stream with its turn has a message.
 pub next_front : (streams : List Stream) (place : ℕ) → IsNext streams place → (m : Waiting) × (front_of (stream_at streams place).messages ≡ Some m)
-next_front streams place next = let s = stream_at streams place in turn_has s.priority s.id s.pause s.messages next.turn next.is
+next_front streams place next = let s = stream_at streams place in turn_has s.priority s.last_turn s.id s.pause s.messages next.turn next.is
 
 -- ---- how many messages wait
 

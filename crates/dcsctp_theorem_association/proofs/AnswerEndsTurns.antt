@@ -153,6 +153,7 @@ shutdown_ends : (core : Core) (tsn : ℕ) (is_acknowledged : Bool) → EndsNone 
 shutdown_ends (open_in established my held) tsn is_acknowledged = step_ends_in shutdown_received my held tsn is_acknowledged
 shutdown_ends (open_in shutdown_pending my held) tsn is_acknowledged = step_ends_in shutdown_received my held tsn is_acknowledged
 shutdown_ends (open_in shutdown_sent my held) tsn is_acknowledged = (tt, tt)
+shutdown_ends (open_in shutdown_received my held) tsn is_acknowledged = step_ends_in shutdown_received my held tsn is_acknowledged
 shutdown_ends (open_in shutdown_ack_sent my held) tsn is_acknowledged = (tt, tt)
 shutdown_ends core tsn is_acknowledged = tt
 
@@ -202,7 +203,9 @@ chunk_answers options core header (cookie_echo cookie) choices = echo_ends optio
 chunk_answers options core header cookie_ack choices = cookie_ack_ends core choices
 chunk_answers options core header (re_config parameters) choices = re_config_answers core parameters choices
 chunk_answers options core header (abort reflected causes) choices = abort_ends core
-chunk_answers options core header (shutdown cumulative_tsn) choices = shutdown_ends core choices.tsn choices.is_acknowledged
+chunk_answers options core header (shutdown cumulative_tsn) choices =
+    let stepped : Change = shutdown_change core choices.tsn choices.is_acknowledged in
+    all_answer-append [] stepped.effects (flush_change stepped.core choices).effects (shutdown_ends core choices.tsn choices.is_acknowledged) (flush_ends stepped.core choices)
 chunk_answers options core header shutdown_ack choices = shutdown_ack_ends core header choices.following
 chunk_answers options core header (shutdown_complete reflected) choices = shutdown_complete_ends core
 chunk_answers options core header (plain chunk) choices = other_ends core choices.is_violation choices

@@ -67,12 +67,19 @@ abort_meant (cookie_echoed my held cookie) = ended_meant (refl, tt)
 abort_meant (open_in phase my held) = ended_meant (refl, tt)
 abort_meant core = same_meant refl tt
 
-pub shutdown_meant : (core : Core) (tsn : ℕ) (is_acknowledged : Bool) → Meant core (shutdown_change core tsn is_acknowledged)
-shutdown_meant (open_in established my held) tsn is_acknowledged = step_meant_in (open_in established my held) shutdown_received my held tsn is_acknowledged refl
-shutdown_meant (open_in shutdown_pending my held) tsn is_acknowledged = step_meant_in (open_in shutdown_pending my held) shutdown_received my held tsn is_acknowledged refl
-shutdown_meant (open_in shutdown_sent my held) tsn is_acknowledged = same_meant refl (tt, tt)
-shutdown_meant (open_in shutdown_ack_sent my held) tsn is_acknowledged = same_meant refl (tt, tt)
-shutdown_meant core tsn is_acknowledged = same_meant refl tt
+pub shutdown_link : (core : Core) (tsn : ℕ) (is_acknowledged : Bool) → link_in (shutdown_change core tsn is_acknowledged).core ≡ link_in core
+shutdown_link (open_in established my held) tsn is_acknowledged = step_link_in shutdown_received my held tsn is_acknowledged
+shutdown_link (open_in shutdown_pending my held) tsn is_acknowledged = step_link_in shutdown_received my held tsn is_acknowledged
+shutdown_link (open_in shutdown_received my held) tsn is_acknowledged = step_link_in shutdown_received my held tsn is_acknowledged
+shutdown_link core tsn is_acknowledged = refl
+
+pub shutdown_says : (after core : Core) (tsn : ℕ) (is_acknowledged : Bool) → AllSay after (shutdown_change core tsn is_acknowledged).effects
+shutdown_says after (open_in established my held) tsn is_acknowledged = step_says_in after shutdown_received my held tsn is_acknowledged
+shutdown_says after (open_in shutdown_pending my held) tsn is_acknowledged = step_says_in after shutdown_received my held tsn is_acknowledged
+shutdown_says after (open_in shutdown_sent my held) tsn is_acknowledged = (tt, tt)
+shutdown_says after (open_in shutdown_received my held) tsn is_acknowledged = step_says_in after shutdown_received my held tsn is_acknowledged
+shutdown_says after (open_in shutdown_ack_sent my held) tsn is_acknowledged = (tt, tt)
+shutdown_says after core tsn is_acknowledged = tt
 
 pub shutdown_ack_meant : (core : Core) (header : ℕ) (following : Following) → Meant core (shutdown_ack_change core header following)
 shutdown_ack_meant (open_in shutdown_sent my held) header following = ended_meant (tt, (refl, tt))

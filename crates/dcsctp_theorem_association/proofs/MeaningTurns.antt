@@ -17,13 +17,13 @@ use Rattle.dcsctp_spec_lemmas.specs.spec.association.FlushChanges.{reset_request
 use Rattle.dcsctp_spec_lemmas.specs.spec.association.HandshakeChanges.{introduction_of, connect_change, init_change, echo_change, held_by_init_ack, init_ack_change, cookie_ack_change, t1_again_change, t1_gives_up_change}
 use Rattle.dcsctp_spec_lemmas.specs.spec.association.CookieEchoChanges.{Resolution, establish_new, restart, simultaneous_init, discard, maintain_existing, invalid_tag, stale, aged, resolve, held_by_cookie, new_association_change, restart_change, maintain_change, resolved_change, read_echo_change}
 use Rattle.dcsctp_spec_lemmas.specs.spec.association.ResetChanges.{re_config_change, reset_worked}
-use Rattle.dcsctp_spec_lemmas.specs.spec.association.ShutdownChanges.{shutdown_step_change}
-use Rattle.dcsctp_spec_lemmas.specs.spec.association.Acts.{Act, connect, t1_expires, shut_down, step_of_shutdown, shutdown_repeats, abort_with, hands_over, flushes, request_again, sent_by, flush_change, request_sent, request_again_change, act_change, violation_change, plain_change, chunk_change}
+use Rattle.dcsctp_spec_lemmas.specs.spec.association.ShutdownChanges.{shutdown_step_change, shutdown_change}
+use Rattle.dcsctp_spec_lemmas.specs.spec.association.Acts.{Act, connect, t1_expires, shut_down, step_of_shutdown, shutdown_repeats, abort_with, hands_over, flushes, request_again, sent_by, flush_change, request_sent, request_again_change, act_change, violation_change, plain_change, chunk_change, shutdown_chunk_change}
 use Rattle.dcsctp_spec_runs.specs.World.{acted, worked, resumed}
 use Rattle.dcsctp_theorem_association.specs.OneSide.{Means, EffectsMean}
 use Rattle.dcsctp_theorem_association.proofs.Meaning.{AllSay, all_say-append, Meant, means_by, resume_means, same_meant, drawn_meant, ended_meant, alone_says, end_says-alone, flush_link, flush_says, sent_says, connects_says}
 use Rattle.dcsctp_theorem_association.proofs.MeaningResets.{reset_link, reset_says}
-use Rattle.dcsctp_theorem_association.proofs.MeaningShutdown.{step_link, step_says, step_meant, call_meant, aborts_meant, again_meant, abort_meant, shutdown_meant, shutdown_ack_meant, shutdown_complete_meant, hand_over_meant}
+use Rattle.dcsctp_theorem_association.proofs.MeaningShutdown.{step_link, step_says, step_meant, call_meant, aborts_meant, again_meant, abort_meant, shutdown_link, shutdown_says, shutdown_ack_meant, shutdown_complete_meant, hand_over_meant}
 
 -- ---- what is held
 
@@ -186,6 +186,13 @@ other_meant core false choices =
     same_meant (flush_change_link stepped.core choices ∙ step_link core choices.tsn choices.is_acknowledged)
     (all_say-append after.core stepped.effects after.effects (step_says after.core core choices.tsn choices.is_acknowledged) (flush_change_says stepped.core choices))
 
+heard_meant : (core : Core) (choices : Choices) → Meant core (shutdown_chunk_change core choices)
+heard_meant core choices =
+    let stepped : Change = shutdown_change core choices.tsn choices.is_acknowledged in
+    let after : Change = flush_change stepped.core choices in
+    same_meant (flush_change_link stepped.core choices ∙ shutdown_link core choices.tsn choices.is_acknowledged)
+    (all_say-append after.core stepped.effects after.effects (shutdown_says after.core core choices.tsn choices.is_acknowledged) (flush_change_says stepped.core choices))
+
 chunk_meant : (options : Options) (core : Core) (header : ℕ) (content : Content) (choices : Choices) → Meant core (chunk_change options core header content choices)
 chunk_meant options core header (init theirs) choices = init_meant options core theirs choices
 chunk_meant options core header (init_ack theirs cookie) choices = init_ack_meant options core theirs cookie choices
@@ -193,7 +200,7 @@ chunk_meant options core header (cookie_echo cookie) choices = echo_meant option
 chunk_meant options core header cookie_ack choices = cookie_ack_meant core choices
 chunk_meant options core header (re_config parameters) choices = re_config_meant core parameters choices
 chunk_meant options core header (abort reflected causes) choices = abort_meant core
-chunk_meant options core header (shutdown cumulative_tsn) choices = shutdown_meant core choices.tsn choices.is_acknowledged
+chunk_meant options core header (shutdown cumulative_tsn) choices = heard_meant core choices
 chunk_meant options core header shutdown_ack choices = shutdown_ack_meant core header choices.following
 chunk_meant options core header (shutdown_complete reflected) choices = shutdown_complete_meant core
 chunk_meant options core header (plain chunk) choices = other_meant core choices.is_violation choices

@@ -5,11 +5,12 @@ use Rattle.dcsctp_spec_lemmas.specs.types.Offer.{Offer, offer_of}
 use Rattle.dcsctp_spec_runs.specs.Laws.{AnswerKeepsAgreement}
 use Rattle.dcsctp_spec_lemmas.specs.spec.Packet.{Content, init, init_ack, cookie_echo, cookie_ack, re_config, abort, shutdown, shutdown_ack, shutdown_complete, plain, Packet}
 use Rattle.dcsctp_spec_lemmas.specs.spec.endpoint.Endpoint.{Core, own_tag, closed, cookie_wait, cookie_echoed, open_in}
+use Rattle.dcsctp_spec_lemmas.specs.spec.endpoint.Following.{next_chunk}
 use Rattle.dcsctp_spec_lemmas.specs.spec.association.Effect.{Effect, sends, Change}
 use Rattle.dcsctp_spec_lemmas.specs.spec.association.Choices.{Choices}
-use Rattle.dcsctp_spec_lemmas.specs.spec.association.Acts.{MakesCookie, act_change, chunk_change, flush_change, plain_change, violation_change}
+use Rattle.dcsctp_spec_lemmas.specs.spec.association.Acts.{MakesCookie, act_change, chunk_change, flush_change, plain_change, violation_change, shutdown_chunk_change}
 use Rattle.dcsctp_spec_lemmas.specs.spec.Admission.{shutdown_acks_in}
-use Rattle.dcsctp_spec_lemmas.specs.spec.association.ShutdownChanges.{shutdown_step_change}
+use Rattle.dcsctp_spec_lemmas.specs.spec.association.ShutdownChanges.{shutdown_step_change, shutdown_change}
 use Rattle.dcsctp_spec_runs.specs.Past.{Has, HasFreshTags}
 use Rattle.dcsctp_spec_runs.specs.World.{after_effects, SideState, after_change, after_changes, HasEnding, MayBeWorked, own_tag_borne, echo_in_front, init_alone, ending_in, ChunkChanges, PacketChanges, worked_whole, worked_acks, Move, does, receives, MoveChanges}
 use Rattle.dcsctp_theorem_association.proofs.Facts.{TrueFront, Behind, AllBehind, TrueContents, TruePast, TrueCore}
@@ -41,6 +42,14 @@ other_kept my_offer their_offer mine theirs core false choices h =
     then_kept my_offer their_offer mine theirs stepped (flush_change stepped.core choices) choices.following first
     (flush_kept my_offer their_offer (after_effects stepped.effects mine) theirs stepped.core choices first.core)
 other_kept my_offer their_offer mine theirs core true choices h = violation_kept my_offer their_offer mine theirs core choices h
+
+heard_kept : (my_offer their_offer : Offer) (mine theirs : List Effect) (core : Core) (choices : Choices)
+    → TrueCore my_offer their_offer mine theirs core → Kept my_offer their_offer mine theirs (shutdown_chunk_change core choices)
+heard_kept my_offer their_offer mine theirs core choices h =
+    let stepped : Change = shutdown_change core choices.tsn choices.is_acknowledged in
+    let first : Kept my_offer their_offer mine theirs stepped = shutdown_kept my_offer their_offer mine theirs core choices.tsn choices.is_acknowledged h in
+    then_kept my_offer their_offer mine theirs stepped (flush_change stepped.core choices) next_chunk first
+    (flush_kept my_offer their_offer (after_effects stepped.effects mine) theirs stepped.core choices first.core)
 
 -- Where it counts, the header bears the own tag.
 abbrev OwnTagged : Core → ℕ → Content → Type 0
@@ -107,7 +116,7 @@ front_kept law options their_offer mine theirs core header (re_config parameters
 front_kept law options their_offer mine theirs core header (abort reflected causes) behind choices my_tags their_tags h delivered is own makes =
     abort_kept (offer_of options) their_offer mine theirs core h
 front_kept law options their_offer mine theirs core header (shutdown tsn) behind choices my_tags their_tags h delivered is own makes =
-    shutdown_kept (offer_of options) their_offer mine theirs core choices.tsn choices.is_acknowledged h
+    heard_kept (offer_of options) their_offer mine theirs core choices h
 front_kept law options their_offer mine theirs core header shutdown_ack behind choices my_tags their_tags h delivered is own makes =
     ack_kept (offer_of options) their_offer mine theirs core header choices.following h
 front_kept law options their_offer mine theirs core header (shutdown_complete reflected) behind choices my_tags their_tags h delivered is own makes =

@@ -8,15 +8,15 @@ use Rattle.dcsctp_spec_lemmas.specs.spec.endpoint.Cause.{Cause, causes_of}
 use Rattle.dcsctp_spec_lemmas.specs.spec.Reconfiguration.{ResetParameter, RequestedReset}
 use Rattle.dcsctp_spec_lemmas.specs.spec.Packet.{Introduction, Content, init, init_ack, cookie_echo, cookie_ack, re_config, abort, shutdown, shutdown_ack, shutdown_complete, plain}
 use Rattle.dcsctp_spec_lemmas.specs.spec.endpoint.Endpoint.{Core, closed, cookie_wait, cookie_echoed, open_in, OpenPhase, established, shutdown_pending, shutdown_sent, shutdown_received, shutdown_ack_sent}
-use Rattle.dcsctp_spec_lemmas.specs.spec.endpoint.Following.{Following}
+use Rattle.dcsctp_spec_lemmas.specs.spec.endpoint.Following.{Following, next_chunk}
 use Rattle.dcsctp_spec_lemmas.specs.spec.association.Effect.{Link, Effect, holds, Change, link_of}
 use Rattle.dcsctp_spec_lemmas.specs.spec.association.Choices.{Filling, Choices}
 use Rattle.dcsctp_spec_lemmas.specs.spec.association.FlushChanges.{reset_request}
 use Rattle.dcsctp_spec_lemmas.specs.spec.association.HandshakeChanges.{connect_change, init_change, echo_change, held_by_init_ack, init_ack_change, cookie_ack_change, t1_again_change, t1_gives_up_change}
 use Rattle.dcsctp_spec_lemmas.specs.spec.association.CookieEchoChanges.{Resolution, establish_new, restart, simultaneous_init, discard, maintain_existing, invalid_tag, stale, aged, resolve, held_by_cookie, new_association_change, restart_change, maintain_change, resolved_change, read_echo_change}
 use Rattle.dcsctp_spec_lemmas.specs.spec.association.ResetChanges.{re_config_change}
-use Rattle.dcsctp_spec_lemmas.specs.spec.association.ShutdownChanges.{shutdown_step_change_in, shutdown_step_change, shutdown_call_change, abort_call_change, shutdown_again_change, abort_change, shutdown_change, shutdown_ack_change, shutdown_complete_change}
-use Rattle.dcsctp_spec_lemmas.specs.spec.association.Acts.{Act, connect, t1_expires, shut_down, step_of_shutdown, shutdown_repeats, abort_with, hands_over, flushes, request_again, flush_change, hand_over_change, request_sent, request_again_change, act_change, then_changes, violation_change, plain_change, chunk_change}
+use Rattle.dcsctp_spec_lemmas.specs.spec.association.ShutdownChanges.{shutdown_step_change_in, shutdown_step_change, shutdown_call_change, abort_call_change, shutdown_again_change, abort_change, shutdown_ack_change, shutdown_complete_change}
+use Rattle.dcsctp_spec_lemmas.specs.spec.association.Acts.{Act, connect, t1_expires, shut_down, step_of_shutdown, shutdown_repeats, abort_with, hands_over, flushes, request_again, flush_change, hand_over_change, request_sent, request_again_change, act_change, then_changes, violation_change, plain_change, chunk_change, shutdown_chunk_change}
 use Rattle.dcsctp_spec_runs.specs.World.{acted, worked, resumed}
 use Rattle.dcsctp_theorem_association.specs.OneSide.{ends_in, OneEnd, it_ends, it_stays, EndsOnce}
 use Rattle.dcsctp_theorem_association.proofs.OneSideNoEnds.{no_ends-alone, one_end-alone, no_ends-flush, no_ends-sent, no_ends-reset}
@@ -168,12 +168,6 @@ abort_ends_once (cookie_echoed my held cookie) = ends_echoed refl
 abort_ends_once (open_in phase my held) = ends_open refl
 abort_ends_once core = stays refl
 
-shutdown_ends_once : (core : Core) (tsn : ℕ) (is_acknowledged : Bool) → OneEnd core (shutdown_change core tsn is_acknowledged)
-shutdown_ends_once (open_in established my held) tsn is_acknowledged = step_ends_once_in (open_in established my held) shutdown_received my held tsn is_acknowledged
-shutdown_ends_once (open_in shutdown_pending my held) tsn is_acknowledged = step_ends_once_in (open_in shutdown_pending my held) shutdown_received my held tsn is_acknowledged
-shutdown_ends_once (open_in shutdown_sent my held) tsn is_acknowledged = stays_open refl
-shutdown_ends_once core tsn is_acknowledged = stays refl
-
 shutdown_ack_ends_once : (core : Core) (header : ℕ) (following : Following) → OneEnd core (shutdown_ack_change core header following)
 shutdown_ack_ends_once (open_in shutdown_sent my held) header following = ends_open refl
 shutdown_ack_ends_once (open_in shutdown_ack_sent my held) header following = ends_open refl
@@ -219,6 +213,20 @@ other_ends_once (cookie_echoed my held cookie) false choices = stays_echoed (no_
 other_ends_once (open_in phase my held) false choices = stepped_ends_once phase my held choices choices.is_acknowledged
 other_ends_once core false choices = stays refl
 
+-- a SHUTDOWN, a step from ShutdownReceived, and a flush
+received_ends_once : (core : Core) (my : Pair) (held : Held) (choices : Choices) (is_acknowledged : Bool)
+    → OneEnd core (then_changes (shutdown_step_change_in shutdown_received my held choices.tsn is_acknowledged) (flush_change (shutdown_step_change_in shutdown_received my held choices.tsn is_acknowledged).core choices) next_chunk)
+received_ends_once core my held choices true = stays_open (no_ends-sent held choices)
+received_ends_once core my held choices false = stays_open (no_ends-sent held choices)
+
+heard_ends_once : (core : Core) (choices : Choices) → OneEnd core (shutdown_chunk_change core choices)
+heard_ends_once (cookie_echoed my held cookie) choices = stays_echoed (no_ends-sent held choices)
+heard_ends_once (open_in established my held) choices = received_ends_once (open_in established my held) my held choices choices.is_acknowledged
+heard_ends_once (open_in shutdown_pending my held) choices = received_ends_once (open_in shutdown_pending my held) my held choices choices.is_acknowledged
+heard_ends_once (open_in shutdown_received my held) choices = received_ends_once (open_in shutdown_received my held) my held choices choices.is_acknowledged
+heard_ends_once (open_in phase my held) choices = stays_open (no_ends-sent held choices)
+heard_ends_once core choices = stays refl
+
 chunk_ends_once : (options : Options) (core : Core) (header : ℕ) (content : Content) (choices : Choices) → OneEnd core (chunk_change options core header content choices)
 chunk_ends_once options core header (init theirs) choices = init_ends_once options core theirs choices
 chunk_ends_once options core header (init_ack theirs cookie) choices = init_ack_ends_once options core theirs cookie choices
@@ -226,7 +234,7 @@ chunk_ends_once options core header (cookie_echo cookie) choices = echo_ends_onc
 chunk_ends_once options core header cookie_ack choices = cookie_ack_ends_once core choices
 chunk_ends_once options core header (re_config parameters) choices = re_config_ends_once core parameters choices
 chunk_ends_once options core header (abort reflected causes) choices = abort_ends_once core
-chunk_ends_once options core header (shutdown cumulative_tsn) choices = shutdown_ends_once core choices.tsn choices.is_acknowledged
+chunk_ends_once options core header (shutdown cumulative_tsn) choices = heard_ends_once core choices
 chunk_ends_once options core header shutdown_ack choices = shutdown_ack_ends_once core header choices.following
 chunk_ends_once options core header (shutdown_complete reflected) choices = shutdown_complete_ends_once core
 chunk_ends_once options core header (plain chunk) choices = other_ends_once core choices.is_violation choices

@@ -9,7 +9,7 @@ use Rattle.dcsctp_spec_lemmas.specs.spec.endpoint.Cause.{Cause, causes_of}
 use Rattle.dcsctp_spec_lemmas.specs.spec.Reconfiguration.{ResetParameter, RequestedReset}
 use Rattle.dcsctp_spec_lemmas.specs.spec.Packet.{Content, init, init_ack, cookie_echo, cookie_ack, re_config, abort, shutdown, shutdown_ack, shutdown_complete, plain}
 use Rattle.dcsctp_spec_lemmas.specs.spec.endpoint.Endpoint.{Core, closed, cookie_wait, cookie_echoed, open_in, OpenPhase, established, shutdown_pending, shutdown_sent, shutdown_received, shutdown_ack_sent}
-use Rattle.dcsctp_spec_lemmas.specs.spec.endpoint.Following.{Following}
+use Rattle.dcsctp_spec_lemmas.specs.spec.endpoint.Following.{Following, next_chunk}
 use Rattle.dcsctp_spec_lemmas.specs.spec.association.Effect.{Effect, Change, link_of}
 use Rattle.dcsctp_spec_lemmas.specs.spec.association.Choices.{Choices}
 use Rattle.dcsctp_spec_lemmas.specs.spec.association.FlushChanges.{reset_request}
@@ -83,6 +83,7 @@ shutdown_keeps : (core : Core) (tsn : ℕ) (is_acknowledged : Bool) → Keeps co
 shutdown_keeps (open_in established my held) tsn is_acknowledged past good = step_keeps_open shutdown_received my held tsn is_acknowledged past good
 shutdown_keeps (open_in shutdown_pending my held) tsn is_acknowledged past good = step_keeps_open shutdown_received my held tsn is_acknowledged past good
 shutdown_keeps (open_in shutdown_sent my held) tsn is_acknowledged past good = good-sends (open_in shutdown_ack_sent my held) _ past good
+shutdown_keeps (open_in shutdown_received my held) tsn is_acknowledged past good = step_keeps_open shutdown_received my held tsn is_acknowledged past good
 shutdown_keeps (open_in shutdown_ack_sent my held) tsn is_acknowledged past good = good-sends (open_in shutdown_ack_sent my held) _ past good
 shutdown_keeps core tsn is_acknowledged past good = good
 
@@ -135,7 +136,9 @@ chunk_keeps options core header (cookie_echo cookie) choices past good = echo_ke
 chunk_keeps options core header cookie_ack choices past good = cookie_ack_keeps core choices past good
 chunk_keeps options core header (re_config parameters) choices past good = re_config_keeps core parameters choices past good
 chunk_keeps options core header (abort reflected causes) choices past good = abort_keeps core past good
-chunk_keeps options core header (shutdown cumulative_tsn) choices past good = shutdown_keeps core choices.tsn choices.is_acknowledged past good
+chunk_keeps options core header (shutdown cumulative_tsn) choices past good =
+    let stepped : Change = shutdown_change core choices.tsn choices.is_acknowledged in
+    then_keeps core stepped (flush_change stepped.core choices) next_chunk (shutdown_keeps core choices.tsn choices.is_acknowledged) (flush_keeps stepped.core choices) past good
 chunk_keeps options core header shutdown_ack choices past good = shutdown_ack_keeps core header choices.following past good
 chunk_keeps options core header (shutdown_complete reflected) choices past good = shutdown_complete_keeps core past good
 chunk_keeps options core header (plain chunk) choices past good = other_keeps core choices.is_violation choices past good

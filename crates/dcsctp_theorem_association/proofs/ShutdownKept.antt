@@ -52,7 +52,7 @@ change_in_kept : (my_offer their_offer : Offer) (mine theirs : List Effect) (pha
 change_in_kept my_offer their_offer mine theirs established my held tsn is_acknowledged h = step_in_kept my_offer their_offer mine theirs shutdown_received my held tsn is_acknowledged h
 change_in_kept my_offer their_offer mine theirs shutdown_pending my held tsn is_acknowledged h = step_in_kept my_offer their_offer mine theirs shutdown_received my held tsn is_acknowledged h
 change_in_kept my_offer their_offer mine theirs shutdown_sent my held tsn is_acknowledged h = in_kept my_offer their_offer mine theirs shutdown_ack_sent my held (shutdown_ack ∷ []) h (tt, tt)
-change_in_kept my_offer their_offer mine theirs shutdown_received my held tsn is_acknowledged h = unchanged_kept my_offer their_offer mine theirs (open_in shutdown_received my held) h
+change_in_kept my_offer their_offer mine theirs shutdown_received my held tsn is_acknowledged h = step_in_kept my_offer their_offer mine theirs shutdown_received my held tsn is_acknowledged h
 change_in_kept my_offer their_offer mine theirs shutdown_ack_sent my held tsn is_acknowledged h = in_kept my_offer their_offer mine theirs shutdown_ack_sent my held (shutdown_ack ∷ []) h (tt, tt)
 
 reflects_kept : (my_offer their_offer : Offer) (mine theirs : List Effect) (core : Core) (header : ℕ) (following : Following) → TrueCore my_offer their_offer mine theirs core

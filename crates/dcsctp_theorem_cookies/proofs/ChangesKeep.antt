@@ -14,7 +14,7 @@ use Rattle.dcsctp_spec_lemmas.specs.spec.association.Choices.{Filling, Choices}
 use Rattle.dcsctp_spec_lemmas.specs.spec.association.HandshakeChanges.{introduction_of, answering_introduction, connect_change, sends_init_ack, init_change, echo_change, held_by_init_ack, init_ack_change, cookie_ack_change, t1_again_change, t1_gives_up_change}
 use Rattle.dcsctp_spec_lemmas.specs.spec.association.CookieEchoChanges.{Resolution, establish_new, restart, simultaneous_init, discard, maintain_existing, invalid_tag, stale, aged, resolve, held_by_cookie, new_association_change, restart_change, maintain_change, resolved_change, read_echo_change}
 use Rattle.dcsctp_spec_lemmas.specs.spec.association.ShutdownChanges.{shutdown_step_change_in, shutdown_step_change, shutdown_call_change, abort_call_change, shutdown_again_change, abort_change, shutdown_change, shutdown_ack_change, shutdown_complete_change}
-use Rattle.dcsctp_spec_lemmas.specs.spec.association.Acts.{Act, connect, t1_expires, shut_down, step_of_shutdown, shutdown_repeats, abort_with, hands_over, flushes, request_again, flush_change, hand_over_change, act_change, violation_change, plain_change, chunk_change}
+use Rattle.dcsctp_spec_lemmas.specs.spec.association.Acts.{Act, connect, t1_expires, shut_down, step_of_shutdown, shutdown_repeats, abort_with, hands_over, flushes, request_again, flush_change, hand_over_change, act_change, violation_change, plain_change, shutdown_chunk_change, chunk_change}
 use Rattle.dcsctp_theorem_cookies.proofs.CookieRules.{Rules, EffectsKeep, CoreKeeps, ChangeKeeps, TakenKeeps, AnswerKeeps, unchanged_keeps, effects_append, alone_keeps, flush_keeps, sent_keeps}
 use Rattle.dcsctp_theorem_cookies.proofs.ResetsKeep.{re_config_keeps, request_again_keeps}
 
@@ -133,6 +133,7 @@ module _ (rules : Rules) where
   shutdown_keeps (open_in established my held) tsn is_acknowledged h = step_keeps_in shutdown_received my held tsn is_acknowledged
   shutdown_keeps (open_in shutdown_pending my held) tsn is_acknowledged h = step_keeps_in shutdown_received my held tsn is_acknowledged
   shutdown_keeps (open_in shutdown_sent my held) tsn is_acknowledged h = record { effects = ((tt, tt), tt); core = tt }
+  shutdown_keeps (open_in shutdown_received my held) tsn is_acknowledged h = step_keeps_in shutdown_received my held tsn is_acknowledged
   shutdown_keeps (open_in shutdown_ack_sent my held) tsn is_acknowledged h = record { effects = ((tt, tt), tt); core = tt }
   shutdown_keeps core tsn is_acknowledged h = unchanged_keeps rules core h
 
@@ -169,6 +170,13 @@ module _ (rules : Rules) where
       let second : ChangeKeeps rules (flush_change stepped.core choices) = flush_change_keeps stepped.core choices first.core in
       record { effects = effects_append rules stepped.effects (flush_change stepped.core choices).effects first.effects second.effects; core = second.core }
 
+  heard_keeps : (core : Core) (choices : Choices) → CoreKeeps rules core → ChangeKeeps rules (shutdown_chunk_change core choices)
+  heard_keeps core choices h =
+      let stepped : Change = shutdown_change core choices.tsn choices.is_acknowledged in
+      let first : ChangeKeeps rules stepped = shutdown_keeps core choices.tsn choices.is_acknowledged h in
+      let second : ChangeKeeps rules (flush_change stepped.core choices) = flush_change_keeps stepped.core choices first.core in
+      record { effects = effects_append rules stepped.effects (flush_change stepped.core choices).effects first.effects second.effects; core = second.core }
+
   -- ---- each act and each chunk
 
   pub act_keeps : (options : Options) (core : Core) (act : Act) (choices : Choices) → CoreKeeps rules core → ChangeKeeps rules (act_change options core act choices)
@@ -191,7 +199,7 @@ module _ (rules : Rules) where
   chunk_keeps options core header cookie_ack choices h k made = cookie_ack_keeps core choices h
   chunk_keeps options core header (re_config parameters) choices h k made = re_config_keeps rules core parameters choices h
   chunk_keeps options core header (abort reflected causes) choices h k made = abort_keeps core h
-  chunk_keeps options core header (shutdown tsn) choices h k made = shutdown_keeps core choices.tsn choices.is_acknowledged h
+  chunk_keeps options core header (shutdown tsn) choices h k made = heard_keeps core choices h
   chunk_keeps options core header shutdown_ack choices h k made = shutdown_ack_keeps core header choices.following h
   chunk_keeps options core header (shutdown_complete reflected) choices h k made = shutdown_complete_keeps core h
   chunk_keeps options core header (plain chunk) choices h k made = plain_change_keeps core choices.is_violation choices h

@@ -121,7 +121,7 @@ stepped_few true e core held left stepped fast due is steps resends =
 stepped_few false e core held left stepped fast due is steps resends =
     append_few 1 0 stepped.events fast.events (subst (Few 1) (sym steps) (step_few e core)) (subst (Few 0) (sym resends) (none 0))
 
-acknowledges_behind : (e : Endpoint) (held : Held) (transfer : Transfer) (sack : SackContent) (o : Outcome) → HasPeer e.core → AcknowledgesBy e held transfer sack o → IsBehind 1 o
+pub acknowledges_behind : (e : Endpoint) (held : Held) (transfer : Transfer) (sack : SackContent) (o : Outcome) → HasPeer e.core → AcknowledgesBy e held transfer sack o → IsBehind 1 o
 acknowledges_behind e held transfer sack o peer turn =
     let stepped : HasPeer turn.stepped.after.core = subst (λ (x : Outcome). HasPeer x.after.core) (sym turn.steps) (step_peer (sack_taken e transfer turn.left) e.core peer) in
     let here : HasPeer turn.fast.after.core = fast_peer (has_fast_retransmit turn.left.retransmission) turn.stepped.after held turn.left turn.fast turn.resends stepped in

@@ -4,6 +4,7 @@ use Rattle.dcsctp_spec_lemmas.specs.types.declared.word.Word.TheVariants.{U32, U
 use Rattle.dcsctp_spec_lemmas.specs.types.declared.ends.AbortReason.{AbortReason}
 use Rattle.dcsctp_spec_lemmas.specs.types.declared.ends.AbortReason.TheVariants as reasons
 use Rattle.dcsctp_spec_lemmas.specs.types.declared.kinds.ErrorKind.TheVariants.{ProtocolViolation}
+use Rattle.dcsctp_spec_lemmas.specs.types.declared.options.Options.{Options}
 use Rattle.dcsctp_spec_lemmas.specs.spec.endpoint.Cause.{Cause}
 use Rattle.dcsctp_spec_lemmas.specs.spec.Cookie.{Cookie}
 use Rattle.dcsctp_spec_lemmas.specs.spec.endpoint.Event.{aborted}
@@ -39,11 +40,11 @@ connect_few e (cookie_echoed my held cookie) word next = none 1
 connect_few e (open_in phase my held) word next = none 1
 
 -- an INIT ACK, with a cookie or without one
-abbrev IsAfterInitAck : Introduction → Option (List ℕ) → Outcome → Type 0
-IsAfterInitAck theirs cookie o = count o.events ≤ packets_of_chunk (init_ack theirs cookie) (allowed_after o)
+abbrev IsAfterInitAck : Options → Introduction → Option (List ℕ) → Outcome → Type 0
+IsAfterInitAck options theirs cookie o = count o.events ≤ packets_of_chunk options (init_ack theirs cookie) (allowed_after o)
 
 pub init_ack_counts : (e : Endpoint) (theirs : Introduction) (cookie : Option (List ℕ)) (core : Core) (word : ℕ) (answers : List Answer) → InitAckAnswers e theirs cookie core word answers
-    → IsAfterInitAck theirs cookie (init_ack_by (flush_answered answers) e theirs cookie core word)
+    → IsAfterInitAck e.options theirs cookie (init_ack_by (flush_answered answers) e theirs cookie core word)
 init_ack_counts e theirs None closed word answers allowed = none 1
 init_ack_counts e theirs None (cookie_wait my) word answers allowed =
     append_few 1 0 (emits e [] (abort_emission theirs.pair.tag)).events (aborted ProtocolViolation no_cookie_text ∷ []) (emits_few e [] (abort_emission theirs.pair.tag)) (none 0)

@@ -23,26 +23,27 @@ use Rattle.dcsctp_spec_laws.proofs.TurnLemmas.{content_keeps_options}
 use Rattle.dcsctp_theorem_sockets.specs.Bursts.{flush_limit, packets_of, packets_of_chunk, packets_of_act}
 use Rattle.dcsctp_theorem_sockets.specs.OneSocket.{KeepsBurst, TurnKeepsBurst, SocketsKeepBursts}
 use Rattle.dcsctp_theorem_sockets.proofs.Bursts.{count, Few, none, one, allowed_after}
-use Rattle.dcsctp_theorem_sockets.proofs.BurstShutdown.{step_few, shut_down_few, shutdown_few, shutdown_ack_few, shutdown_complete_few, t2_again_few, begin_few}
+use Rattle.dcsctp_theorem_sockets.proofs.BurstShutdown.{step_few, shut_down_few, shutdown_ack_few, shutdown_complete_few, t2_again_few, begin_few}
 use Rattle.dcsctp_theorem_sockets.proofs.BurstData.{flush_turn_is_burst, end_is_burst, take_few, send_is_burst, resets_is_burst}
 use Rattle.dcsctp_theorem_sockets.proofs.BurstHandshake.{init_few, connect_few, init_ack_counts, cookie_ack_is_burst, echo_counts, abort_few, aborting_few, again_counts, gives_up_few}
 use Rattle.dcsctp_theorem_sockets.proofs.BurstChunks.{timer_few, reset_behind, plain_counts}
+use Rattle.dcsctp_theorem_sockets.proofs.HeardShutdowns.{heard_counts}
 use Rattle.dcsctp_theorem_sockets.proofs.HandoverTurns.{hand_over_few}
 use Rattle.dcsctp_theorem_sockets.proofs.RestoreTurns.{restore_few}
 
 -- ---- a chunk
 
 -- with what is allowed by the options that the turn leaves
-chunk_counts : (e : Endpoint) (tag : ℕ) (content : Content) (o : Outcome) → ContentTurn e tag content o → count o.events ≤ packets_of_chunk content (allowed_after o)
+chunk_counts : (e : Endpoint) (tag : ℕ) (content : Content) (o : Outcome) → ContentTurn e tag content o → count o.events ≤ packets_of_chunk e.options content (allowed_after o)
 chunk_counts e tag (init theirs) o turn = subst (Few 1) (sym turn.2) (init_few e theirs e.core turn.0 turn.1)
 chunk_counts e tag (init_ack theirs cookie) o turn =
-    subst (λ (x : Outcome). count x.events ≤ packets_of_chunk (init_ack theirs cookie) (allowed_after x)) (sym turn.3) (init_ack_counts e theirs cookie e.core turn.0 turn.1 turn.2)
+    subst (λ (x : Outcome). count x.events ≤ packets_of_chunk e.options (init_ack theirs cookie) (allowed_after x)) (sym turn.3) (init_ack_counts e theirs cookie e.core turn.0 turn.1 turn.2)
 chunk_counts e tag (cookie_echo bytes) o turn =
-    subst (λ (x : Outcome). count x.events ≤ packets_of_chunk (cookie_echo bytes) (allowed_after x)) (sym turn.3) (echo_counts e e.core tag (cookie_at bytes) turn.0 turn.1 refl turn.2)
+    subst (λ (x : Outcome). count x.events ≤ packets_of_chunk e.options (cookie_echo bytes) (allowed_after x)) (sym turn.3) (echo_counts e e.core tag (cookie_at bytes) turn.0 turn.1 refl turn.2)
 chunk_counts e tag cookie_ack o turn = subst (λ (x : Outcome). count x.events ≤ allowed_after x) (sym turn.2) (cookie_ack_is_burst e e.core turn.0 turn.1)
 chunk_counts e tag (re_config parameters) o turn = reset_behind e e.core parameters o refl turn
 chunk_counts e tag (abort reflected causes) o turn = subst (Few 0) (sym turn) (abort_few e causes e.core)
-chunk_counts e tag (shutdown tsn) o turn = subst (Few 1) (sym turn) (shutdown_few e e.core)
+chunk_counts e tag (shutdown tsn) o turn = heard_counts e tsn o turn
 chunk_counts e tag shutdown_ack o turn = subst (Few 1) (sym turn) (shutdown_ack_few e e.core tag)
 chunk_counts e tag (shutdown_complete reflected) o turn = subst (Few 0) (sym turn) (shutdown_complete_few e e.core)
 chunk_counts e tag (plain chunk) o turn = plain_counts e chunk o turn
@@ -105,10 +106,10 @@ act_counts e (request_again reset) o turn = again_few e reset o turn
 -- ---- every turn
 
 -- The options stay as far as a flush goes.
-keeps_from : (e : Endpoint) (input : Input) (o : Outcome) → SameOptions e.options o.after.options → count o.events ≤ packets_of e.core input (allowed_after o) → KeepsBurst e input o
+keeps_from : (e : Endpoint) (input : Input) (o : Outcome) → SameOptions e.options o.after.options → count o.events ≤ packets_of e.options e.core input (allowed_after o) → KeepsBurst e input o
 keeps_from e input o same few =
     let burst : o.after.options.max_burst ≡ e.options.max_burst = ap (λ (p : Options). p.max_burst) same in
-    subst (λ (b : ℤ). count o.events ≤ packets_of e.core input (flush_limit b o.after.core)) burst few
+    subst (λ (b : ℤ). count o.events ≤ packets_of e.options e.core input (flush_limit b o.after.core)) burst few
 
 turn_counts : (e : Endpoint) (input : Input) (t : Turned) → IsTurn e input t → KeepsBurst e input t.outcome
 turn_counts e arrival t turn = subst (Few 0) (sym turn.comes) (none 0)

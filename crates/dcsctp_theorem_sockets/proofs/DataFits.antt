@@ -121,7 +121,7 @@ fast_fits true e held transfer o turn h fits = at_once_fits e held transfer o tu
 taken_fits : (e : Endpoint) (old new : Transfer) → FitsEndpoint e → FitsEndpoint (sack_taken e old new)
 taken_fits e old new h = record { valid = h.valid; options = h.options; core = h.core; t1 = h.t1 }
 
-acknowledges_fits : (e : Endpoint) (held : Held) (transfer : Transfer) (sack : SackContent) (o : Outcome) → AcknowledgesBy e held transfer sack o → FitsEndpoint e → FitsHeld held → TurnFits o
+pub acknowledges_fits : (e : Endpoint) (held : Held) (transfer : Transfer) (sack : SackContent) (o : Outcome) → AcknowledgesBy e held transfer sack o → FitsEndpoint e → FitsHeld held → TurnFits o
 acknowledges_fits e held transfer sack o turn h fits =
     let step : TurnFits turn.stepped = subst TurnFits (sym turn.steps) (step_fits (sack_taken e transfer turn.left) e.core (taken_fits e transfer turn.left h) h.core) in
     let fast : TurnFits turn.fast = fast_fits (has_fast_retransmit turn.left.retransmission) turn.stepped.after held turn.left turn.fast turn.resends step.after fits in

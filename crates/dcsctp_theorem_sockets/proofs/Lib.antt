@@ -20,6 +20,7 @@ mod HandshakeReads
 mod HandshakeRuns
 mod HandshakeSizes
 mod HandshakeTurns
+mod HeardShutdowns
 mod Idle
 mod IdleTurns
 pub mod Moves

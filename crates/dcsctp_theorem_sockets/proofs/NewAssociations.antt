@@ -16,8 +16,8 @@ use Rattle.dcsctp_spec_lemmas.specs.spec.association.ResumeChanges.{resumed_held
 use Rattle.dcsctp_spec_lemmas.specs.spec.association.Acts.{chunk_change}
 use Rattle.dcsctp_spec_runs.specs.Past.{Has}
 use Rattle.dcsctp_spec_runs.specs.World.{ControlTurn, acted, worked, resumed}
-use Rattle.dcsctp_theorem_sockets.proofs.NoHolding.{IsNoHolding, HoldsNone, none-alone, none-flush, none-reset}
-use Rattle.dcsctp_theorem_sockets.proofs.NoHoldingTurns.{ended_none, again_echo_none, init_none, shutdown_none, shutdown_ack_none, complete_none, plain_none, closed_plain_none, waiting_plain_none, echoed_plain_none, act_none}
+use Rattle.dcsctp_theorem_sockets.proofs.NoHolding.{IsNoHolding, HoldsNone, none-alone, none-flush, none-sent, none-reset}
+use Rattle.dcsctp_theorem_sockets.proofs.NoHoldingTurns.{ended_none, again_echo_none, init_none, heard_none, shutdown_ack_none, complete_none, plain_none, closed_plain_none, waiting_plain_none, echoed_plain_none, act_none}
 
 -- An association that is there from here on isn't the one that was there.
 abbrev pub Anew : Core → List Effect → Type 0
@@ -140,7 +140,7 @@ echoed_chunk_anew options my held echoed header (cookie_echo cookie) choices = e
 echoed_chunk_anew options my held echoed header cookie_ack choices = none_anew (cookie_echoed my held echoed) (cookie_ack_change (cookie_echoed my held echoed) choices).effects (tt, none-flush held.peer.tag held [] choices.filling)
 echoed_chunk_anew options my held echoed header (re_config parameters) choices = none_anew (cookie_echoed my held echoed) _ (none-reset my held parameters choices)
 echoed_chunk_anew options my held echoed header (abort reflected causes) choices = none_anew (cookie_echoed my held echoed) (ends ∷ []) (tt, tt)
-echoed_chunk_anew options my held echoed header (shutdown tsn) choices = none_anew (cookie_echoed my held echoed) [] tt
+echoed_chunk_anew options my held echoed header (shutdown tsn) choices = none_anew (cookie_echoed my held echoed) _ (none-sent held choices)
 echoed_chunk_anew options my held echoed header shutdown_ack choices = none_anew (cookie_echoed my held echoed) (emitted header (shutdown_complete true ∷ [])) (tt, tt)
 echoed_chunk_anew options my held echoed header (shutdown_complete reflected) choices = none_anew (cookie_echoed my held echoed) [] tt
 echoed_chunk_anew options my held echoed header (plain chunk) choices = none_anew (cookie_echoed my held echoed) _ (echoed_plain_none my held echoed choices.is_violation choices)
@@ -153,7 +153,7 @@ open_chunk_anew options phase my held header (cookie_echo cookie) choices = echo
 open_chunk_anew options phase my held header cookie_ack choices = none_anew (open_in phase my held) [] tt
 open_chunk_anew options phase my held header (re_config parameters) choices = none_anew (open_in phase my held) _ (none-reset my held parameters choices)
 open_chunk_anew options phase my held header (abort reflected causes) choices = none_anew (open_in phase my held) (ends ∷ []) (tt, tt)
-open_chunk_anew options phase my held header (shutdown tsn) choices = none_anew (open_in phase my held) _ (shutdown_none phase my held choices.tsn choices.is_acknowledged)
+open_chunk_anew options phase my held header (shutdown tsn) choices = none_anew (open_in phase my held) _ (heard_none phase my held choices)
 open_chunk_anew options phase my held header shutdown_ack choices = none_anew (open_in phase my held) _ (shutdown_ack_none phase my held header choices.following)
 open_chunk_anew options phase my held header (shutdown_complete reflected) choices = none_anew (open_in phase my held) _ (complete_none phase my held)
 open_chunk_anew options phase my held header (plain chunk) choices = none_anew (open_in phase my held) _ (plain_none phase my held choices.is_violation choices)

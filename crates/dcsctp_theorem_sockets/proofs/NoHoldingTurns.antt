@@ -11,7 +11,7 @@ use Rattle.dcsctp_spec_lemmas.specs.spec.association.Effect.{Effect, ends, Chang
 use Rattle.dcsctp_spec_lemmas.specs.spec.association.Choices.{Filling, Choices}
 use Rattle.dcsctp_spec_lemmas.specs.spec.association.HandshakeChanges.{init_change_where_open, echo_change}
 use Rattle.dcsctp_spec_lemmas.specs.spec.association.ShutdownChanges.{shutdown_step_change_in, shutdown_call_change_in, shutdown_again_change_in, shutdown_change_in, shutdown_ack_change_in, shutdown_complete_change_in}
-use Rattle.dcsctp_spec_lemmas.specs.spec.association.Acts.{Act, connect, t1_expires, shut_down, step_of_shutdown, shutdown_repeats, abort_with, hands_over, flushes, request_again, hand_over_change_in, flush_change, act_change, plain_change}
+use Rattle.dcsctp_spec_lemmas.specs.spec.association.Acts.{Act, connect, t1_expires, shut_down, step_of_shutdown, shutdown_repeats, abort_with, hands_over, flushes, request_again, hand_over_change_in, flush_change, act_change, plain_change, shutdown_chunk_change}
 use Rattle.dcsctp_theorem_sockets.proofs.NoHolding.{HoldsNone, none-append, none-alone, none-flush, none-sent, none-request}
 
 pub ended_none : (effects : List Effect) → HoldsNone effects → HoldsNone (effects ++ ends ∷ [])
@@ -70,10 +70,10 @@ pub init_none : (options : Options) (core : Core) (theirs : Introduction) (phase
 init_none options core theirs shutdown_ack_sent held choices = (tt, tt)
 init_none options core theirs phase held choices = (tt, none-alone choices.fits _ _)
 
-pub shutdown_none : (phase : OpenPhase) (my : Pair) (held : Held) (tsn : ℕ) (is_acknowledged : Bool) → HoldsNone (shutdown_change_in phase my held tsn is_acknowledged).effects
+shutdown_none : (phase : OpenPhase) (my : Pair) (held : Held) (tsn : ℕ) (is_acknowledged : Bool) → HoldsNone (shutdown_change_in phase my held tsn is_acknowledged).effects
 shutdown_none established my held tsn is_acknowledged = step_none shutdown_received my held tsn is_acknowledged
 shutdown_none shutdown_pending my held tsn is_acknowledged = step_none shutdown_received my held tsn is_acknowledged
-shutdown_none shutdown_received my held tsn is_acknowledged = tt
+shutdown_none shutdown_received my held tsn is_acknowledged = step_none shutdown_received my held tsn is_acknowledged
 shutdown_none phase my held tsn is_acknowledged = (tt, tt)
 
 pub shutdown_ack_none : (phase : OpenPhase) (my : Pair) (held : Held) (header : ℕ) (following : Following) → HoldsNone (shutdown_ack_change_in phase my held header following).effects
@@ -89,6 +89,11 @@ flush_none : (core : Core) (choices : Choices) → HoldsNone (flush_change core 
 flush_none (cookie_echoed my held cookie) choices = none-sent held choices
 flush_none (open_in phase my held) choices = none-sent held choices
 flush_none core choices = tt
+
+pub heard_none : (phase : OpenPhase) (my : Pair) (held : Held) (choices : Choices) → HoldsNone (shutdown_chunk_change (open_in phase my held) choices).effects
+heard_none phase my held choices =
+    let stepped : Change = shutdown_change_in phase my held choices.tsn choices.is_acknowledged in
+    none-append stepped.effects (flush_change stepped.core choices).effects (shutdown_none phase my held choices.tsn choices.is_acknowledged) (flush_none stepped.core choices)
 
 pub plain_none : (phase : OpenPhase) (my : Pair) (held : Held) (is_violation : Bool) (choices : Choices) → HoldsNone (plain_change (open_in phase my held) is_violation choices).effects
 plain_none phase my held true choices = aborts_none held choices.causes choices.fits

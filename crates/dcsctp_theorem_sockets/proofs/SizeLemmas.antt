@@ -18,11 +18,12 @@ use Rattle.dcsctp_spec_runs.specs.Sockets.{of_side, turns_after}
 use Rattle.dcsctp_spec_runs.proofs.RunsAlong.{run_along_where}
 use Rattle.dcsctp_theorem_sockets.proofs.RestoreTurns.{restore_sizes}
 use Rattle.dcsctp_theorem_sockets.specs.OneSocket.{IsWithinLimit, SocketsKeepSizes}
+use Rattle.dcsctp_theorem_sockets.proofs.HeardShutdowns.{heard_sizes}
 use Rattle.dcsctp_theorem_sockets.proofs.HandoverTurns.{hand_over_sizes}
 use Rattle.dcsctp_theorem_sockets.proofs.Sizes.{AtLimit, AllShort, TurnSizes, short_append}
 use Rattle.dcsctp_theorem_sockets.proofs.SizesChunks.{timer_sizes, reset_sizes, plain_sizes}
 use Rattle.dcsctp_theorem_sockets.proofs.SizesData.{flush_turn_sizes, end_sizes, take_sizes, send_sizes, resets_sizes}
-use Rattle.dcsctp_theorem_sockets.proofs.SizesShutdown.{step_sizes, shut_down_sizes, shutdown_sizes, shutdown_ack_sizes, shutdown_complete_sizes, t2_again_sizes, begin_sizes}
+use Rattle.dcsctp_theorem_sockets.proofs.SizesShutdown.{step_sizes, shut_down_sizes, shutdown_ack_sizes, shutdown_complete_sizes, t2_again_sizes, begin_sizes}
 use Rattle.dcsctp_theorem_sockets.proofs.SizesTurns.{init_sizes, connect_sizes, init_ack_sizes, cookie_ack_sizes, echo_sizes, abort_sizes, aborting_sizes, again_sizes, gives_up_sizes}
 use Rattle.dcsctp_theorem_sockets.proofs.T1Lemmas.{IsMade, MayBe, these_may_come}
 
@@ -35,7 +36,7 @@ chunk_sizes limit e tag (cookie_echo bytes) o turn h = subst (TurnSizes limit) (
 chunk_sizes limit e tag cookie_ack o turn h = subst (TurnSizes limit) (sym turn.2) (cookie_ack_sizes limit e e.core turn.0 turn.1 h)
 chunk_sizes limit e tag (re_config parameters) o turn h = reset_sizes limit e e.core parameters o turn h
 chunk_sizes limit e tag (abort reflected causes) o turn h = subst (TurnSizes limit) (sym turn) (abort_sizes limit e causes e.core h)
-chunk_sizes limit e tag (shutdown tsn) o turn h = subst (TurnSizes limit) (sym turn) (shutdown_sizes limit e e.core h)
+chunk_sizes limit e tag (shutdown tsn) o turn h = heard_sizes limit e tsn o turn h
 chunk_sizes limit e tag shutdown_ack o turn h = subst (TurnSizes limit) (sym turn) (shutdown_ack_sizes limit e e.core tag h)
 chunk_sizes limit e tag (shutdown_complete reflected) o turn h = subst (TurnSizes limit) (sym turn) (shutdown_complete_sizes limit e e.core h)
 chunk_sizes limit e tag (plain chunk) o turn h = plain_sizes limit e chunk o turn h

@@ -90,7 +90,7 @@ fast_sizes : (b : Bool) (limit : ℕ) (e : Endpoint) (held : Held) (transfer : T
 fast_sizes false limit e held transfer o turn h = subst (TurnSizes limit) (sym turn) (h, tt)
 fast_sizes true limit e held transfer o turn h = at_once_sizes limit e held transfer o turn h
 
-acknowledges_sizes : (limit : ℕ) (e : Endpoint) (held : Held) (transfer : Transfer) (sack : SackContent) (o : Outcome) → AcknowledgesBy e held transfer sack o → AtLimit limit e → TurnSizes limit o
+pub acknowledges_sizes : (limit : ℕ) (e : Endpoint) (held : Held) (transfer : Transfer) (sack : SackContent) (o : Outcome) → AcknowledgesBy e held transfer sack o → AtLimit limit e → TurnSizes limit o
 acknowledges_sizes limit e held transfer sack o turn h =
     let step : TurnSizes limit turn.stepped = subst (TurnSizes limit) (sym turn.steps) (step_sizes limit (sack_taken e transfer turn.left) e.core h) in
     let fast : TurnSizes limit turn.fast = fast_sizes (has_fast_retransmit turn.left.retransmission) limit turn.stepped.after held turn.left turn.fast turn.resends step.0 in

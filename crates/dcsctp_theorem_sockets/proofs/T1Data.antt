@@ -69,7 +69,7 @@ fast_up true e held transfer o turn h =
     subst UpAfter (sym turn.is)
     (kept_up None base (goes_out base [] with_checksum held.peer.tag (plain_contents turn.chunks)) (goes_out_keeps base [] with_checksum held.peer.tag (plain_contents turn.chunks)) h)
 
-acknowledges_up : (e : Endpoint) (held : Held) (transfer : Transfer) (sack : SackContent) (o : Outcome) → AcknowledgesBy e held transfer sack o → Up e → UpAfter o
+pub acknowledges_up : (e : Endpoint) (held : Held) (transfer : Transfer) (sack : SackContent) (o : Outcome) → AcknowledgesBy e held transfer sack o → Up e → UpAfter o
 acknowledges_up e held transfer sack o turn h =
     let step : UpAfter turn.stepped = subst UpAfter (sym turn.steps) (step_up (sack_taken e transfer turn.left) e.core h) in
     let fast : UpAfter turn.fast = fast_up (has_fast_retransmit turn.left.retransmission) turn.stepped.after held turn.left turn.fast turn.resends step in

@@ -18,7 +18,8 @@ use Rattle.dcsctp_theorem_sockets.proofs.HandoverTurns.{hand_over_up}
 use Rattle.dcsctp_theorem_sockets.proofs.Resets.{reset_up}
 use Rattle.dcsctp_theorem_sockets.proofs.T1Turns.{Up, UpAfter, init_up, connect_up, init_ack_up, cookie_ack_up, echo_up, abort_up, aborting_up, again_up, gives_up_up}
 use Rattle.dcsctp_theorem_sockets.proofs.T1Chunks.{plain_up, timer_up}
-use Rattle.dcsctp_theorem_sockets.proofs.T1Shutdown.{step_up, shut_down_up, shutdown_up, shutdown_ack_up, shutdown_complete_up, t2_again_up, begin_up}
+use Rattle.dcsctp_theorem_sockets.proofs.HeardShutdowns.{heard_up}
+use Rattle.dcsctp_theorem_sockets.proofs.T1Shutdown.{step_up, shut_down_up, shutdown_ack_up, shutdown_complete_up, t2_again_up, begin_up}
 use Rattle.dcsctp_theorem_sockets.proofs.TimerFits.{goes_on_runs}
 use Rattle.dcsctp_theorem_sockets.proofs.T1Data.{flush_turn_up, end_up, take_up, send_up, resets_up}
 
@@ -68,7 +69,7 @@ chunk_up e tag (cookie_echo bytes) o turn h = subst UpAfter (sym turn.3) (echo_u
 chunk_up e tag cookie_ack o turn h = subst UpAfter (sym turn.2) (cookie_ack_up e e.core turn.0 turn.1 h)
 chunk_up e tag (re_config parameters) o turn h = reset_up e e.core parameters o turn h
 chunk_up e tag (abort reflected causes) o turn h = subst UpAfter (sym turn) (abort_up e causes e.core h)
-chunk_up e tag (shutdown tsn) o turn h = subst UpAfter (sym turn) (shutdown_up e e.core h)
+chunk_up e tag (shutdown tsn) o turn h = heard_up e tsn o turn h
 chunk_up e tag shutdown_ack o turn h = subst UpAfter (sym turn) (shutdown_ack_up e e.core tag h)
 chunk_up e tag (shutdown_complete reflected) o turn h = subst UpAfter (sym turn) (shutdown_complete_up e e.core h)
 chunk_up e tag (plain chunk) o turn h = plain_up e chunk o turn h

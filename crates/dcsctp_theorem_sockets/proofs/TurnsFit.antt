@@ -32,7 +32,8 @@ use Rattle.dcsctp_theorem_sockets.proofs.PlainFits.{plain_fits}
 use Rattle.dcsctp_theorem_sockets.proofs.Resets.{reset_fits}
 use Rattle.dcsctp_theorem_sockets.proofs.Sendable.{init_sendable, init_ack_sendable, echo_sendable, ack_sendable, abort_sendable}
 use Rattle.dcsctp_theorem_sockets.proofs.Sent.{all_sent_append}
-use Rattle.dcsctp_theorem_sockets.proofs.ShutdownFits.{shutdown_ack_sendable, shutdown_fits, shutdown_ack_fits, shutdown_complete_fits, refused_restart_fits}
+use Rattle.dcsctp_theorem_sockets.proofs.HeardShutdowns.{heard_fits}
+use Rattle.dcsctp_theorem_sockets.proofs.ShutdownFits.{shutdown_ack_sendable, shutdown_ack_fits, shutdown_complete_fits, refused_restart_fits}
 
 -- ---- one packet at most
 
@@ -228,7 +229,7 @@ turn_fits law e tag (cookie_echo bytes) o turn h tagged good = subst TurnFits (s
 turn_fits law e tag cookie_ack o turn h tagged good = subst TurnFits (sym turn.2) (cookie_ack_fits e e.core turn.0 turn.1 h h.core)
 turn_fits law e tag (re_config parameters) o turn h tagged good = reset_fits e e.core parameters o turn h h.core good
 turn_fits law e tag (abort reflected causes) o turn h tagged good = subst TurnFits (sym turn) (abort_fits e causes e.core h)
-turn_fits law e tag (shutdown cumulative_tsn) o turn h tagged good = subst TurnFits (sym turn) (shutdown_fits e e.core h h.core)
+turn_fits law e tag (shutdown cumulative_tsn) o turn h tagged good = heard_fits e cumulative_tsn o turn h
 turn_fits law e tag shutdown_ack o turn h tagged good = subst TurnFits (sym turn) (shutdown_ack_fits e e.core tag h h.core tagged)
 turn_fits law e tag (shutdown_complete reflected) o turn h tagged good = subst TurnFits (sym turn) (shutdown_complete_fits e e.core h)
 turn_fits law e tag (plain chunk) o turn h tagged good = plain_fits e chunk o turn h good

@@ -1,6 +1,7 @@
 -- How many packets one turn of a socket may send (RFC 9260, sections 5.1 and 6.1). In each table `flushed` is how many of them a
 -- flush may send; a row without it is of a turn without a flush.
-use Rattle.std.specs.Prelude.{ℕ, ℤ, ◌+◌, max, true, false, None, Some}
+use Rattle.std.specs.Prelude.{ℕ, ℤ, ◌+◌, max, true, false, None, Some, if◌then◌else◌}
+use Rattle.dcsctp_spec_lemmas.specs.types.declared.options.Options.{Options}
 use Rattle.dcsctp_spec_lemmas.specs.wire.Content.{data_chunk, sack_chunk, i_data_chunk, forward_tsn_chunk, i_forward_tsn_chunk}
 use Rattle.dcsctp_spec_lemmas.specs.spec.Packet.{Plain, unknown, heartbeat, heartbeat_ack, unworked, Content, init, init_ack, cookie_echo, cookie_ack, re_config, abort, shutdown, shutdown_ack, shutdown_complete, plain}
 use Rattle.dcsctp_spec_lemmas.specs.spec.endpoint.Endpoint.{Core, closed, cookie_wait, cookie_echoed}
@@ -34,25 +35,25 @@ packets_of_plain (heartbeat parameters) flushed = 1
 packets_of_plain (heartbeat_ack parameters) flushed = 0
 packets_of_plain (unworked chunk) flushed = 0
 
-abbrev pub packets_of_chunk : Content → ℕ → ℕ
+abbrev pub packets_of_chunk : Options → Content → ℕ → ℕ
 -- INIT ACK, or SHUTDOWN ACK again
-packets_of_chunk (init theirs) flushed = 1
+packets_of_chunk options (init theirs) flushed = 1
 -- a flush that begins with COOKIE ECHO
-packets_of_chunk (init_ack theirs (Some cookie)) flushed = flushed
+packets_of_chunk options (init_ack theirs (Some cookie)) flushed = flushed
 -- ABORT, since there is no cookie
-packets_of_chunk (init_ack theirs None) flushed = 1
+packets_of_chunk options (init_ack theirs None) flushed = 1
 -- a flush that begins with COOKIE ACK; or SHUTDOWN ACK again with an ERROR, and no flush
-packets_of_chunk (cookie_echo cookie) flushed = max 1 flushed
-packets_of_chunk cookie_ack flushed = flushed
+packets_of_chunk options (cookie_echo cookie) flushed = max 1 flushed
+packets_of_chunk options cookie_ack flushed = flushed
 -- the answers, and a flush
-packets_of_chunk (re_config parameters) flushed = 1 + flushed
-packets_of_chunk (abort reflected causes) flushed = 0
--- SHUTDOWN ACK
-packets_of_chunk (shutdown cumulative_tsn) flushed = 1
+packets_of_chunk options (re_config parameters) flushed = 1 + flushed
+packets_of_chunk options (abort reflected causes) flushed = 0
+-- SHUTDOWN ACK; by the RFC as many as after a SACK (RFC 9260, section 9.2)
+packets_of_chunk options (shutdown cumulative_tsn) flushed = if options.follow_rfc then 1 + flushed else 1
 -- SHUTDOWN COMPLETE
-packets_of_chunk shutdown_ack flushed = 1
-packets_of_chunk (shutdown_complete reflected) flushed = 0
-packets_of_chunk (plain chunk) flushed = packets_of_plain chunk flushed
+packets_of_chunk options shutdown_ack flushed = 1
+packets_of_chunk options (shutdown_complete reflected) flushed = 0
+packets_of_chunk options (plain chunk) flushed = packets_of_plain chunk flushed
 
 -- ---- what the user and the timers bring
 
@@ -89,19 +90,19 @@ packets_of_timer reconfiguration = 1
 
 -- ---- every input
 
--- of an association that is this before the turn
-abbrev pub packets_of : Core → Input → ℕ → ℕ
-packets_of core arrival flushed = 0
-packets_of core (refusal text) flushed = 0
+-- with these options, of an association that is this before the turn
+abbrev pub packets_of : Options → Core → Input → ℕ → ℕ
+packets_of options core arrival flushed = 0
+packets_of options core (refusal text) flushed = 0
 -- SHUTDOWN again, if data comes while it waits for its answer
-packets_of core (packet_begins contents) flushed = 1
-packets_of core (chunk_input tag content) flushed = packets_of_chunk content flushed
-packets_of core packet_ends flushed = flushed
-packets_of core (act_input act) flushed = packets_of_act core act flushed
-packets_of core (user_sets setting) flushed = 0
-packets_of core (user_sends messages) flushed = flushed
-packets_of core (user_resets ids) flushed = flushed
-packets_of core user_takes flushed = 0
-packets_of core (timer_expires timer) flushed = packets_of_timer timer
-packets_of core (time_passes moment) flushed = 0
-packets_of core (restores state) flushed = 0
+packets_of options core (packet_begins contents) flushed = 1
+packets_of options core (chunk_input tag content) flushed = packets_of_chunk options content flushed
+packets_of options core packet_ends flushed = flushed
+packets_of options core (act_input act) flushed = packets_of_act core act flushed
+packets_of options core (user_sets setting) flushed = 0
+packets_of options core (user_sends messages) flushed = flushed
+packets_of options core (user_resets ids) flushed = flushed
+packets_of options core user_takes flushed = 0
+packets_of options core (timer_expires timer) flushed = packets_of_timer timer
+packets_of options core (time_passes moment) flushed = 0
+packets_of options core (restores state) flushed = 0

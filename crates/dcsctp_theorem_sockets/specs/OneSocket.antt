@@ -82,7 +82,7 @@ SocketsKeepSizes =
 -- A turn sends no more packets than its input allows. How many of them a flush may send is a matter of `max_burst`, and of the
 -- association that the turn leads to.
 abbrev pub KeepsBurst : Endpoint → Input → Outcome → Type 0
-KeepsBurst e input o = length (packets_in o.events) ≤ packets_of e.core input (flush_limit e.options.max_burst o.after.core)
+KeepsBurst e input o = length (packets_in o.events) ≤ packets_of e.options e.core input (flush_limit e.options.max_burst o.after.core)
 
 abbrev pub TurnKeepsBurst : Endpoint → Turned → Type 0
 TurnKeepsBurst e turn = KeepsBurst e turn.input turn.outcome

@@ -1,10 +1,11 @@
 //! Received SACKs (RFC 9260, sections 6.2.1 and 6.3).
 
-ghost use Rattle.std.specs.Prelude.{◌≡◌};
+ghost use Rattle.std.specs.Prelude.{◌≡◌, ◌-◌, ◌^◌, min};
 ghost use Rattle.std.specs.Duration.{as_nanos};
 ghost use Rattle.std.specs.Option.{option_map};
 ghost use Rattle.dcsctp_send_retransmission.specs.wire.Content.{sack_content};
 ghost use Rattle.dcsctp_send_retransmission.specs.spec.endpoint.TimeTurns.{has_come};
+ghost use Rattle.dcsctp_send_retransmission.specs.spec.queues.Acknowledging.{is_sack_valid};
 ghost use Rattle.dcsctp_send_retransmission.specs.spec.queues.Retransmission.{retransmission_deadline};
 ghost use Rattle.dcsctp_send_retransmission.specs.spec.endpoint.TransferMoves.{timed_by};
 ghost use Rattle.dcsctp_send_retransmission.specs.send_streams.Telling.{contents};
@@ -61,6 +62,21 @@ impl Transfer {
                 })
             }
         }
+    }
+
+    /// Does a SACK with this cumulative TSN ack count? One that is old doesn't, nor does one that was never
+    /// sent (RFC 9260, section 6.2.1).
+    pub fn is_valid_ack(&self, cumulative_tsn_ack: u32) -> bool
+        ensures { result ≡ is_sack_valid self.now.retransmission cumulative_tsn_ack }
+    {
+        self.retransmission_queue.is_valid_ack(cumulative_tsn_ack)
+    }
+
+    /// The receive window that the peer told last, in bytes.
+    pub fn peer_window(&self) -> u32
+        ensures { result ≡ min self.now.retransmission.peer_window (2 ^ 32 - 1) }
+    {
+        u32::try_from(self.retransmission_queue.peer_window()).unwrap_or(u32::MAX)
     }
 
     /// When what is in flight is lost, where something is.

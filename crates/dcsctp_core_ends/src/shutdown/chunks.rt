@@ -16,26 +16,26 @@ use rand_core::Rng;
 use std::alloc::AllocError;
 
 // The peer shuts the association down: SHUTDOWN ACK is sent once all that was sent is acknowledged.
-fn receive_shutdown<R: Rng>(context: &mut Context<R>) -> Result<(), AllocError>
+fn enter_shutdown_received<R: Rng>(context: &mut Context<R>) -> Result<(), AllocError>
     ensures { Takes R.stream received_turn context.old result context.new }
 {
     context.state.set_phase(OpenPhase::ShutdownReceived);
     step_shutdown(context)
 }
 
-/// Handles a SHUTDOWN. It counts while an association is open, and is answered by SHUTDOWN ACK. That is sent
-/// at once if a SHUTDOWN or a SHUTDOWN ACK was sent, else once all that was sent is acknowledged. Unlike RFC
-/// 9260, section 9.2, its cumulative TSN ack is not used (docs/DECISIONS.md, Shutdown).
+/// Handles a SHUTDOWN that acknowledges nothing. It counts while an association is open, and is answered by
+/// SHUTDOWN ACK. That is sent at once if a SHUTDOWN or a SHUTDOWN ACK was sent, else once all that was sent
+/// is acknowledged.
 ///
 /// `Err`: an allocation failed; the first of its events may already have been added.
-pub fn handle_shutdown<R: Rng>(context: &mut Context<R>) -> Result<(), AllocError>
+pub fn receive_shutdown<R: Rng>(context: &mut Context<R>) -> Result<(), AllocError>
     ensures { Takes R.stream shutdown_turn context.old result context.new }
 {
     match &context.state {
         State::Closed | State::CookieWait(_) | State::CookieEchoed(_) => Ok(()),
         State::Open(opened) => match opened.phase {
-            OpenPhase::Established => receive_shutdown(context),
-            OpenPhase::ShutdownPending => receive_shutdown(context),
+            OpenPhase::Established => enter_shutdown_received(context),
+            OpenPhase::ShutdownPending => enter_shutdown_received(context),
             OpenPhase::ShutdownSent(_) => enter_shutdown_ack_sent(context),
             OpenPhase::ShutdownReceived => Ok(()),
             OpenPhase::ShutdownAckSent(_) => enter_shutdown_ack_sent(context),

@@ -15,7 +15,7 @@ impl Backlog {
     ghost use Rattle.dcsctp_api.specs.types.queues.SendStreams.{Waiting, front_of, is_expired, stream_at};
     ghost use Rattle.dcsctp_send_streams.specs.Telling.{contents, TellsFront};
     ghost use Rattle.dcsctp_send_streams.specs.Fragment.{HasSize};
-    ghost use Rattle.dcsctp_api.specs.spec.queues.Sending.{fragment, after_part, part_events, after_last, last_events, DropsAll, size_produced, produced, produced_events, begun, TakesNext, DiscardsNamed};
+    ghost use Rattle.dcsctp_api.specs.spec.queues.Sending.{next_turn, counting, fragment, after_part, part_events, after_last, last_events, DropsAll, size_produced, produced, produced_events, begun, TakesNext, DiscardsNamed};
     ghost use Rattle.dcsctp_send_queue.specs.Leaving.{HasMore, HasRest, DropsSome, NextUnexpired};
     ghost use Rattle.dcsctp_send_queue.specs.Calls.{StopsTaking, StopsDiscarding};
 
@@ -230,6 +230,31 @@ impl Backlog {
         Ok(Some(data))
     }
 
+    // The number of the turn that is taken now.
+    #[inline(always)]
+    fn next_turn(&self) -> u64
+        ensures { result ≡ next_turn (queue_of self.now) }
+    {
+        if self.takes_turns {
+            self.turns_taken.wrapping_add(1)
+        } else {
+            self.turns_taken
+        }
+    }
+
+    // Counts a message of the stream that is begun, and the stream's turn.
+    #[inline(always)]
+    fn count(&mut self, place: usize, is_unordered: bool)
+        requires { place < length self.old.streams }
+        ensures { queue_of self.new ≡ counting place is_unordered (queue_of self.old) }
+    {
+        let turn = self.next_turn();
+        self.streams
+            .count_begun(place, self.is_interleaved, is_unordered);
+        self.streams.serve(place, turn);
+        self.turns_taken = turn;
+    }
+
     // Takes a fragment of that many bytes, which isn't the last.
     #[inline(always)]
     fn produce_part(
@@ -252,8 +277,7 @@ impl Backlog {
         self.tell_low(events, place, size)?;
         self.reduce(place, size);
         if under_way.sent == 0 {
-            self.streams
-                .count_begun(place, self.is_interleaved, is_unordered);
+            self.count(place, is_unordered);
         }
         self.under_way = Some(UnderWay {
             stream_id: under_way.stream_id,
@@ -288,8 +312,7 @@ impl Backlog {
         message.tell_fully_sent(events)?;
         self.reduce(place, left);
         if under_way.sent == 0 {
-            self.streams
-                .count_begun(place, self.is_interleaved, is_unordered);
+            self.count(place, is_unordered);
         }
         self.under_way = None;
         let message = self.streams.pop(place).unwrap();

@@ -21,8 +21,19 @@ impl RetransmissionQueue {
     ghost use Rattle.dcsctp_api.specs.spec.queues.Reports.{MissesUntil, IsNewlyAcknowledged, IsLast};
     ghost use Rattle.dcsctp_api.specs.spec.queues.Outstanding.{tsn_at};
     ghost use Rattle.dcsctp_send_retransmission.specs.Queue.{HandlesSack};
-    ghost use Rattle.dcsctp_api.specs.spec.queues.Acknowledging.{acknowledged_until, missed_until, settled_at, is_recovering};
+    ghost use Rattle.dcsctp_api.specs.spec.queues.Acknowledging.{acknowledged_until, missed_until, settled_at, is_recovering, is_sack_valid};
     ghost use Rattle.dcsctp_api.specs.spec.queues.RoundTrip.{round_trip_at};
+
+    /// Does a cumulative TSN ack count? One that is old doesn't, nor does one that was never sent (RFC 9260,
+    /// section 6.2.1).
+    pub fn is_valid_ack(&self, cumulative_tsn_ack: u32) -> bool
+        ensures { result ≡ is_sack_valid self.now cumulative_tsn_ack }
+    {
+        let count = self
+            .outstanding
+            .distance_to(cumulative_tsn_ack.wrapping_add(1));
+        count <= self.outstanding.len()
+    }
 
     /// Takes a SACK into account, with its blocks in ascending order, apart from each other and from 1 on.
     /// TSNs that were never sent are skipped (RFC 9260, sections 6.2.1, 6.3 and 7.2).

@@ -109,6 +109,12 @@ plain_change core false choices =
     let stepped : Change = shutdown_step_change core choices.tsn choices.is_acknowledged in
     then_changes stepped (flush_change stepped.core choices) choices.following
 
+-- A SHUTDOWN may acknowledge what is in flight, and let data be sent.
+abbrev pub shutdown_chunk_change : Core → Choices → Change
+shutdown_chunk_change core choices =
+    let stepped : Change = shutdown_change core choices.tsn choices.is_acknowledged in
+    then_changes stepped (flush_change stepped.core choices) next_chunk
+
 -- a chunk of a packet with this header tag
 abbrev pub chunk_change : Options → Core → ℕ → Content → Choices → Change
 chunk_change options core header (init theirs) choices = init_change options core theirs choices
@@ -117,7 +123,7 @@ chunk_change options core header (cookie_echo cookie) choices = cookie_echo_chan
 chunk_change options core header cookie_ack choices = cookie_ack_change core choices
 chunk_change options core header (re_config parameters) choices = re_config_change core parameters choices
 chunk_change options core header (abort reflected causes) choices = abort_change core
-chunk_change options core header (shutdown cumulative_tsn) choices = shutdown_change core choices.tsn choices.is_acknowledged
+chunk_change options core header (shutdown cumulative_tsn) choices = shutdown_chunk_change core choices
 chunk_change options core header shutdown_ack choices = shutdown_ack_change core header choices.following
 chunk_change options core header (shutdown_complete reflected) choices = shutdown_complete_change core
 chunk_change options core header (plain chunk) choices = plain_change core choices.is_violation choices

@@ -63,12 +63,12 @@ abort_change (cookie_echoed my held cookie) = ended []
 abort_change (open_in phase my held) = ended []
 abort_change core = unchanged core
 
--- the peer shuts the association down
+-- The peer shuts the association down. What it acknowledges may be the last.
 abbrev pub shutdown_change_in : OpenPhase → Pair → Held → ℕ → Bool → Change
 shutdown_change_in established my held tsn is_acknowledged = shutdown_step_change_in shutdown_received my held tsn is_acknowledged
 shutdown_change_in shutdown_pending my held tsn is_acknowledged = shutdown_step_change_in shutdown_received my held tsn is_acknowledged
 shutdown_change_in shutdown_sent my held tsn is_acknowledged = sending_change shutdown_ack_sent my held (shutdown_ack ∷ [])
-shutdown_change_in shutdown_received my held tsn is_acknowledged = unchanged (open_in shutdown_received my held)
+shutdown_change_in shutdown_received my held tsn is_acknowledged = shutdown_step_change_in shutdown_received my held tsn is_acknowledged
 shutdown_change_in shutdown_ack_sent my held tsn is_acknowledged = sending_change shutdown_ack_sent my held (shutdown_ack ∷ [])
 
 abbrev pub shutdown_change : Core → ℕ → Bool → Change

@@ -1,6 +1,6 @@
 -- The turn of RE-CONFIG: what the peer asks to be reset, how it is answered, and what it answers (RFC 6525, section 5.2). Which
 -- numbers are accepted, and with which answer, is in association/ResetChanges (`work_chunk`); the rest is here.
-use Rattle.std.specs.Prelude.{◌≡◌, ◌==◌, ℕ, Bool, true, false, not, Option, None, Some, List, [], ◌∷◌, ◌++◌, codes}
+use Rattle.std.specs.Prelude.{◌≡◌, ◌==◌, ℕ, Bool, true, false, not, Option, None, Some, List, [], ◌∷◌, ◌++◌, codes, if◌then◌else◌}
 use Rattle.std.specs.List.{list_any}
 use Rattle.std.specs.Option.{option_map}
 use Rattle.dcsctp_types.specs.wire.declared.reconfiguration.ReconfigurationResponseResult.TheVariants.{InProgress}
@@ -133,13 +133,15 @@ abbrev pub own_ended : SendQueueState → Endpoint → Endpoint
 own_ended queue e =
     record e { outstanding = None; timers = record e.timers { reconfiguration = None }; below = record e.below { queue = queue } }
 
--- the endpoint once its own request got this answer
+-- The endpoint once its own request got this answer. By the RFC an answer shows that the peer is there, so no error counts (RFC
+-- 9260, section 8.1).
 abbrev pub own_moved : OwnAnswer → Endpoint → Endpoint
 own_moved unanswered e = e
 own_moved retried e =
     record e {
       outstanding = option_map waiting e.outstanding;
       timers = record e.timers { reconfiguration = started e.moment (reconfiguration_settings (rto_of e.below.transfer)) };
+      error_count = if e.options.follow_rfc then 0 else e.error_count;
     }
 own_moved was_performed e = own_ended (queue_committed e.below.queue) e
 own_moved has_failed e = own_ended (queue_rolled_back e.below.queue) e

@@ -114,8 +114,8 @@ shutdown_outcome_in e shutdown_sent my held = shutdown_ack_is_sent e my held
 shutdown_outcome_in e shutdown_received my held = still e
 shutdown_outcome_in e shutdown_ack_sent my held = shutdown_ack_is_sent e my held
 
--- A SHUTDOWN is received, from a peer whose COOKIE ACK isn't awaited. Its cumulative TSN ack isn't used. Its change is
--- `shutdown_change`.
+-- A SHUTDOWN is received, from a peer whose COOKIE ACK isn't awaited. Its cumulative TSN ack isn't used here (see HeardShutdown).
+-- Its change is `shutdown_change`.
 abbrev pub shutdown_outcome : Endpoint → Core → Outcome
 shutdown_outcome e (open_in phase my held) = shutdown_outcome_in e phase my held
 shutdown_outcome e core = still e

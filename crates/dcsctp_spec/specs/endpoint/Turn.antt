@@ -18,7 +18,8 @@ use Rattle.dcsctp_spec.specs.endpoint.ResetOutcomes.{ResetTurn}
 use Rattle.dcsctp_spec.specs.endpoint.RestoreOutcomes.{RestoreTurn}
 use Rattle.dcsctp_types.specs.Setting.{Setting}
 use Rattle.dcsctp_spec.specs.endpoint.SettingOutcomes.{setting_outcome}
-use Rattle.dcsctp_spec.specs.endpoint.ShutdownOutcomes.{step_outcome, shut_down_outcome, shutdown_outcome, shutdown_ack_outcome, shutdown_complete_outcome, t2_again_outcome, shutdown_repeated}
+use Rattle.dcsctp_spec.specs.endpoint.HeardShutdown.{ShutdownTurn}
+use Rattle.dcsctp_spec.specs.endpoint.ShutdownOutcomes.{step_outcome, shut_down_outcome, shutdown_ack_outcome, shutdown_complete_outcome, t2_again_outcome, shutdown_repeated}
 use Rattle.dcsctp_spec.specs.endpoint.TimerOutcomes.{T1AgainTurn, t1_gives_up_outcome}
 use Rattle.dcsctp_spec.specs.association.Acts.{Act, connect, t1_expires, shut_down, step_of_shutdown, shutdown_repeats, abort_with, hands_over, flushes, request_again}
 use Rattle.dcsctp_spec.specs.association.Controlled.{ControlledAct}
@@ -84,7 +85,7 @@ ContentTurn e tag (cookie_echo cookie) o = CookieEchoTurn e tag cookie o
 ContentTurn e tag cookie_ack o = CookieAckTurn e o
 ContentTurn e tag (re_config parameters) o = ResetTurn e e.core parameters o
 ContentTurn e tag (abort reflected causes) o = o ≡ abort_outcome e causes e.core
-ContentTurn e tag (shutdown cumulative_tsn) o = o ≡ shutdown_outcome e e.core
+ContentTurn e tag (shutdown cumulative_tsn) o = ShutdownTurn e e.core cumulative_tsn o
 ContentTurn e tag shutdown_ack o = o ≡ shutdown_ack_outcome e e.core tag
 ContentTurn e tag (shutdown_complete reflected) o = o ≡ shutdown_complete_outcome e e.core
 ContentTurn e tag (plain chunk) o = PlainTurn e chunk o

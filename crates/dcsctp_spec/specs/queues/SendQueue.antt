@@ -27,6 +27,10 @@ pub record SendQueueState : Type 0 where
   pub is_interleaved : Bool
   -- counts the messages in the order in which they were added
   pub next_message_id : ℕ
+  -- Do streams of equal priority take turns? By the RFC they do (RFC 8260, section 3.2).
+  pub takes_turns : Bool
+  -- how many turns were taken
+  pub turns_taken : ℕ
 
 -- as it is before any message
 abbrev pub empty_queue : Options → SendQueueState
@@ -40,6 +44,8 @@ empty_queue options =
       default_threshold = options.default_stream_buffered_amount_low_threshold;
       is_interleaved = false;
       next_message_id = 0;
+      takes_turns = options.follow_rfc;
+      turns_taken = 0;
     }
 
 -- ---- what is true of it at all times

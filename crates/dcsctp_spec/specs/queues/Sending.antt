@@ -2,7 +2,7 @@
 use Rattle.std.specs.Prelude.{◌≡◌, ◌<◌, ℕ, ◌+◌, ◌-◌, ◌^◌, ◌%◌, ◌==◌, min, nat_le, Bool, true, false, Option, None, Some, List, [], ◌++◌, length, take, drop, slice_set, if◌then◌else◌}
 use Rattle.dcsctp_spec.specs.endpoint.Event.{Event}
 use Rattle.dcsctp_types.specs.declared.sending.UnderWay.{UnderWay}
-use Rattle.dcsctp_types.specs.queues.SendStreams.{Waiting, Stream, front_of, is_expired, without_front, next_numbers, counted, stream_at, turns_of, IsNext}
+use Rattle.dcsctp_types.specs.queues.SendStreams.{Waiting, Stream, front_of, is_expired, without_front, next_numbers, counted, served, stream_at, turns_of, IsNext}
 use Rattle.dcsctp_spec.specs.queues.SendEvents.{low_events, expiry_events, sent_events}
 use Rattle.dcsctp_spec.specs.queues.SendQueue.{SendQueueState}
 
@@ -75,12 +75,21 @@ reduced place size queue =
 abbrev pub without_oldest : ℕ → SendQueueState → SendQueueState
 without_oldest place queue = record queue { streams = slice_set queue.streams place (without_front (stream_at queue.streams place)) }
 
--- its numbers are used up, if it is begun
+-- the number of the turn that is taken now: none counts if streams don't take turns
+abbrev pub next_turn : SendQueueState → ℕ
+next_turn queue = if queue.takes_turns then (queue.turns_taken + 1) % 2 ^ 64 else queue.turns_taken
+
+-- A message of the stream at the place is begun: its numbers are used up, and the stream has had its turn.
+abbrev pub counting : ℕ → Bool → SendQueueState → SendQueueState
+counting place is_unordered queue =
+    record queue {
+      streams = slice_set queue.streams place (served (next_turn queue) (counted queue.is_interleaved is_unordered (stream_at queue.streams place)));
+      turns_taken = next_turn queue;
+    }
+
+-- It is counted, if it is begun.
 abbrev pub numbered : ℕ → Waiting → UnderWay → SendQueueState → SendQueueState
-numbered place message under_way queue =
-    if under_way.sent == 0
-    then record queue { streams = slice_set queue.streams place (counted queue.is_interleaved message.is_unordered (stream_at queue.streams place)) }
-    else queue
+numbered place message under_way queue = if under_way.sent == 0 then counting place message.is_unordered queue else queue
 
 -- after a fragment of that many bytes that isn't the last
 abbrev pub after_part : ℕ → ℕ → Waiting → UnderWay → SendQueueState → SendQueueState

@@ -25,6 +25,8 @@ pub record Stream : Type 0 where
   pub next_ssn : ℕ
   pub next_mid : ℕ
   pub next_unordered_mid : ℕ
+  -- Which turn it had last, counted from 1? 0 if it had none, or if streams of equal priority don't take turns.
+  pub last_turn : ℕ
   pub pause : Pause
   -- the oldest first, and among them the one that is under way
   pub messages : List Waiting
@@ -46,7 +48,7 @@ is_expired now message = expired_by now message.expires_at
 -- a stream that was never used
 abbrev pub unused : ℕ → ℕ → ℕ → Stream
 unused id priority threshold =
-    record { id = id; priority = priority; threshold = threshold; amount = 0; next_ssn = 0; next_mid = 0; next_unordered_mid = 0; pause = Open; messages = [] }
+    record { id = id; priority = priority; threshold = threshold; amount = 0; next_ssn = 0; next_mid = 0; next_unordered_mid = 0; last_turn = 0; pause = Open; messages = [] }
 
 -- the oldest message
 abbrev pub front_of : List Waiting → Option Waiting
@@ -97,6 +99,10 @@ counted false true stream = stream
 counted true false stream = record stream { next_mid = (stream.next_mid + 1) % 2 ^ 32 }
 counted true true stream = record stream { next_unordered_mid = (stream.next_unordered_mid + 1) % 2 ^ 32 }
 
+-- it had this turn
+abbrev pub served : ℕ → Stream → Stream
+served turn stream = record stream { last_turn = turn }
+
 -- it was reset, if it was handed out
 abbrev pub committed : Stream → Stream
 committed stream = committed_if stream.pause stream
@@ -132,12 +138,17 @@ abbrev pub IsAscending : List Stream → Type 0
 IsAscending [] = Unit {0}
 IsAscending (stream ∷ streams) = IsBelow stream.id streams × IsAscending streams
 
--- ---- whose turn it is: streams are asked by priority, the greatest first, then by number, the least first
+-- ---- whose turn it is: streams are asked by priority, the greatest first, then by their last turn, the oldest first, and then by
+-- number, the least first
+
+-- Of two streams of equal priority, is the first asked after the other?
+abbrev pub is_later : Turn → Turn → Bool
+is_later first other =
+    nat_lt other.last_turn first.last_turn || (first.last_turn == other.last_turn && nat_lt other.stream_id.0 first.stream_id.0)
 
 -- Is the first asked after the other?
 abbrev pub comes_after : Turn → Turn → Bool
-comes_after first other =
-    nat_lt first.priority other.priority || (first.priority == other.priority && nat_lt other.stream_id.0 first.stream_id.0)
+comes_after first other = nat_lt first.priority other.priority || (first.priority == other.priority && is_later first other)
 
 -- the turns with one more; the last is the first to be asked
 abbrev pub with_turn : Turn → List Turn → List Turn
@@ -153,15 +164,15 @@ abbrev pub stream_at : List Stream → ℕ → Stream
 stream_at streams place = slice_index_or streams place (unused 0 0 0)
 
 -- the turn of an open stream with a message
-abbrev pub turn_if : ℕ → ℕ → Pause → List Waiting → Option Turn
-turn_if priority id Open [] = None
-turn_if priority id Open (message ∷ messages) = Some (record { priority = priority; stream_id = record { 0 = id } })
-turn_if priority id Pausing messages = None
-turn_if priority id HandedOut messages = None
+abbrev pub turn_if : ℕ → ℕ → ℕ → Pause → List Waiting → Option Turn
+turn_if priority last_turn id Open [] = None
+turn_if priority last_turn id Open (message ∷ messages) = Some (record { priority = priority; last_turn = last_turn; stream_id = record { 0 = id } })
+turn_if priority last_turn id Pausing messages = None
+turn_if priority last_turn id HandedOut messages = None
 
 -- a stream's turn, if it may begin a message
 abbrev pub turn_of : Stream → Option Turn
-turn_of stream = turn_if stream.priority stream.id stream.pause stream.messages
+turn_of stream = turn_if stream.priority stream.last_turn stream.id stream.pause stream.messages
 
 -- the turns of all streams
 abbrev pub turns_of : List Stream → List Turn

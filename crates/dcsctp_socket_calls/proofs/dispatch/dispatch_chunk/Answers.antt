@@ -4,7 +4,7 @@ use Rattle.dcsctp_core.specs.wire.Content.{cause_content, parameter_content}
 use Rattle.dcsctp_core.specs.spec.endpoint.HeartbeatOutcomes.{counter_of, info_in}
 use Rattle.dcsctp_core_heartbeat.specs.Heartbeats.{heartbeat_turn, heartbeat_ack_turn}
 use Rattle.dcsctp_core.specs.wire.Content.{init_content, data_content, i_data_content, sack_content, data_chunk, i_data_chunk, sack_chunk, forward_tsn_chunk, i_forward_tsn_chunk}
-use Rattle.dcsctp_core.specs.spec.Packet.{introduction_in, cookie_in, init_ack, cookie_echo, cookie_ack, re_config, shutdown_ack, plain, unworked}
+use Rattle.dcsctp_core.specs.spec.Packet.{introduction_in, cookie_in, init_ack, cookie_echo, cookie_ack, re_config, shutdown, shutdown_ack, plain, unworked}
 use Rattle.dcsctp_core.specs.spec.Packet as machine
 use Rattle.dcsctp_core.specs.spec.queues.Arrivals.{Arrival, data_arrival, i_data_arrival, skipped_in, messages_skipped_in}
 use Rattle.dcsctp_core.specs.Handling.{TakesIn, CutIn}
@@ -16,10 +16,11 @@ use Rattle.dcsctp_socket_calls.proofs.ChunkLemmas.{init_worked, init_cut, works_
 use Rattle.dcsctp_socket_calls.specs.Unknown.{unknown_turn}
 use Rattle.dcsctp_core_data.specs.Data.{DataAt, ForwardAt}
 use Rattle.dcsctp_core_data.specs.Sacks.{SackAt}
+use Rattle.dcsctp_core_data.specs.Shutdown.{ShutdownAt}
 use Rattle.dcsctp_core_resets.specs.Requests.{reset_parameters}
 use Rattle.dcsctp_core_resets.specs.Resets.{ReConfigAt}
-use Rattle.dcsctp_socket_calls.proofs.DataTurns.{data_goes, forward_goes, sack_goes, cookie_ack_goes, reset_goes}
-use Rattle.dcsctp_socket_calls.proofs.DispatchLemmas.{none_for, shutdown_worked, shutdown_cut, unknown_is, tries_worked, tries_cut, heartbeat_follows, heartbeat_ack_follows, heartbeat_is, heartbeat_ack_is, error_follows, error_is, plain_at, takes_worked, takes_cut}
+use Rattle.dcsctp_socket_calls.proofs.DataTurns.{data_goes, forward_goes, sack_goes, shutdown_goes, cookie_ack_goes, reset_goes}
+use Rattle.dcsctp_socket_calls.proofs.DispatchLemmas.{none_for, unknown_is, tries_worked, tries_cut, heartbeat_follows, heartbeat_ack_follows, heartbeat_is, heartbeat_ack_is, error_follows, error_is, plain_at, takes_worked, takes_cut}
 use Rattle.dcsctp_socket_calls.proofs.dispatch.dispatch_chunk.Goals as goal
 
 pub returns-in_ok-handle_init-in-Init : goal.returns-in_ok-handle_init-in-Init
@@ -76,14 +77,19 @@ returns-in_err-handle_heartbeat_ack-in-HeartbeatAck g c =
 
 pub returns-in_ok-handle_shutdown-in-Shutdown : goal.returns-in_ok-handle_shutdown-in-Shutdown
 returns-in_ok-handle_shutdown-in-Shutdown g c =
+    let old = c.args.context.now in
+    let tsn = c.in-Shutdown.shutdown.cumulative_tsn_ack in
     rw c.in-Shutdown.is
-    (shutdown_worked g.R.Rng.stream (view_of c.args.context.now) (view_of c.handle_shutdown.new.context) c.args.header_tag _ c.in_ok-handle_shutdown-in-Shutdown.ensures)
+    (takes_worked g.R.Rng.stream (view_of old) (view_of c.handle_shutdown.new.context) c.args.header_tag (shutdown tsn) (ShutdownAt tsn) (λ o turn. turn)
+    (λ o turn. shutdown_goes (endpoint_of old) (core_of old.state) tsn o turn) c.in_ok-handle_shutdown-in-Shutdown.ensures)
 
 pub returns-in_err-handle_shutdown-in-Shutdown : goal.returns-in_err-handle_shutdown-in-Shutdown
 returns-in_err-handle_shutdown-in-Shutdown g c =
+    let old = c.args.context.now in
+    let tsn = c.in-Shutdown.shutdown.cumulative_tsn_ack in
     rw c.in-Shutdown.is
     (rw (err_from_is_err_and c.from_residual-in_err-handle_shutdown-in-Shutdown.result c.from_residual-in_err-handle_shutdown-in-Shutdown.ensures.1).1
-    (shutdown_cut (view_of c.args.context.now) c.args.header_tag _ _ c.in_err-handle_shutdown-in-Shutdown.ensures))
+    (takes_cut (view_of old) c.args.header_tag (shutdown tsn) (ShutdownAt tsn) (view_of c.handle_shutdown.new.context).events (λ o turn. turn) c.in_err-handle_shutdown-in-Shutdown.ensures))
 
 pub returns-in-ShutdownAck : goal.returns-in-ShutdownAck
 returns-in-ShutdownAck g c =

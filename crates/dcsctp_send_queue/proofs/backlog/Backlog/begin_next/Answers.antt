@@ -36,7 +36,7 @@ returns-clause-can c =
     let may = rw c.in-Some.is at c.in_ok-place.ensures.ok in
     let is = ap (λ u. u.stream_id.0) (c.begun-under_way.ensures may.message may.front) in
     subst (λ (q : SendQueueState). CanGoOn q.streams q.under_way) (sym (c.in_ok-data.ensures.left may.message may.front))
-    (can_go_on-produced _ _ _ may.message _ may.next.within (sym is) may.front c.requires.some)
+    (can_go_on-produced (queue_of c.next_unexpired.new.self) c.in-Some.place c.args.max may.message c.begun-under_way.result may.next.within (sym is) may.front c.requires.some)
 
 pub returns-clause-size : goal.returns-clause-size
 returns-clause-size c =

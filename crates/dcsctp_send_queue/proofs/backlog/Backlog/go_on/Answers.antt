@@ -30,7 +30,7 @@ pub returns-clause-can : goal.returns-clause-can
 returns-clause-can c =
     let rest = c.place_of-place.ensures.rest in
     subst (λ (q : SendQueueState). CanGoOn q.streams q.under_way) (sym (c.in_ok-data.ensures.left rest.message rest.front))
-    (can_go_on-produced _ _ _ rest.message c.args.under_way rest.within c.place_of-place.ensures.stream rest.front c.requires.some)
+    (can_go_on-produced (queue_of c.args.self.now) c.place_of-place.result c.args.max rest.message c.args.under_way rest.within c.place_of-place.ensures.stream rest.front c.requires.some)
 
 pub returns-clause-size : goal.returns-clause-size
 returns-clause-size c =

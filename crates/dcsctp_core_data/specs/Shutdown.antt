@@ -1,0 +1,26 @@
+-- What the handler of SHUTDOWN does, as turns of a socket's view (RFC 9260, section 9.2).
+use Rattle.std.specs.Prelude.{ℕ, ◌-◌, ◌^◌, min, Bool, false, Option, None, Some}
+use Rattle.dcsctp_core.specs.spec.queues.Transfer.{Transfer}
+use Rattle.dcsctp_core.specs.spec.endpoint.Endpoint.{Endpoint, Core, open_in}
+use Rattle.dcsctp_core.specs.spec.endpoint.Outcome.{Outcome}
+use Rattle.dcsctp_core.specs.spec.endpoint.HeardShutdown.{may_have_sent, heeds_shutdown, ShutdownTurn}
+use Rattle.dcsctp_core.specs.View.{View}
+
+-- A SHUTDOWN with this cumulative TSN ack was received.
+abbrev pub ShutdownAt : {R : Type 0} → ℕ → View R → Outcome → Type 0
+ShutdownAt tsn view o = ShutdownTurn view.endpoint view.endpoint.core tsn o
+
+-- May something be in flight?
+abbrev pub may_have_sent_in : Core → Bool
+may_have_sent_in (open_in phase my held) = may_have_sent phase
+may_have_sent_in core = false
+
+-- Does the TSN acknowledge?
+abbrev pub heeds_in : Endpoint → Core → Option Transfer → ℕ → Bool
+heeds_in e (open_in phase my held) (Some transfer) tsn = heeds_shutdown e.options phase transfer tsn
+heeds_in e core transfer tsn = false
+
+-- the window that the peer told last, as the field of a SACK holds it
+abbrev pub window_of : Option Transfer → ℕ
+window_of None = 0
+window_of (Some transfer) = min transfer.retransmission.peer_window (2 ^ 32 - 1)

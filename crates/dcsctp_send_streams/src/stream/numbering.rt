@@ -1,0 +1,40 @@
+//! The numbers of a stream's messages and of its turns.
+
+use super::OutgoingStream;
+
+impl OutgoingStream {
+    ghost use Rattle.std.specs.Prelude.{◌≡◌};
+    ghost use Rattle.dcsctp_api.specs.types.queues.SendStreams.{next_numbers, counted, served};
+
+    /// The numbers of an ordered or unordered message that is started next: SSN and MID. One of the two is
+    /// sent, by whether messages are interleaved.
+    pub fn next_numbers(&self, is_unordered: bool) -> (u16, u32)
+        ensures { result ≡ next_numbers is_unordered self.now }
+    {
+        if is_unordered {
+            (0, self.next_unordered_mid)
+        } else {
+            (self.next_ssn, self.next_mid)
+        }
+    }
+
+    /// Counts a message that is started: with interleaving its MID, else its SSN, which an unordered message
+    /// doesn't have (RFC 8260, section 2.1).
+    pub fn count_begun(&mut self, is_interleaved: bool, is_unordered: bool)
+        ensures { self.new ≡ counted is_interleaved is_unordered self.old }
+    {
+        match (is_interleaved, is_unordered) {
+            (false, false) => self.next_ssn = self.next_ssn.wrapping_add(1),
+            (false, true) => {}
+            (true, false) => self.next_mid = self.next_mid.wrapping_add(1),
+            (true, true) => self.next_unordered_mid = self.next_unordered_mid.wrapping_add(1),
+        }
+    }
+
+    /// It has this turn.
+    pub fn serve(&mut self, turn: u64)
+        ensures { self.new ≡ served turn self.old }
+    {
+        self.last_turn = turn;
+    }
+}
