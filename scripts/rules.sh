@@ -68,7 +68,7 @@ told() {
             ;;
         bulk) values last <<<"$2" | spread %.2f 1000 ;;
         reconnects) values messages <<<"$2" | spread %g 1 ;;
-        closes) values resets <<<"$2" | sum ;;
+        closes | keeps) values resets <<<"$2" | sum ;;
         equals)
             printf '%s; ' "$(values messages <<<"$2" | spread %g 1)"
             values others <<<"$2" | spread %g 1
@@ -98,6 +98,7 @@ table() {
     rows '(default): seconds for 5 MiB' bulk '0 10 100'
     rows '(default): messages that arrived, of five' reconnects 0
     rows '(default): resets that ended in five minutes, of 200' closes '10 50 200'
+    rows '(default): the same' keeps '10 50 200'
     rows '(default): messages in 30 s, of one stream; of the other' equals 10
 }
 

@@ -178,6 +178,7 @@ fn parse_rule(word: &str) -> Option<Rule> {
         "bulk" => Some(Rule::Bulk),
         "reconnects" => Some(Rule::Reconnects),
         "closes" => Some(Rule::Closes),
+        "keeps" => Some(Rule::Keeps),
         "equals" => Some(Rule::Equals),
         _ => None,
     }

@@ -8,8 +8,8 @@
 //! dcsctp_bench hold N [used]
 //! dcsctp_bench strain fragments|interleaved|gaps|links|waiting|streams|reset|skips-repeated|skips-rising|
 //!     skips-waiting|skips-interleaved HELD MORE
-//! dcsctp_bench rules readers|windows|shutdown|bulk|reconnects|closes|equals on|off [loss=PERMILLE] [seed=SEED]
-//!     [window=BYTES]
+//! dcsctp_bench rules readers|windows|shutdown|bulk|reconnects|closes|keeps|equals on|off [loss=PERMILLE]
+//!     [seed=SEED] [window=BYTES]
 //! ```
 //!
 //! `handshakes` makes N pairs of sockets one after another, connects each and drops it. `messages` sends N
@@ -29,6 +29,7 @@ mod arguments;
 mod chunks;
 mod commands;
 mod failure;
+mod keeping;
 mod ledger;
 mod pair;
 mod rules;
@@ -48,8 +49,8 @@ const USAGE: &str = "usage: dcsctp_bench handshakes N
        dcsctp_bench hold N [used]
        dcsctp_bench strain fragments|interleaved|gaps|links|waiting|streams|reset|skips-repeated|skips-rising|
            skips-waiting|skips-interleaved HELD MORE
-       dcsctp_bench rules readers|windows|shutdown|bulk|reconnects|closes|equals on|off [loss=PERMILLE] [seed=SEED]
-           [window=BYTES]";
+       dcsctp_bench rules readers|windows|shutdown|bulk|reconnects|closes|keeps|equals on|off [loss=PERMILLE]
+           [seed=SEED] [window=BYTES]";
 
 // The command that the arguments say; none if they say no command.
 fn command(rt: &(impl Env + Alloc<A = Global>)) -> io::Result<Option<Command>> {

@@ -5,6 +5,7 @@ ghost use Rattle.dcsctp_types.specs.Settings.{IsValid};
 
 use crate::chunks::Chunks;
 use crate::failure::Failure;
+use crate::keeping::Kept;
 use dcsctp_socket::{
     DcSctpSocket, Message, Options, SendOptions, Socket, SocketEvent, SocketFault, SocketTime,
     ZERO_CHECKSUM_ALTERNATE_ERROR_DETECTION_METHOD_LOWER_LAYER_DTLS,
@@ -58,6 +59,9 @@ pub struct Link {
 
     /// How many packets were lost.
     pub lost: u64,
+
+    /// What the second socket seems to answer to requests that are repeated, if it isn't its own answer.
+    pub kept: Option<Kept>,
 }
 
 // Written out: a derived one would be proved at each exit of each function that has a link.
@@ -72,6 +76,7 @@ impl Drop for Link {
             chunks: _,
             loss: _,
             lost: _,
+            kept: _,
         } = self;
     }
 }
@@ -91,7 +96,10 @@ impl Link {
             self.lost = self.lost.saturating_add(1);
             return Ok(());
         }
-        let packet = Vec::from_slice(self.alloc, packet)?;
+        let mut packet = Vec::from_slice(self.alloc, packet)?;
+        if let (Side::A, Some(kept)) = (to, &mut self.kept) {
+            kept.repeat(&mut packet);
+        }
         let due = self.now + self.delay;
         self.flying.push_back(Parcel { to, due, packet })?;
         Ok(())
@@ -307,6 +315,7 @@ impl Pair {
             chunks: None,
             loss: 0,
             lost: 0,
+            kept: None,
         };
         Ok(Pair { a, b, link })
     }

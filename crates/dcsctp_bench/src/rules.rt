@@ -2,6 +2,7 @@
 //! with a round trip of 50 ms.
 
 use crate::failure::Failure;
+use crate::keeping::Kept;
 use crate::trial::{Goal, Load, Trial};
 use dcsctp_socket::{Options, SocketTime};
 use std::alloc::Global;
@@ -29,6 +30,10 @@ pub enum Rule {
 
     /// Each second another stream is reset, right after three messages were sent on it.
     Closes,
+
+    /// The same, where the peer gives its first answer again to a request that is repeated (RFC 6525, section
+    /// 5.2.1).
+    Keeps,
 
     /// For half a minute messages always wait on two streams of the same priority.
     Equals,
@@ -92,11 +97,22 @@ fn long(count: u32, streams: u16) -> Load {
 }
 
 impl Case {
+    // Does the peer give its first answer again to a request that is repeated?
+    fn keeps_answers(&self) -> bool {
+        match self.rule {
+            Rule::Keeps => true,
+            Rule::Readers | Rule::Windows | Rule::Shutdown | Rule::Bulk => false,
+            Rule::Reconnects | Rule::Closes | Rule::Equals => false,
+        }
+    }
+
     // The options of both sockets.
     fn options(&self) -> Options {
         let mut options = Options::default();
         options.follow_rfc = self.follows_rfc;
         options.max_receiver_window_buffer_size = self.window as usize;
+        // Answers are changed on their way, and the checksum isn't.
+        options.disable_checksum_verification = self.keeps_answers();
         options
     }
 
@@ -107,7 +123,7 @@ impl Case {
             Rule::Windows => short(600),
             Rule::Shutdown => short(200),
             Rule::Bulk => long(320, 1),
-            Rule::Reconnects | Rule::Closes => short(0),
+            Rule::Reconnects | Rule::Closes | Rule::Keeps => short(0),
             Rule::Equals => long(u32::MAX, 2),
         }
     }
@@ -117,6 +133,9 @@ impl Case {
         trial.pair.link.reseed(u64::from(self.seed));
         trial.pair.link.loss = self.loss;
         trial.pair.link.delay = Duration::from_millis(25);
+        if self.keeps_answers() {
+            trial.pair.link.kept = Some(Kept::new());
+        }
     }
 
     // Connects the sockets, and lets their users act.
@@ -128,7 +147,7 @@ impl Case {
             Rule::Windows | Rule::Bulk => take_all(trial)?,
             Rule::Shutdown => queue_and_shut_down(trial)?,
             Rule::Reconnects => lose_and_reconnect(trial)?,
-            Rule::Closes => close_streams(trial)?,
+            Rule::Closes | Rule::Keeps => close_streams(trial)?,
             Rule::Equals => trial.wait(Goal::Nothing, 30)?,
         };
         Ok(Outcome {
