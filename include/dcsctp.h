@@ -413,7 +413,8 @@ typedef struct dcsctp_send_options {
  * association is made, too. EMPTY_PAYLOAD, MESSAGE_TOO_LARGE, SHUTTING_DOWN and RESOURCE_EXHAUSTION
  * refuse it: the first of them in this order that holds. Then a DCSCTP_EVENT_ERROR says the same,
  * after a DCSCTP_EVENT_LIFECYCLE_END where the message has a name. If there is no memory for the
- * copy, it is OUT_OF_MEMORY, nothing has changed, and the call may be tried again.
+ * copy, it is OUT_OF_MEMORY, nothing has changed, and the call may be tried again. Of a message
+ * that is too large no more is copied than `max_message_size` and one byte, however long it is.
  *
  * The streams of this end are those below `negotiated_maximum_outgoing_streams` of
  * dcsctp_get_metrics, so 65,535 is never one (RFC 8831, section 6.2). A message on another stream

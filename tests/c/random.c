@@ -20,7 +20,8 @@ static uint64_t below(uint64_t limit) {
     return (z ^ (z >> 31)) % limit;
 }
 
-static int is_refused(void) {
+static int is_refused(size_t size) {
+    (void)size;
     int refused = refuse_every > 0 && below(refuse_every) == 0;
     refusals += refused;
     return refused;

@@ -1,15 +1,21 @@
 /* An exchange with each of its allocations refused in turn. The call that needs it returns
- * DCSCTP_ERROR_OUT_OF_MEMORY, and the rest is as dcsctp.h says. In the end all memory is freed. */
+ * DCSCTP_ERROR_OUT_OF_MEMORY, and the rest is as dcsctp.h says. In the end all memory is freed. Then
+ * a message that is far too long: it needs no memory for its bytes. */
+#define _GNU_SOURCE
 #include "pair.h"
 #include "refusing.h"
 
+#include <sys/mman.h>
+#include <time.h>
+
 /* ---- Memory --------------------------------------------------------------------------------- */
 
-static long allocations; /* how many were asked for */
-static long refused;     /* the number of the one that is refused, from 1; 0: none */
+static long allocations;          /* how many were asked for */
+static long refused;              /* the number of the one that is refused, from 1; 0: none */
+static size_t largest = SIZE_MAX; /* those of more bytes are refused, too */
 
-static int is_refused(void) {
-    return ++allocations == refused;
+static int is_refused(size_t size) {
+    return ++allocations == refused || size > largest;
 }
 
 /* ---- A socket that has failed --------------------------------------------------------------- */
@@ -168,6 +174,45 @@ static int exchange(const dcsctp_options *options) {
     return whole;
 }
 
+/* ---- A message that is far too long --------------------------------------------------------- */
+
+static void send_of(const char *name, const void *bytes, size_t length, int32_t expected) {
+    const dcsctp_send_options how = DCSCTP_SEND_INIT;
+    const clock_t before = clock();
+    EQUAL(name, dcsctp_send(&a.socket, 1, 51, bytes, length, &how), expected);
+    EQUAL(name, clock() - before < CLOCKS_PER_SEC / 10, 1);
+    EQUAL(name, dcsctp_has_failed(&a.socket), 0);
+}
+
+/* A message of 1 GiB, a mapping without memory, is refused within 0.1 s of the processor's time, and
+ * where no more than 1 MiB can be allocated. Only without a limit is there no memory for its copy. */
+static void far_too_long(const dcsctp_options *options) {
+    const size_t length = (size_t)1 << 30;
+    void *bytes = mmap(NULL, length, PROT_READ, MAP_PRIVATE | MAP_ANONYMOUS | MAP_NORESERVE, -1, 0);
+    EQUAL("a mapping", bytes != MAP_FAILED, 1);
+    EQUAL("create", create(&a, options, 1, BEGIN), DCSCTP_OK);
+    send_of("1 GiB", bytes, length, DCSCTP_ERROR_MESSAGE_TOO_LARGE);
+    EQUAL("it is told", take(&a), DCSCTP_EVENT_ERROR);
+    EQUAL("kind", a.last[DCSCTP_EVENT_ERROR].error_kind, DCSCTP_KIND_PROTOCOL_VIOLATION);
+    EQUAL("text", strcmp(a.text, "Unable to send too large message"), 0);
+    largest = 1 << 20;
+    send_of("1 GiB without memory", bytes, length, DCSCTP_ERROR_MESSAGE_TOO_LARGE);
+    send_of("a byte too long", bytes, 262145, DCSCTP_ERROR_MESSAGE_TOO_LARGE);
+    send_of("the longest", bytes, 262144, DCSCTP_OK);
+    EQUAL("no limit", dcsctp_set_max_message_size(&a.socket, SIZE_MAX), DCSCTP_OK);
+    send_of("a copy of 1 GiB", bytes, length, DCSCTP_ERROR_OUT_OF_MEMORY);
+    EQUAL("limit 0", dcsctp_set_max_message_size(&a.socket, 0), DCSCTP_OK);
+    send_of("one byte", bytes, 1, DCSCTP_ERROR_MESSAGE_TOO_LARGE);
+    send_of("none", bytes, 0, DCSCTP_ERROR_EMPTY_PAYLOAD);
+    size_t waiting;
+    EQUAL("waiting", dcsctp_buffered_amount(&a.socket, 1, &waiting), DCSCTP_OK);
+    EQUAL("waiting", waiting, 262144);
+    largest = SIZE_MAX;
+    dcsctp_destroy(&a.socket);
+    EQUAL("all memory is given back", blocks, 0);
+    munmap(bytes, length);
+}
+
 int main(void) {
     dcsctp_options options;
     long all, retried = 0, untold = 0;
@@ -184,6 +229,8 @@ int main(void) {
         retried += whole && tellings;
         untold += !tellings;
     }
+    refused = 0;
+    far_too_long(&options);
     printf("refusals: %ld in turn; %ld calls were tried again, and %ld did without\n", all, retried,
            untold);
     return 0;

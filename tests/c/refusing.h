@@ -8,16 +8,16 @@
 static long blocks; /* how many aren't given back */
 
 /* Is this allocation refused? It is asked once for each, and the test says it. */
-static int is_refused(void);
+static int is_refused(size_t size);
 
 void *__wrap_malloc(size_t size) {
-    void *block = is_refused() ? NULL : __real_malloc(size);
+    void *block = is_refused(size) ? NULL : __real_malloc(size);
     blocks += block != NULL;
     return block;
 }
 
 void *__wrap_realloc(void *block, size_t size) {
-    return is_refused() ? NULL : __real_realloc(block, size);
+    return is_refused(size) ? NULL : __real_realloc(block, size);
 }
 
 void __wrap_free(void *block) {

@@ -1,1 +1,2 @@
 mod CopyingLemmas
+mod SendingLemmas

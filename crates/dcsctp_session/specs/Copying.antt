@@ -1,4 +1,4 @@
--- Copying to a buffer of the caller's.
+-- Copying to a buffer of the caller's, and from one.
 use Rattle.std.specs.Prelude.{◌≡◌, ◌<◌, ◌≤◌, ◌⊎◌, ◌++◌, ℕ, length, drop, List, Option, Some, None}
 use Rattle.dcsctp_session.specs.declared.status.Status.{Status}
 use Rattle.dcsctp_session.specs.declared.status.Status.TheVariants as statuses
@@ -14,3 +14,7 @@ Copies numbers old status new told =
 abbrev pub CopiesTaken : Option (List ℕ) → List ℕ → Status → List ℕ → ℕ → Type 0
 CopiesTaken None old status new told = (status ≡ statuses.NothingToCopy) × (told ≡ 0) × (new ≡ old)
 CopiesTaken (Some numbers) old status new told = Copies numbers old status new told
+
+-- It is the whole of a message; or both are longer than a message may be, and then their length alone counts.
+abbrev pub IsFront : ℕ → List ℕ → List ℕ → Type 0
+IsFront limit whole front = (front ≡ whole) ⊎ ((limit < length front) × (limit < length whole))

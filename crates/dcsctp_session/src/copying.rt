@@ -2,7 +2,7 @@
 
 ghost use Rattle.std.specs.Prelude.{◌≡◌, IfOk};
 ghost use Rattle.dcsctp_core.specs.types.Ids.{stream_numbers};
-ghost use Rattle.dcsctp_session.specs.Copying.{Copies};
+ghost use Rattle.dcsctp_session.specs.Copying.{Copies, IsFront};
 
 use crate::status::Status;
 use dcsctp_socket::StreamId;
@@ -33,6 +33,13 @@ pub(crate) fn copy_streams(ids: &[StreamId], buffer: &mut [u16], count: &mut usi
         buffer[i] = id.0;
     }
     Status::Done
+}
+
+// The payload of a message; of one that is longer than `limit` that many bytes and one more.
+pub(crate) fn front(payload: &[u8], limit: usize) -> &[u8]
+    ensures { IsFront limit payload.now result.now }
+{
+    payload.get(..limit.saturating_add(1)).unwrap_or(payload)
 }
 
 // The streams of these numbers.

@@ -10,7 +10,7 @@ ghost use Rattle.dcsctp_session.specs.Options.{ShowsOptions, never};
 ghost use Rattle.dcsctp_session.specs.Views.{view};
 ghost use Rattle.dcsctp_session.specs.Calls.{Creates, Connected, ShutDown, Closed, InputHandled, Advanced, SettingMade, SizeLimited, MessageSent, StreamsReset};
 
-use crate::copying::stream_ids;
+use crate::copying::{front, stream_ids};
 use crate::options::{OptionsRecord, SendOptionsRecord};
 use crate::status::Status;
 use dcsctp_core::api::handover::SocketHandoverState;
@@ -142,7 +142,8 @@ impl Session {
         }
     }
 
-    /// Sends a message, whose payload is copied.
+    /// Sends a message, whose payload is copied. One that is too long is refused by its length, so no more of
+    /// it is copied than a message may have, and one byte.
     ///
     /// `Status::OutOfMemory` if the copy failed, too: then nothing has changed, on a socket that has failed as
     /// well.
@@ -156,7 +157,8 @@ impl Session {
         ensures { MessageSent (record { stream = stream_id; ppid = ppid; payload = payload.now }) options.now
             self.old result self.new }
     {
-        let Ok(payload) = Vec::from_slice(self.alloc, payload) else {
+        let limit = self.socket.options().max_message_size;
+        let Ok(payload) = Vec::from_slice(self.alloc, front(payload, limit)) else {
             return Status::OutOfMemory;
         };
         let message = Message::new(StreamId(stream_id), PpId(ppid), payload);
