@@ -23,7 +23,7 @@ PACKAGE = $(OUT)/dcsctp.pc $(OUT)/dcsctpConfig.cmake $(OUT)/dcsctpConfigVersion.
 VERSION := $(shell awk '/define DCSCTP_VERSION_/ { v = v s $$3; s = "." } END { print v }' \
     include/dcsctp.h)
 
-TESTS = calls options events ends handover refusals random threads
+TESTS = names calls options events ends handover refusals random threads
 EXAMPLES = two_sockets file_transfer
 WARNINGS = -Wall -Wextra -Wshadow -pedantic -Werror
 COMPILE = $(CC) -std=c11 $(WARNINGS) $(CFLAGS) -Iinclude
@@ -83,11 +83,17 @@ $(OUT)/examples/%: examples/c/%.c include/dcsctp.h $(LIBRARY)
 check: check-header check-symbols check-tests check-examples check-install check-valgrind \
     check-sanitizers check-rust
 
-# The header alone, in C and C++.
+# The header alone, in C and C++, and of which lines a compiler warns.
+WARNED = tests/c/warned.c 2>&1 | sed -n 's/^[^:]*warned.c:\([0-9]*\):.* warning: .*/\1/p' | sort -nu | \
+    diff $(OUT)/marked -
 check-header:
-	$(CC) -std=c11 $(WARNINGS) -fsyntax-only -x c include/dcsctp.h
-	@if command -v $(CXX) >/dev/null; \
-	then $(CXX) -std=c++11 $(WARNINGS) -fsyntax-only -x c++ include/dcsctp.h; \
+	@mkdir -p $(OUT)
+	echo '#include <dcsctp.h>' | $(CC) -std=c11 $(WARNINGS) -Iinclude -fsyntax-only -x c -
+	sed -n '/\/\* warned \*\/$$/=' tests/c/warned.c >$(OUT)/marked
+	$(CC) -std=c11 -Wall -Wextra -Iinclude -c -o /dev/null $(WARNED)
+	@if command -v $(CXX) >/dev/null; then set -e; \
+	echo '#include <dcsctp.h>' | $(CXX) -std=c++11 $(WARNINGS) -Iinclude -fsyntax-only -x c++ -; \
+	$(CXX) -std=c++11 -Wall -Wextra -Iinclude -c -o /dev/null -x c++ $(WARNED); \
 	else echo "check: no C++ compiler, so the header isn't checked in C++"; fi
 	! grep -n '.\{101\}' include/dcsctp.h
 

@@ -14,9 +14,10 @@
  *     dcsctp_socket s = DCSCTP_SOCKET_INIT;
  *     dcsctp_options_init(&options);
  *     getrandom(seed, sizeof seed, 0);
- *     dcsctp_create(&s, &options, seed, now());
- *     dcsctp_connect(&s);                                          // one end, or both
- *     for (;;) {
+ *     result = dcsctp_create(&s, &options, seed, now());
+ *     if (result == DCSCTP_OK)
+ *         result = dcsctp_connect(&s);                             // one end, or both
+ *     while (result == DCSCTP_OK) {
  *         while (dcsctp_poll_event(&s, &event) == 1)
  *             if (event.kind == DCSCTP_EVENT_SEND_PACKET &&
  *                     dcsctp_event_bytes(&s, packet, sizeof packet, &length) == DCSCTP_OK)
@@ -26,11 +27,12 @@
  *                 use(message.stream_id, message.ppid, buffer, length);
  *         dcsctp_poll_timeout(&s, &deadline);
  *         wait_until_readable(fd, deadline);                       // poll(2), or an event loop
- *         if (dcsctp_advance_time(&s, now()) != DCSCTP_OK)
- *             break;                                               // out of memory
- *         if ((n = recv(fd, packet, sizeof packet, MSG_DONTWAIT)) >= 0)
- *             dcsctp_handle_input(&s, packet, n);                  // one, then from the top
+ *         result = dcsctp_advance_time(&s, now());
+ *         if (result == DCSCTP_OK &&
+ *                 (n = recv(fd, packet, sizeof packet, MSG_DONTWAIT)) >= 0)
+ *             result = dcsctp_handle_input(&s, packet, n);         // one, then from the top
  *     }
+ *     puts(dcsctp_error_text(result));                             // out of memory, above all
  *     dcsctp_destroy(&s);
  *
  * A call that hands something in, be it a packet, the time or a command, may add events and
@@ -39,8 +41,7 @@
  * Take all messages before each packet that you hand in, and before dcsctp_close: what isn't taken
  * when its association ends is lost, though the peer was told that it was delivered.
  * `packet` has room for the longest packet of either end (the greater `mtu`), and `buffer` for
- * `message.length` bytes: the peer says how long a message is. Check what dcsctp_create
- * returns.
+ * `message.length` bytes: the peer says how long a message is.
  *
  *
  * RULES
@@ -79,7 +80,12 @@
  *
  * Results. A call returns DCSCTP_OK or a number that its description names. An error is negative.
  *   Errors are listed at each call, without DCSCTP_ERROR_. Unless the error or the call says more,
- *   an error changes nothing and writes nothing.
+ *   an error changes nothing and writes nothing. A compiler warns if you ignore the result of a
+ *   call that may be OUT_OF_MEMORY.
+ *
+ * Numbers. Calls and structs have whole numbers, which later versions may have more of. Their names
+ *   are enumerators: a debugger shows them, and with a cast a compiler warns of a case that is
+ *   missing, as in switch ((enum dcsctp_event_kind)event.kind).
  */
 #ifndef DCSCTP_H
 #define DCSCTP_H
@@ -103,65 +109,120 @@ extern "C" {
 #define DCSCTP_CHECKED_CALL
 #endif
 
+/* In C++ any number of the type may be cast to the enum. */
+#ifdef __cplusplus
+#define DCSCTP_ENUM(name, type) enum name : type
+#else
+#define DCSCTP_ENUM(name, type) enum name
+#endif
+
 #define DCSCTP_VERSION_MAJOR 0
 #define DCSCTP_VERSION_MINOR 1
 #define DCSCTP_VERSION_PATCH 0
 
 /* ---- Results -------------------------------------------------------------------------------- */
 
-#define DCSCTP_OK 0
+DCSCTP_ENUM(dcsctp_error, int32_t) {
+    /* The call was made; or, of a call that takes something, there was nothing. */
+    DCSCTP_OK = 0,
 
-/* An allocation failed in this call. The socket has failed now, unless the call says that it may be
- * tried again; dcsctp_has_failed tells. Events that waited can still be taken, and perhaps some of
- * the call's own, its first ones. Messages that were ready may be lost. */
-#define DCSCTP_ERROR_OUT_OF_MEMORY (-1)
+    /* An allocation failed in this call. The socket has failed now, unless the call says that it
+     * may be tried again; dcsctp_has_failed tells. Events that waited can still be taken, and
+     * perhaps some of the call's own, its first ones. Messages that were ready may be lost. */
+    DCSCTP_ERROR_OUT_OF_MEMORY = -1,
 
-/* An allocation failed in an earlier call. Events can be taken. Queries still return, but what they
- * say of the association is no longer promised. All that is left to do is dcsctp_destroy. */
-#define DCSCTP_ERROR_FAILED (-2)
+    /* An allocation failed in an earlier call. Events can be taken. Queries still return, but
+     * what they say of the association is no longer promised. All that is left to do is
+     * dcsctp_destroy. */
+    DCSCTP_ERROR_FAILED = -2,
 
-/* There is no socket: none was created, or it was destroyed. */
-#define DCSCTP_ERROR_NO_SOCKET (-3)
+    /* There is no socket: none was created, or it was destroyed. */
+    DCSCTP_ERROR_NO_SOCKET = -3,
 
-/* There is a socket already. */
-#define DCSCTP_ERROR_ALREADY_CREATED (-4)
+    /* There is a socket already. */
+    DCSCTP_ERROR_ALREADY_CREATED = -4,
 
-/* No socket can be made with these options: see dcsctp_options. */
-#define DCSCTP_ERROR_INVALID_OPTIONS (-5)
+    /* No socket can be made with these options: see dcsctp_options. */
+    DCSCTP_ERROR_INVALID_OPTIONS = -5,
 
-/* The buffer is too small. How many elements it needs was written. Call again with a larger one. */
-#define DCSCTP_ERROR_BUFFER_TOO_SMALL (-6)
+    /* The buffer is too small. How many elements it needs was written. Call again with a larger
+     * one. */
+    DCSCTP_ERROR_BUFFER_TOO_SMALL = -6,
 
-/* What was taken last has nothing of this kind, or nothing was taken. A length of 0 was written. */
-#define DCSCTP_ERROR_NOTHING_TO_COPY (-7)
+    /* What was taken last has nothing of this kind, or nothing was taken. A length of 0 was
+     * written. */
+    DCSCTP_ERROR_NOTHING_TO_COPY = -7,
 
-/* The message has no bytes. */
-#define DCSCTP_ERROR_EMPTY_PAYLOAD (-8)
+    /* The message has no bytes. */
+    DCSCTP_ERROR_EMPTY_PAYLOAD = -8,
 
-/* The message is longer than `max_message_size`. */
-#define DCSCTP_ERROR_MESSAGE_TOO_LARGE (-9)
+    /* The message is longer than `max_message_size`. */
+    DCSCTP_ERROR_MESSAGE_TOO_LARGE = -9,
 
-/* The send buffer is full, in all or for this stream. Try again when less waits:
- * DCSCTP_EVENT_BUFFERED_AMOUNT_LOW and DCSCTP_EVENT_TOTAL_BUFFERED_AMOUNT_LOW tell. */
-#define DCSCTP_ERROR_RESOURCE_EXHAUSTION (-10)
+    /* The send buffer is full, in all or for this stream. Try again when less waits:
+     * DCSCTP_EVENT_BUFFERED_AMOUNT_LOW and DCSCTP_EVENT_TOTAL_BUFFERED_AMOUNT_LOW tell. */
+    DCSCTP_ERROR_RESOURCE_EXHAUSTION = -10,
 
-/* The association is being shut down, and takes no message. */
-#define DCSCTP_ERROR_SHUTTING_DOWN (-11)
+    /* The association is being shut down, and takes no message. */
+    DCSCTP_ERROR_SHUTTING_DOWN = -11,
 
-/* There is no association, or the peer hasn't answered yet. */
-#define DCSCTP_ERROR_NOT_CONNECTED (-12)
+    /* There is no association, or the peer hasn't answered yet. */
+    DCSCTP_ERROR_NOT_CONNECTED = -12,
 
-/* The peer doesn't reset streams (RFC 6525). */
-#define DCSCTP_ERROR_NOT_SUPPORTED (-13)
+    /* The peer doesn't reset streams (RFC 6525). */
+    DCSCTP_ERROR_NOT_SUPPORTED = -13,
 
-/* The socket can't be handed over now: dcsctp_get_handover_readiness says why. */
-#define DCSCTP_ERROR_NOT_READY (-14)
+    /* The socket can't be handed over now: dcsctp_get_handover_readiness says why. */
+    DCSCTP_ERROR_NOT_READY = -14,
 
-/* These bytes are no snapshot, or one that needs a `zero_checksum_method`. */
-#define DCSCTP_ERROR_INVALID_SNAPSHOT (-15)
+    /* These bytes are no snapshot, or one that needs a `zero_checksum_method`. */
+    DCSCTP_ERROR_INVALID_SNAPSHOT = -15,
 
-/* The socket has an association, or begins one. */
-#define DCSCTP_ERROR_NOT_CLOSED (-16)
+    /* The socket has an association, or begins one. */
+    DCSCTP_ERROR_NOT_CLOSED = -16,
+};
+
+/* What a result says: "no error" where it isn't negative, and "unknown" of an unknown error. */
+static inline const char *dcsctp_error_text(int32_t result) {
+    switch (result) {
+    case DCSCTP_OK:
+        return "no error";
+    case DCSCTP_ERROR_OUT_OF_MEMORY:
+        return "out of memory";
+    case DCSCTP_ERROR_FAILED:
+        return "an allocation failed in an earlier call";
+    case DCSCTP_ERROR_NO_SOCKET:
+        return "there is no socket";
+    case DCSCTP_ERROR_ALREADY_CREATED:
+        return "there is a socket already";
+    case DCSCTP_ERROR_INVALID_OPTIONS:
+        return "no socket can be made with these options";
+    case DCSCTP_ERROR_BUFFER_TOO_SMALL:
+        return "the buffer is too small";
+    case DCSCTP_ERROR_NOTHING_TO_COPY:
+        return "there is nothing to copy";
+    case DCSCTP_ERROR_EMPTY_PAYLOAD:
+        return "the message has no bytes";
+    case DCSCTP_ERROR_MESSAGE_TOO_LARGE:
+        return "the message is too large";
+    case DCSCTP_ERROR_RESOURCE_EXHAUSTION:
+        return "the send buffer is full";
+    case DCSCTP_ERROR_SHUTTING_DOWN:
+        return "the association is being shut down";
+    case DCSCTP_ERROR_NOT_CONNECTED:
+        return "the peer isn't connected";
+    case DCSCTP_ERROR_NOT_SUPPORTED:
+        return "the peer doesn't reset streams";
+    case DCSCTP_ERROR_NOT_READY:
+        return "the socket can't be handed over now";
+    case DCSCTP_ERROR_INVALID_SNAPSHOT:
+        return "the snapshot isn't valid";
+    case DCSCTP_ERROR_NOT_CLOSED:
+        return "the socket isn't closed";
+    default:
+        return result > 0 ? "no error" : "unknown";
+    }
+}
 
 /* ---- Sockets and options -------------------------------------------------------------------- */
 
@@ -266,7 +327,7 @@ void dcsctp_destroy(dcsctp_socket *socket) DCSCTP_CALL;
 /* Begins an association: DCSCTP_EVENT_CONNECTED follows, or DCSCTP_EVENT_ABORTED, which takes 511 s
  * by default if nobody answers (see dcsctp_options). On a socket that isn't closed it changes
  * nothing. Errors: NO_SOCKET, FAILED, OUT_OF_MEMORY. */
-int32_t dcsctp_connect(dcsctp_socket *socket) DCSCTP_CALL;
+int32_t dcsctp_connect(dcsctp_socket *socket) DCSCTP_CHECKED_CALL;
 
 /* Ends the association in an orderly way: all that was sent is acknowledged first, and with
  * `follow_rfc` what waits is sent before that. From now on dcsctp_send is refused. Messages that
@@ -278,12 +339,12 @@ int32_t dcsctp_connect(dcsctp_socket *socket) DCSCTP_CALL;
  * socket it changes nothing. Without `follow_rfc` a peer's SHUTDOWN acknowledges nothing: where it
  * sends no SACK, both ends wait for minutes, until one gives up. dcsctp_close ends that.
  * Errors: NO_SOCKET, FAILED, OUT_OF_MEMORY. */
-int32_t dcsctp_shutdown(dcsctp_socket *socket) DCSCTP_CALL;
+int32_t dcsctp_shutdown(dcsctp_socket *socket) DCSCTP_CHECKED_CALL;
 
 /* Ends the association at once: an ABORT goes to the peer if it is known, and the last event is
  * DCSCTP_EVENT_CLOSED. Messages that weren't taken are lost, here and at the peer. On a closed
  * socket it changes nothing. Errors: NO_SOCKET, FAILED, OUT_OF_MEMORY. */
-int32_t dcsctp_close(dcsctp_socket *socket) DCSCTP_CALL;
+int32_t dcsctp_close(dcsctp_socket *socket) DCSCTP_CHECKED_CALL;
 
 /* ---- Packets and time ----------------------------------------------------------------------- */
 
@@ -294,11 +355,11 @@ int32_t dcsctp_close(dcsctp_socket *socket) DCSCTP_CALL;
  * your peer has sent, as DTLS tells.
  * Errors: NO_SOCKET, FAILED, OUT_OF_MEMORY. */
 int32_t dcsctp_handle_input(dcsctp_socket *socket, const uint8_t *packet, size_t length)
-    DCSCTP_CALL;
+    DCSCTP_CHECKED_CALL;
 
 /* Tells the time, and handles what is due. A moment before the last one changes nothing.
  * Errors: NO_SOCKET, FAILED, OUT_OF_MEMORY. */
-int32_t dcsctp_advance_time(dcsctp_socket *socket, uint64_t now) DCSCTP_CALL;
+int32_t dcsctp_advance_time(dcsctp_socket *socket, uint64_t now) DCSCTP_CHECKED_CALL;
 
 /* Writes the next deadline, by which dcsctp_advance_time has to be called: a moment that is never
  * before the last one told, or DCSCTP_NEVER. Error: NO_SOCKET. */
@@ -306,33 +367,80 @@ int32_t dcsctp_poll_timeout(dcsctp_socket *socket, uint64_t *moment) DCSCTP_CALL
 
 /* ---- Events --------------------------------------------------------------------------------- */
 
-#define DCSCTP_EVENT_NONE 0u
-#define DCSCTP_EVENT_SEND_PACKET 1u              /* bytes: a packet for the peer, at most `mtu` */
-#define DCSCTP_EVENT_CONNECTED 2u                /* an association was made, by either end */
-#define DCSCTP_EVENT_CLOSED 3u                   /* it has ended: a shutdown, close or handover */
-#define DCSCTP_EVENT_CONNECTION_RESTARTED 4u     /* the peer began anew: then CONNECTED comes */
-#define DCSCTP_EVENT_ABORTED 5u                  /* it was cut off: error_kind; bytes: a text */
-#define DCSCTP_EVENT_ERROR 6u                    /* it goes on: error_kind; bytes: a text */
-#define DCSCTP_EVENT_BUFFERED_AMOUNT_LOW 7u      /* stream_id */
-#define DCSCTP_EVENT_TOTAL_BUFFERED_AMOUNT_LOW 8u
-#define DCSCTP_EVENT_STREAMS_RESET_FAILED 9u     /* streams of this end that weren't reset */
-#define DCSCTP_EVENT_STREAMS_RESET_PERFORMED 10u /* streams of this end that were reset */
-#define DCSCTP_EVENT_INCOMING_STREAM_RESET 11u   /* streams of the peer; none: all of them */
-#define DCSCTP_EVENT_LIFECYCLE_FULLY_SENT 12u    /* lifecycle_id: the whole message was sent */
-#define DCSCTP_EVENT_LIFECYCLE_MAYBE_EXPIRED 13u /* lifecycle_id: abandoned after that */
-#define DCSCTP_EVENT_LIFECYCLE_EXPIRED 14u       /* lifecycle_id: abandoned before that */
-#define DCSCTP_EVENT_LIFECYCLE_DELIVERED 15u     /* lifecycle_id: the peer acknowledged it */
-#define DCSCTP_EVENT_LIFECYCLE_END 16u           /* lifecycle_id: no event names it again */
+DCSCTP_ENUM(dcsctp_event_kind, uint32_t) {
+    DCSCTP_EVENT_NONE = 0,
+    DCSCTP_EVENT_SEND_PACKET = 1,              /* bytes: a packet for the peer, at most `mtu` */
+    DCSCTP_EVENT_CONNECTED = 2,                /* an association was made, by either end */
+    DCSCTP_EVENT_CLOSED = 3,                   /* it has ended: a shutdown, close or handover */
+    DCSCTP_EVENT_CONNECTION_RESTARTED = 4,     /* the peer began anew: then CONNECTED comes */
+    DCSCTP_EVENT_ABORTED = 5,                  /* it was cut off: error_kind; bytes: a text */
+    DCSCTP_EVENT_ERROR = 6,                    /* it goes on: error_kind; bytes: a text */
+    DCSCTP_EVENT_BUFFERED_AMOUNT_LOW = 7,      /* stream_id */
+    DCSCTP_EVENT_TOTAL_BUFFERED_AMOUNT_LOW = 8,
+    DCSCTP_EVENT_STREAMS_RESET_FAILED = 9,     /* streams of this end that weren't reset */
+    DCSCTP_EVENT_STREAMS_RESET_PERFORMED = 10, /* streams of this end that were reset */
+    DCSCTP_EVENT_INCOMING_STREAM_RESET = 11,   /* streams of the peer; none: all of them */
+    DCSCTP_EVENT_LIFECYCLE_FULLY_SENT = 12,    /* lifecycle_id: the whole message was sent */
+    DCSCTP_EVENT_LIFECYCLE_MAYBE_EXPIRED = 13, /* lifecycle_id: abandoned after that */
+    DCSCTP_EVENT_LIFECYCLE_EXPIRED = 14,       /* lifecycle_id: abandoned before that */
+    DCSCTP_EVENT_LIFECYCLE_DELIVERED = 15,     /* lifecycle_id: the peer acknowledged it */
+    DCSCTP_EVENT_LIFECYCLE_END = 16,           /* lifecycle_id: no event names it again */
+};
 
-#define DCSCTP_KIND_NO_ERROR 0u
-#define DCSCTP_KIND_TOO_MANY_RETRIES 1u      /* something was sent too often without an answer */
-#define DCSCTP_KIND_NOT_CONNECTED 2u         /* it needs an association, and there is none */
-#define DCSCTP_KIND_PARSE_FAILED 3u          /* it can't be read, or isn't for this association */
-#define DCSCTP_KIND_WRONG_SEQUENCE 4u        /* it can't be handled in this state */
-#define DCSCTP_KIND_PEER_REPORTED 5u         /* the peer reported an error, or aborted */
-#define DCSCTP_KIND_PROTOCOL_VIOLATION 6u    /* the peer, or the caller, broke a rule */
-#define DCSCTP_KIND_RESOURCE_EXHAUSTION 7u   /* a buffer is full */
-#define DCSCTP_KIND_UNSUPPORTED_OPERATION 8u /* it isn't supported */
+/* The name of a kind of event, and "unknown" of an unknown kind. */
+static inline const char *dcsctp_event_name(uint32_t kind) {
+    switch (kind) {
+    case DCSCTP_EVENT_NONE:
+        return "none";
+    case DCSCTP_EVENT_SEND_PACKET:
+        return "send packet";
+    case DCSCTP_EVENT_CONNECTED:
+        return "connected";
+    case DCSCTP_EVENT_CLOSED:
+        return "closed";
+    case DCSCTP_EVENT_CONNECTION_RESTARTED:
+        return "connection restarted";
+    case DCSCTP_EVENT_ABORTED:
+        return "aborted";
+    case DCSCTP_EVENT_ERROR:
+        return "error";
+    case DCSCTP_EVENT_BUFFERED_AMOUNT_LOW:
+        return "buffered amount low";
+    case DCSCTP_EVENT_TOTAL_BUFFERED_AMOUNT_LOW:
+        return "total buffered amount low";
+    case DCSCTP_EVENT_STREAMS_RESET_FAILED:
+        return "streams reset failed";
+    case DCSCTP_EVENT_STREAMS_RESET_PERFORMED:
+        return "streams reset performed";
+    case DCSCTP_EVENT_INCOMING_STREAM_RESET:
+        return "incoming stream reset";
+    case DCSCTP_EVENT_LIFECYCLE_FULLY_SENT:
+        return "message fully sent";
+    case DCSCTP_EVENT_LIFECYCLE_MAYBE_EXPIRED:
+        return "message maybe expired";
+    case DCSCTP_EVENT_LIFECYCLE_EXPIRED:
+        return "message expired";
+    case DCSCTP_EVENT_LIFECYCLE_DELIVERED:
+        return "message delivered";
+    case DCSCTP_EVENT_LIFECYCLE_END:
+        return "message ended";
+    default:
+        return "unknown";
+    }
+}
+
+/* What an error is about. */
+DCSCTP_ENUM(dcsctp_error_kind, uint32_t) {
+    DCSCTP_KIND_NO_ERROR = 0,
+    DCSCTP_KIND_TOO_MANY_RETRIES = 1,      /* something was sent too often without an answer */
+    DCSCTP_KIND_NOT_CONNECTED = 2,         /* it needs an association, and there is none */
+    DCSCTP_KIND_PARSE_FAILED = 3,          /* it can't be read, or isn't for this association */
+    DCSCTP_KIND_WRONG_SEQUENCE = 4,        /* it can't be handled in this state */
+    DCSCTP_KIND_PEER_REPORTED = 5,         /* the peer reported an error, or aborted */
+    DCSCTP_KIND_PROTOCOL_VIOLATION = 6,    /* the peer, or the caller, broke a rule */
+    DCSCTP_KIND_RESOURCE_EXHAUSTION = 7,   /* a buffer is full */
+    DCSCTP_KIND_UNSUPPORTED_OPERATION = 8, /* it isn't supported */
+};
 
 /* Fields that a kind doesn't name are 0. Later versions may have more kinds: ignore them. */
 typedef struct dcsctp_event {
@@ -460,7 +568,7 @@ int32_t dcsctp_buffered_amount(dcsctp_socket *socket, uint16_t stream_id, size_t
 int32_t dcsctp_buffered_amount_low_threshold(dcsctp_socket *socket, uint16_t stream_id,
                                              size_t *bytes) DCSCTP_CALL;
 int32_t dcsctp_set_buffered_amount_low_threshold(dcsctp_socket *socket, uint16_t stream_id,
-                                                 size_t bytes) DCSCTP_CALL;
+                                                 size_t bytes) DCSCTP_CHECKED_CALL;
 
 /* The priority of a stream: one of the greatest priority is sent first. Those with the same take
  * turns, a message each; without `follow_rfc` the lowest stream number goes first as long as it has
@@ -470,14 +578,16 @@ int32_t dcsctp_set_buffered_amount_low_threshold(dcsctp_socket *socket, uint16_t
 int32_t dcsctp_get_stream_priority(dcsctp_socket *socket, uint16_t stream_id, uint16_t *priority)
     DCSCTP_CALL;
 int32_t dcsctp_set_stream_priority(dcsctp_socket *socket, uint16_t stream_id, uint16_t priority)
-    DCSCTP_CALL;
+    DCSCTP_CHECKED_CALL;
 
 /* ---- Queries -------------------------------------------------------------------------------- */
 
-#define DCSCTP_STATE_CLOSED 0
-#define DCSCTP_STATE_CONNECTING 1
-#define DCSCTP_STATE_CONNECTED 2
-#define DCSCTP_STATE_SHUTTING_DOWN 3
+DCSCTP_ENUM(dcsctp_socket_state, int32_t) {
+    DCSCTP_STATE_CLOSED = 0,
+    DCSCTP_STATE_CONNECTING = 1,
+    DCSCTP_STATE_CONNECTED = 2,
+    DCSCTP_STATE_SHUTTING_DOWN = 3,
+};
 
 /* The state: DCSCTP_STATE_.. Error: NO_SOCKET. */
 int32_t dcsctp_state(dcsctp_socket *socket) DCSCTP_CALL;
@@ -492,11 +602,13 @@ int32_t dcsctp_set_max_message_size(dcsctp_socket *socket, size_t bytes) DCSCTP_
  * and `reserved` is 0. Error: NO_SOCKET. */
 int32_t dcsctp_get_options(dcsctp_socket *socket, dcsctp_options *options) DCSCTP_CALL;
 
-#define DCSCTP_PEER_UNKNOWN 0u   /* its cookie doesn't tell, or it sent no INIT ACK */
-#define DCSCTP_PEER_DCSCTP_RS 1u /* this library, or dcSCTP in Rust */
-#define DCSCTP_PEER_DCSCTP_CC 2u /* dcSCTP in C++ */
-#define DCSCTP_PEER_USRSCTP 3u
-#define DCSCTP_PEER_OTHER 4u     /* not in use */
+DCSCTP_ENUM(dcsctp_peer, uint32_t) {
+    DCSCTP_PEER_UNKNOWN = 0,   /* its cookie doesn't tell, or it sent no INIT ACK */
+    DCSCTP_PEER_DCSCTP_RS = 1, /* this library, or dcSCTP in Rust */
+    DCSCTP_PEER_DCSCTP_CC = 2, /* dcSCTP in C++ */
+    DCSCTP_PEER_USRSCTP = 3,
+    DCSCTP_PEER_OTHER = 4,     /* not in use */
+};
 
 /* Counts of the socket's whole life, and how the association is now. */
 typedef struct dcsctp_metrics {

@@ -43,7 +43,7 @@ static void fail(const char *what) {
 /* Ends the program if a call failed. */
 static int32_t check(const char *what, int32_t result) {
     if (result < 0) {
-        fprintf(stderr, "file_transfer: %s: error %d\n", what, (int)result);
+        fprintf(stderr, "file_transfer: %s: %s\n", what, dcsctp_error_text(result));
         exit(1);
     }
     return result;

@@ -1,0 +1,64 @@
+/* What a compiler warns of a caller: the lines that are marked, and no others. `make check` compiles
+ * this in C and C++, and compares. */
+#include <dcsctp.h>
+
+static void results(dcsctp_socket *socket, const dcsctp_options *options, uint8_t *bytes,
+                    size_t *length, uint16_t *streams, const dcsctp_send_options *how) {
+    uint64_t moment;
+    dcsctp_event event;
+    dcsctp_message message;
+    dcsctp_create(socket, options, bytes, 0);                       /* warned */
+    dcsctp_connect(socket);                                         /* warned */
+    dcsctp_shutdown(socket);                                        /* warned */
+    dcsctp_close(socket);                                           /* warned */
+    dcsctp_handle_input(socket, bytes, 5);                          /* warned */
+    dcsctp_advance_time(socket, 5);                                 /* warned */
+    dcsctp_event_bytes(socket, bytes, 5, length);                   /* warned */
+    dcsctp_event_streams(socket, streams, 5, length);               /* warned */
+    dcsctp_message_bytes(socket, bytes, 5, length);                 /* warned */
+    dcsctp_send(socket, 1, 51, bytes, 5, how);                      /* warned */
+    dcsctp_reset_streams(socket, streams, 5);                       /* warned */
+    dcsctp_set_buffered_amount_low_threshold(socket, 1, 5);         /* warned */
+    dcsctp_set_stream_priority(socket, 1, 5);                       /* warned */
+    dcsctp_get_handover_state_and_close(socket);                    /* warned */
+    dcsctp_handover_bytes(socket, bytes, 5, length);                /* warned */
+    dcsctp_restore_from_state(socket, bytes, 5);                    /* warned */
+    dcsctp_set_max_message_size(socket, 5);
+    dcsctp_poll_timeout(socket, &moment);
+    dcsctp_poll_event(socket, &event);
+    dcsctp_get_next_message(socket, &message);
+    dcsctp_destroy(socket);
+}
+
+static int cases(dcsctp_socket *socket, int32_t result, const dcsctp_event *event,
+                 const dcsctp_metrics *metrics) {
+    switch ((enum dcsctp_error)result) {                            /* warned */
+    case DCSCTP_OK:
+        return 1;
+    }
+    switch ((enum dcsctp_event_kind)event->kind) {                  /* warned */
+    case DCSCTP_EVENT_NONE:
+        return 2;
+    }
+    switch ((enum dcsctp_error_kind)event->error_kind) {            /* warned */
+    case DCSCTP_KIND_NO_ERROR:
+        return 3;
+    }
+    switch ((enum dcsctp_socket_state)dcsctp_state(socket)) {       /* warned */
+    case DCSCTP_STATE_CLOSED:
+        return 4;
+    }
+    switch ((enum dcsctp_peer)metrics->peer_implementation) {       /* warned */
+    case DCSCTP_PEER_UNKNOWN:
+        return 5;
+    }
+    switch (event->kind) {
+    case DCSCTP_EVENT_NONE:
+        return 6;
+    }
+    return event->kind == DCSCTP_EVENT_CONNECTED && result < DCSCTP_OK;
+}
+
+int main(void) {
+    return (void *)results == (void *)cases;
+}
