@@ -119,6 +119,11 @@ extern "C" {
 #define DCSCTP_VERSION_MAJOR 0
 #define DCSCTP_VERSION_MINOR 1
 #define DCSCTP_VERSION_PATCH 0
+#define DCSCTP_VERSION \
+    (DCSCTP_VERSION_MAJOR * 65536u + DCSCTP_VERSION_MINOR * 256u + DCSCTP_VERSION_PATCH)
+
+/* The version of the library: DCSCTP_VERSION, unless it was built with another header. */
+uint32_t dcsctp_version(void);
 
 /* ---- Results -------------------------------------------------------------------------------- */
 

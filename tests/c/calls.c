@@ -52,7 +52,7 @@ static void calls_without_socket(const char *name, dcsctp_socket *socket) {
         dcsctp_handover_bytes(socket, bytes, sizeof bytes, &size),
         dcsctp_restore_from_state(socket, before, sizeof before),
     };
-    /* All 31, but for options_init, create and destroy. */
+    /* All 32, but for version, options_init, create and destroy. */
     EQUAL(name, sizeof results / sizeof results[0], 28);
     for (size_t i = 0; i < sizeof results / sizeof results[0]; i++)
         EQUAL(name, results[i], DCSCTP_ERROR_NO_SOCKET);

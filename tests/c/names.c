@@ -1,5 +1,5 @@
-/* The numbers behind the names of dcsctp.h, and what dcsctp_error_text and dcsctp_event_name say of
- * each number, known or not. */
+/* The version, the numbers behind the names of dcsctp.h, and what dcsctp_error_text and
+ * dcsctp_event_name say of each number, known or not. */
 #include "pair.h"
 
 #define COUNT(rows) (sizeof(rows) / sizeof *(rows))
@@ -106,7 +106,17 @@ static void others(void) {
         EQUAL(rows[i].text, rows[i].name, rows[i].number);
 }
 
+/* The library is of the version that the header says: 0.1.0. */
+static void version(void) {
+    EQUAL("of the header", dcsctp_version(), DCSCTP_VERSION);
+    EQUAL("as a number", dcsctp_version(), 256);
+    EQUAL("major", dcsctp_version() >> 16, DCSCTP_VERSION_MAJOR);
+    EQUAL("minor", dcsctp_version() >> 8 & 255, DCSCTP_VERSION_MINOR);
+    EQUAL("patch", dcsctp_version() & 255, DCSCTP_VERSION_PATCH);
+}
+
 int main(void) {
+    version();
     errors();
     events();
     others();

@@ -1,5 +1,5 @@
 -- What an export does: a call on the session of a handle, whose status is returned as a number.
-use Rattle.std.specs.Prelude.{◌≡◌, ℕ, ℤ, pos, ◌⊎◌, Bool, true, false, List, Option, Some, None, Ok, Err}
+use Rattle.std.specs.Prelude.{◌≡◌, ◌+◌, ◌*◌, ℕ, ℤ, pos, ◌⊎◌, Bool, true, false, List, Option, Some, None, Ok, Err}
 use Rattle.dcsctp_api.specs.spec.Handover.{readiness_of}
 use Rattle.dcsctp_api.specs.spec.queues.Incoming.{AreInOrder}
 use Rattle.dcsctp_api.specs.spec.queues.SendQueue.{IsWellFormed}
@@ -35,6 +35,10 @@ abbrev pub Written : {T : Type 0} → (Session → T → Status → T → Sessio
 Written Call None before result after new = (result ≡ status_number statuses.NoSocket) × (after ≡ before) × (new ≡ None)
 Written Call (Some old) before result after new =
     (status : Status) × (session : Session) × Call old before status after session × (result ≡ status_number status) × (new ≡ Some session)
+
+-- a version as one number
+abbrev pub version_number : ℕ → ℕ → ℕ → ℕ
+version_number major minor patch = major * 65536 + minor * 256 + patch
 
 -- ---- the first call
 

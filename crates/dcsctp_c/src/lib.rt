@@ -7,3 +7,4 @@ mod handover;
 mod lifetime;
 mod queries;
 mod taking;
+mod version;

@@ -3,6 +3,8 @@
 
 use std::ffi::c_void;
 
+/// The version of the header that this file is from: 0.1.0.
+pub const VERSION: u32 = 0x00_01_00;
 pub const NEVER: u64 = u64::MAX;
 pub const BUFFER_TOO_SMALL: i32 = -6;
 
@@ -83,6 +85,7 @@ pub struct SendOptions {
 }
 
 extern "C" {
+    pub fn dcsctp_version() -> u32;
     pub fn dcsctp_options_init(options: *mut Options);
     pub fn dcsctp_create(s: *mut Socket, options: *const Options, seed: *const u8, now: u64)
         -> i32;
