@@ -185,6 +185,9 @@ DCSCTP_ENUM(dcsctp_error, int32_t) {
 
     /* The socket has an association, or begins one. */
     DCSCTP_ERROR_NOT_CLOSED = -16,
+
+    /* In dcsctp_send_options `flags` has a bit without a meaning, or `reserved` isn't 0. */
+    DCSCTP_ERROR_INVALID_SEND_OPTIONS = -17,
 };
 
 /* What a result says: "no error" where it isn't negative, and "unknown" of an unknown error. */
@@ -224,6 +227,8 @@ static inline const char *dcsctp_error_text(int32_t result) {
         return "the snapshot isn't valid";
     case DCSCTP_ERROR_NOT_CLOSED:
         return "the socket isn't closed";
+    case DCSCTP_ERROR_INVALID_SEND_OPTIONS:
+        return "the message can't be sent with these options";
     default:
         return result > 0 ? "no error" : "unknown";
     }
@@ -515,9 +520,9 @@ int32_t dcsctp_message_bytes(dcsctp_socket *socket, uint8_t *buffer, size_t capa
 typedef struct dcsctp_send_options {
     uint64_t lifecycle_id;        /* the name in DCSCTP_EVENT_LIFECYCLE_..; 0: no such events */
     uint64_t lifetime;            /* nanoseconds */
-    uint32_t flags;               /* DCSCTP_SEND_.., added up; other bits: 0 */
+    uint32_t flags;               /* DCSCTP_SEND_.., added up; no other bit is taken */
     uint16_t max_retransmissions;
-    uint16_t reserved;            /* 0 */
+    uint16_t reserved;            /* 0; no other number is taken */
 } dcsctp_send_options;
 
 #define DCSCTP_SEND_INIT { 0, 0, 0, 0, 0 }
@@ -528,6 +533,7 @@ typedef struct dcsctp_send_options {
  * after a DCSCTP_EVENT_LIFECYCLE_END where the message has a name. If there is no memory for the
  * copy, it is OUT_OF_MEMORY, nothing has changed, and the call may be tried again. Of a message
  * that is too large no more is copied than `max_message_size` and one byte, however long it is.
+ * INVALID_SEND_OPTIONS comes before all of these, and nothing has changed.
  *
  * The streams of this end are those below `negotiated_maximum_outgoing_streams` of
  * dcsctp_get_metrics, so 65,535 is never one (RFC 8831, section 6.2). A message on another stream
@@ -538,8 +544,8 @@ typedef struct dcsctp_send_options {
  * that needs more than all of it can't, whatever `follow_rfc` is at either end. Nothing tells, and
  * those after it wait.
  *
- * Errors: NO_SOCKET, EMPTY_PAYLOAD, MESSAGE_TOO_LARGE, SHUTTING_DOWN, RESOURCE_EXHAUSTION, FAILED,
- * OUT_OF_MEMORY. */
+ * Errors: NO_SOCKET, INVALID_SEND_OPTIONS, EMPTY_PAYLOAD, MESSAGE_TOO_LARGE, SHUTTING_DOWN,
+ * RESOURCE_EXHAUSTION, FAILED, OUT_OF_MEMORY. */
 int32_t dcsctp_send(dcsctp_socket *socket, uint16_t stream_id, uint32_t ppid,
                     const uint8_t *payload, size_t length, const dcsctp_send_options *options)
     DCSCTP_CHECKED_CALL;

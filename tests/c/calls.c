@@ -275,6 +275,44 @@ static void refused_messages(void) {
     destroy_pair(&pair);
 }
 
+/* How a message is sent is refused before all else where it has a bit without a meaning. Then nothing
+ * changes: there is no event, nothing is counted, and nothing waits. */
+static void refused_send_options(void) {
+    const dcsctp_options options = quiet_options();
+    const dcsctp_send_options valid = {0, SECONDS, 0, 3, 0};
+    static const uint8_t bytes[262145];
+    static const size_t lengths[] = {5, 0, 262145};
+    static struct pair pair;
+    size_t waiting = 77;
+    connect_pair(&pair, &options, &options);
+    struct end *end = &pair.a;
+    const dcsctp_metrics before = metrics_of(end);
+    for (int bit = 3; bit < 32 + 16; bit++)
+        for (uint32_t known = 0; known < 8; known++) {
+            dcsctp_send_options how = valid;
+            how.lifecycle_id = 9;
+            how.flags = known | (bit < 32 ? 1u << bit : 0);
+            how.reserved = (uint16_t)(bit < 32 ? 0 : 1u << (bit - 32));
+            for (size_t i = 0; i < 3; i++)
+                EQUAL("a bit without a meaning",
+                      dcsctp_send(&end->socket, 1, 51, bytes, lengths[i], &how),
+                      DCSCTP_ERROR_INVALID_SEND_OPTIONS);
+        }
+    EQUAL("no event", take(end), DCSCTP_EVENT_NONE);
+    const dcsctp_metrics after = metrics_of(end);
+    EQUAL("nothing is counted", memcmp(&after, &before, sizeof after), 0);
+    EQUAL("nothing waits", dcsctp_buffered_amount(&end->socket, 1, &waiting), DCSCTP_OK);
+    EQUAL("nothing waits", waiting, 0);
+    for (uint32_t known = 0; known < 8; known++) {
+        dcsctp_send_options how = valid;
+        how.flags = known;
+        EQUAL("each bit has one", dcsctp_send(&end->socket, 1, 51, bytes, 5, &how), DCSCTP_OK);
+    }
+    settle(&pair);
+    EQUAL("delivered", take_messages(&pair.b, 5), 8);
+    destroy_pair(&pair);
+}
+
 /* What a socket answers to commands that come at the wrong time, and to packets of any length. */
 static void wrong_times(void) {
     const dcsctp_options options = quiet_options();
@@ -330,6 +368,7 @@ int main(void) {
     packet_buffers();
     message_buffers();
     refused_messages();
+    refused_send_options();
     wrong_times();
     puts("calls: as dcsctp.h says");
     return 0;

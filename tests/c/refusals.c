@@ -45,6 +45,9 @@ static void check_failed(struct end *end) {
     };
     for (size_t i = 0; i < sizeof commands / sizeof commands[0]; i++)
         EQUAL("a command", commands[i], DCSCTP_ERROR_FAILED);
+    const dcsctp_send_options invalid = {0, 0, 0, 0, 1};
+    EQUAL("invalid options", dcsctp_send(socket, 1, 51, bytes, 5, &invalid),
+          DCSCTP_ERROR_INVALID_SEND_OPTIONS);
     const long before = allocations;
     EQUAL("has_failed", dcsctp_has_failed(socket), 1);
     EQUAL("state", dcsctp_state(socket) >= DCSCTP_STATE_CLOSED, 1);
@@ -201,6 +204,9 @@ static void far_too_long(const dcsctp_options *options) {
     send_of("the longest", bytes, 262144, DCSCTP_OK);
     EQUAL("no limit", dcsctp_set_max_message_size(&a.socket, SIZE_MAX), DCSCTP_OK);
     send_of("a copy of 1 GiB", bytes, length, DCSCTP_ERROR_OUT_OF_MEMORY);
+    const dcsctp_send_options invalid = {0, 0, 8, 0, 0};
+    EQUAL("no copy", dcsctp_send(&a.socket, 1, 51, bytes, length, &invalid),
+          DCSCTP_ERROR_INVALID_SEND_OPTIONS);
     EQUAL("limit 0", dcsctp_set_max_message_size(&a.socket, 0), DCSCTP_OK);
     send_of("one byte", bytes, 1, DCSCTP_ERROR_MESSAGE_TOO_LARGE);
     send_of("none", bytes, 0, DCSCTP_ERROR_EMPTY_PAYLOAD);

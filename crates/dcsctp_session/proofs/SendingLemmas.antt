@@ -19,9 +19,9 @@ use Rattle.dcsctp_core.specs.View.{Drawn}
 use Rattle.dcsctp_session.specs.declared.session.Session.{Session}
 use Rattle.dcsctp_session.specs.declared.status.Status.{Status}
 use Rattle.dcsctp_session.specs.declared.options.SendOptionsRecord.{SendOptionsRecord}
-use Rattle.dcsctp_session.specs.Options.{SaysSendOptions}
+use Rattle.dcsctp_session.specs.Options.{SaysSendOptions, is_valid_sending}
 use Rattle.dcsctp_session.specs.Copying.{IsFront}
-use Rattle.dcsctp_session.specs.Calls.{Settled, MessageSent}
+use Rattle.dcsctp_session.specs.Calls.{Settled, SentIf, MessageSent}
 use Rattle.dcsctp_session.specs.Status.{send_status}
 use Rattle.dcsctp_session.specs.Views.{view, ahead}
 
@@ -135,8 +135,9 @@ settled_whole options stream ppid front whole old status new (inr (front_long, w
     }
 
 pub message_sent : (numbers : SendOptionsRecord) (options : SendOptions) (stream ppid : ℕ) (front whole : List ℕ) (old : Session) (status : Status) (new : Session)
-    → IsFront (view old).endpoint.options.max_message_size whole front → SaysSendOptions numbers options
+    → is_valid_sending numbers ≡ true → IsFront (view old).endpoint.options.max_message_size whole front → SaysSendOptions numbers options
     → Settled send_status (Sends (record { stream = stream; ppid = ppid; payload = front }) options) old status new
     → MessageSent (record { stream = stream; ppid = ppid; payload = whole }) numbers old status new
-message_sent numbers options stream ppid front whole old status new front_of says settled =
-    inr (options, says, settled_whole options stream ppid front whole old status new front_of settled)
+message_sent numbers options stream ppid front whole old status new valid front_of says settled =
+    subst (λ known. SentIf known (record { stream = stream; ppid = ppid; payload = whole }) numbers old status new) (sym valid)
+    (inr (options, says, settled_whole options stream ppid front whole old status new front_of settled))

@@ -1,5 +1,5 @@
 -- What the calls of a session do: the call of its socket takes place, what was taken is kept, and the status says how it ended.
-use Rattle.std.specs.Prelude.{◌≡◌, ◌⊎◌, ◌<◌, ℕ, true, false, IsOk, List, Option, Some, None, Result, Ok, Err, OnOk, option_map}
+use Rattle.std.specs.Prelude.{◌≡◌, ◌⊎◌, ◌<◌, ℕ, Bool, true, false, IsOk, List, Option, Some, None, Result, Ok, Err, OnOk, option_map}
 use Rattle.rand_chacha.specs.ChaCha.{of_seed}
 use Rattle.dcsctp_core.specs.types.Settings.{IsValid}
 use Rattle.dcsctp_core.specs.types.declared.options.Options.{Options}
@@ -24,7 +24,7 @@ use Rattle.dcsctp_session.specs.declared.options.SendOptionsRecord.{SendOptionsR
 use Rattle.dcsctp_session.specs.declared.records.EventRecord.{EventRecord}
 use Rattle.dcsctp_session.specs.declared.records.MessageRecord.{MessageRecord}
 use Rattle.dcsctp_session.specs.declared.records.MetricsRecord.{MetricsRecord}
-use Rattle.dcsctp_session.specs.Options.{SaysOptions, SaysSendOptions}
+use Rattle.dcsctp_session.specs.Options.{SaysOptions, SaysSendOptions, is_valid_sending}
 use Rattle.dcsctp_session.specs.Records.{event_record, message_record, SaysMetrics}
 use Rattle.dcsctp_session.specs.Status.{done_status, send_status, reset_status}
 use Rattle.dcsctp_session.specs.Views.{view, words_ahead, ahead, nothing_taken}
@@ -102,11 +102,21 @@ pub record CopyFailed (old : Session) (status : Status) (new : Session) : Type 0
   pub told : status ≡ statuses.OutOfMemory
   pub same : new ≡ old
 
--- The message is sent by the options that the numbers say.
-abbrev pub MessageSent : MessageContent → SendOptionsRecord → Session → Status → Session → Type 0
-MessageSent message numbers old status new =
+-- A bit of the options has no meaning. Nothing has changed.
+pub record SendOptionsRefused (old : Session) (status : Status) (new : Session) : Type 0 where
+  pub told : status ≡ statuses.InvalidSendOptions
+  pub same : new ≡ old
+
+-- By whether the options are valid: the message is sent by what they say, unless there was no memory for its copy.
+abbrev pub SentIf : Bool → MessageContent → SendOptionsRecord → Session → Status → Session → Type 0
+SentIf false message numbers old status new = SendOptionsRefused old status new
+SentIf true message numbers old status new =
     CopyFailed old status new
     ⊎ (options : SendOptions) × SaysSendOptions numbers options × Settled send_status (Sends message options) old status new
+
+-- The message is sent by the options that the numbers say, if they are valid.
+abbrev pub MessageSent : MessageContent → SendOptionsRecord → Session → Status → Session → Type 0
+MessageSent message numbers old status new = SentIf (is_valid_sending numbers) message numbers old status new
 
 abbrev pub StreamsReset : List ℕ → Session → Status → Session → Type 0
 StreamsReset ids old status new = CopyFailed old status new ⊎ Settled reset_status (ResetsOwn ids) old status new

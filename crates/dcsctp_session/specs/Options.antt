@@ -1,5 +1,5 @@
 -- What the numbers that C writes say of options.
-use Rattle.std.specs.Prelude.{◌≡◌, ◌==◌, ◌-◌, ◌^◌, bit_and, ℕ, min, not, if◌then◌else◌, Bool, true, false, Option, Some, None, option_map}
+use Rattle.std.specs.Prelude.{◌≡◌, ◌==◌, ◌-◌, ◌^◌, ◌&&◌, nat_lt, bit_and, ℕ, min, not, if◌then◌else◌, Bool, true, false, Option, Some, None, option_map}
 use Rattle.std.specs.Duration.{as_nanos}
 use Rattle.std.specs.declared.time.Duration.{Duration}
 use Rattle.dcsctp_core.specs.types.Ids.{lifecycle_number}
@@ -144,6 +144,10 @@ has_bit flags bit = not (bit_and flags bit == 0)
 abbrev pub name_number : Option LifecycleId → ℕ
 name_number None = 0
 name_number (Some id) = lifecycle_number id
+
+-- Are all bits 0 that have no meaning, those of what is reserved too?
+abbrev pub is_valid_sending : SendOptionsRecord → Bool
+is_valid_sending numbers = nat_lt numbers.flags 8 && numbers.reserved == 0
 
 -- The numbers say how a message is to be sent.
 pub record SaysSendOptions (numbers : SendOptionsRecord) (options : SendOptions) : Type 0 where

@@ -3,7 +3,7 @@
 
 ghost use Rattle.std.specs.Prelude.{◌≡◌, option_map};
 ghost use Rattle.std.specs.Duration.{as_nanos};
-ghost use Rattle.dcsctp_session.specs.Options.{SaysOptions, ShowsOptions, ShowsDefault, SaysSendOptions, time_number, optional_time_number, optional_nanos, limit_number, optional_limit};
+ghost use Rattle.dcsctp_session.specs.Options.{SaysOptions, ShowsOptions, ShowsDefault, SaysSendOptions, is_valid_sending, time_number, optional_time_number, optional_nanos, limit_number, optional_limit};
 
 use dcsctp_socket::{LifecycleId, Options, SendOptions, ZeroChecksumAlternateErrorDetectionMethod};
 use std::time::Duration;
@@ -218,7 +218,7 @@ impl OptionsRecord {
 /// How a message is to be sent. All zero is the default.
 ///
 /// Of `flags` bit 0 says that the message is unordered, bit 1 that `lifetime` counts, and bit 2 that
-/// `max_retransmissions` does.
+/// `max_retransmissions` does. All other bits, and `reserved`, are 0.
 #[repr(C)]
 #[derive(Clone, Copy, Debug)]
 pub struct SendOptionsRecord {
@@ -230,6 +230,13 @@ pub struct SendOptionsRecord {
 }
 
 impl SendOptionsRecord {
+    /// Are all bits 0 that have no meaning?
+    pub fn is_valid(&self) -> bool
+        ensures { result ≡ is_valid_sending self.now }
+    {
+        self.flags < 8 && self.reserved == 0
+    }
+
     /// The options that the numbers stand for.
     pub fn options(&self) -> SendOptions
         ensures { SaysSendOptions self.now result }

@@ -145,6 +145,9 @@ impl Session {
     /// Sends a message, whose payload is copied. One that is too long is refused by its length, so no more of
     /// it is copied than a message may have, and one byte.
     ///
+    /// `Status::InvalidSendOptions`: a bit of the options is set that has no meaning. Nothing has changed, and
+    /// a socket that has failed returns this, too.
+    ///
     /// `Status::OutOfMemory` if the copy failed, too: then nothing has changed, on a socket that has failed as
     /// well.
     pub fn send(
@@ -157,6 +160,9 @@ impl Session {
         ensures { MessageSent (record { stream = stream_id; ppid = ppid; payload = payload.now }) options.now
             self.old result self.new }
     {
+        if !options.is_valid() {
+            return Status::InvalidSendOptions;
+        }
         let limit = self.socket.options().max_message_size;
         let Ok(payload) = Vec::from_slice(self.alloc, front(payload, limit)) else {
             return Status::OutOfMemory;

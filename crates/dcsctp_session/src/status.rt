@@ -61,6 +61,9 @@ pub enum Status {
 
     /// The socket has an association, or begins one.
     NotClosed,
+
+    /// A bit of the options of a message is set that has no meaning.
+    InvalidSendOptions,
 }
 
 impl Status {
@@ -87,6 +90,7 @@ impl Status {
             Status::NotReady => -14,
             Status::InvalidSnapshot => -15,
             Status::NotClosed => -16,
+            Status::InvalidSendOptions => -17,
         }
     }
 

@@ -8,5 +8,5 @@ returns c =
     let sent : message_content c.new-message.result ≡ record { stream = c.args.stream_id; ppid = c.args.ppid; payload = c.front.result.now } = grind arith in
     message_sent c.args.options.now c.options.result c.args.stream_id c.args.ppid c.front.result.now c.args.payload.now
     c.args.self.now c.of_send.result (record c.args.self.now { socket = c.send.new.self })
-    (rw (← c.options-limit.ensures) c.front.ensures) c.options.ensures
+    (grind arith) (rw (← c.options-limit.ensures) c.front.ensures) c.options.ensures
     (record { outcome = c.send.result; call = rw (← sent) c.send.ensures.call; draws = c.send.ensures.drawn; told = c.of_send.ensures; taken = refl })
