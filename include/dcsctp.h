@@ -277,8 +277,9 @@ typedef struct dcsctp_socket {
  *   twice the value all data is, as long as the association lasts.
  * `follow_rfc`: rules of the RFCs hold that dcsctp 0.1.16 doesn't keep. A shutdown sends first what
  *   waits, data that finds no room or fills a gap is answered at once, the peer is told when a full
- *   receive window opens, a peer's SHUTDOWN acknowledges data, and streams of equal priority take
- *   turns. At 0 all is as in dcsctp 0.1.16. docs/DIFFERENCES.md has a row for each rule. */
+ *   receive window opens, a peer's SHUTDOWN acknowledges data, streams of equal priority take
+ *   turns, and a reset that is in progress is asked for under the next number. At 0 all is as in
+ *   dcsctp 0.1.16. docs/DIFFERENCES.md has a row for each rule. */
 typedef struct dcsctp_options {
     size_t mtu;                                          /* longest packet that is sent: 1,191 */
     size_t max_message_size;                             /* longest message to send: 262,144 */
@@ -559,10 +560,11 @@ int32_t dcsctp_send(dcsctp_socket *socket, uint16_t stream_id, uint32_t ppid,
  * DCSCTP_EVENT_INCOMING_STREAM_RESET, and drops what waits there for an earlier message.
  *
  * Wait also until `unack_data_count` of dcsctp_get_metrics is 0. A peer that misses data when the
- * request comes doesn't perform it yet, and some peers never do: then neither event comes. If it
- * misses data because its user takes no messages, the request is sent again and again. Without
- * `follow_rfc` each one that is lost counts as an error, which can abort a live association within
- * a minute.
+ * request comes doesn't perform it yet, and without `follow_rfc` some peers never do: then neither
+ * event comes. If it misses data because its user takes no messages, the request is sent again and
+ * again. Each one that is lost counts as an error, and without `follow_rfc` no answer clears that
+ * count: a live association can be aborted within a minute. With it the peer's user may be told
+ * twice of one reset.
  *
  * Errors: NO_SOCKET, NOT_CONNECTED, NOT_SUPPORTED, FAILED, OUT_OF_MEMORY. If there is no memory for
  * a copy of the numbers, nothing has changed, and the call may be tried again. */

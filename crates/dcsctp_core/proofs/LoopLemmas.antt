@@ -7,7 +7,8 @@ use Rattle.dcsctp_transfer.specs.spec.endpoint.Event.{Event}
 use Rattle.dcsctp_transfer.specs.spec.Packet.{Emission}
 use Rattle.dcsctp_transfer.specs.spec.endpoint.Endpoint.{Endpoint, Core, closed, cookie_wait, cookie_echoed, open_in, held_in}
 use Rattle.dcsctp_transfer.specs.spec.endpoint.Outcome.{Outcome, still}
-use Rattle.dcsctp_transfer.specs.spec.endpoint.BegunResets.{BegunReset, held_asking, held_begun, core_asking, after_begun}
+use Rattle.dcsctp_transfer.specs.spec.association.FlushChanges.{held_asking}
+use Rattle.dcsctp_transfer.specs.spec.endpoint.BegunResets.{BegunReset, held_begun, core_asking, after_begun}
 use Rattle.dcsctp_transfer.specs.spec.endpoint.DataOutcomes.{flush_by, AnswersTo}
 use Rattle.dcsctp_transfer.specs.spec.endpoint.FlushOutcomes.{Answer, draft_to, next_draft, flush_of, packets_allowed, Ask, first_ask, later_ask}
 use Rattle.dcsctp_transfer.proofs.spec_lemmas.AnswerLemmas.{any_answers}

@@ -2,6 +2,7 @@
 use Rattle.std.specs.Prelude.{ℕ, Bool, false, not, Option, None, Some}
 use Rattle.std.specs.Option.{option_map}
 use Rattle.dcsctp_transfer.specs.spec.endpoint.Endpoint.{Endpoint, OutstandingRequest}
+use Rattle.dcsctp_transfer.specs.spec.association.FlushChanges.{next_number}
 use Rattle.dcsctp_transfer.specs.spec.endpoint.ReconfigurationOutcomes.{reconfiguration_expired, request_expired}
 use Rattle.dcsctp_core.specs.declared.state.State.{State}
 use Rattle.dcsctp_core.specs.declared.state.State.TheVariants.{Closed, CookieWait, CookieEchoed, Open}
@@ -21,6 +22,18 @@ tried_again request = record request { waits_for_retry = false }
 
 abbrev pub without_retry : TransmissionControlBlock → TransmissionControlBlock
 without_retry tcb = record tcb { reset_request = option_map tried_again tcb.reset_request }
+
+-- Our outstanding request takes the next number in place of its own.
+abbrev pub renumbered_by : Option ResetRequest → TransmissionControlBlock → TransmissionControlBlock
+renumbered_by None tcb = tcb
+renumbered_by (Some request) tcb =
+    record tcb {
+      next_outgoing_reset_req_seq_nbr = next_number tcb.next_outgoing_reset_req_seq_nbr;
+      reset_request = Some (record request { number = tcb.next_outgoing_reset_req_seq_nbr });
+    }
+
+abbrev pub renumbered : TransmissionControlBlock → TransmissionControlBlock
+renumbered tcb = renumbered_by tcb.reset_request tcb
 
 -- the request once its timer has come to this moment
 abbrev pub request_told : ℕ → ResetRequest → ResetRequest

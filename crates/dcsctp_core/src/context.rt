@@ -86,11 +86,13 @@ pub struct Context<R> {
 }
 
 impl<R: Rng> Context<R> {
-    ghost use Rattle.std.specs.Prelude.{◌≡◌, Bool, ℕ, List, string_bytes};
+    ghost use Rattle.std.specs.Prelude.{◌≡◌, ◌+◌, Bool, ℕ, List, length, nat_le, string_bytes};
     ghost use Rattle.rand_core.specs.Stream.{next_u32, next_u64};
     ghost use Rattle.dcsctp_transfer.specs.types.declared.word.Word.TheVariants.{U32, U64};
     ghost use Rattle.dcsctp_transfer.specs.spec.endpoint.Outcome.{counted};
     ghost use Rattle.dcsctp_transfer.specs.wire.Content.{chunk_content};
+    ghost use Rattle.dcsctp_transfer.specs.wire.Spelling.{chunk_bytes};
+    ghost use Rattle.dcsctp_transfer.specs.types.Settings.{packet_size_limit};
     ghost use Rattle.dcsctp_transfer.specs.spec.endpoint.TimeTurns.{own_timer};
     ghost use Rattle.dcsctp_transfer.specs.spec.endpoint.OwnTimers.{heartbeat_interval, heartbeat_timeout, reconfiguration, retransmission};
     ghost use Rattle.dcsctp_transfer.specs.spec.endpoint.HeartbeatOutcomes.{interval_expired, beating, timeout_outcome, answered, is_exhausted};
@@ -185,6 +187,16 @@ impl<R: Rng> Context<R> {
         ensures { result.now ≡ (view_of self.now).pairs }
     {
         &self.pairs
+    }
+
+    /// Does a packet of this chunk alone fit `mtu`?
+    pub fn fits(&self, chunk: &Chunk<'_>) -> bool
+        ensures { result ≡ nat_le (12 + length (chunk_bytes (chunk_content chunk.now)))
+            (packet_size_limit self.now.options) }
+    {
+        sizes();
+        let size = chunk.serialized_size().saturating_add(12);
+        size <= self.options.mtu - self.options.mtu % 4
     }
 
     /// Emits a packet of one chunk, and counts it (the count saturates). If it doesn't fit `mtu`, nothing is

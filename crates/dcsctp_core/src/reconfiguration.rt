@@ -3,7 +3,7 @@
 
 ghost use Rattle.std.specs.Prelude.{◌≡◌};
 ghost use Rattle.dcsctp_transfer.specs.spec.endpoint.Timers.{running_deadline, expires_at};
-ghost use Rattle.dcsctp_core.specs.Reconfiguring.{is_unanswered, without_retry, reconfiguration_told};
+ghost use Rattle.dcsctp_core.specs.Reconfiguring.{is_unanswered, without_retry, renumbered, reconfiguration_told};
 ghost use Rattle.dcsctp_core.specs.View.{timer_of};
 
 use crate::transmission_control_block::TransmissionControlBlock;
@@ -41,6 +41,21 @@ impl TransmissionControlBlock {
         match &mut self.reset_request {
             None => false,
             Some(request) => !std::mem::replace(&mut request.waits_for_retry, false),
+        }
+    }
+
+    /// Our outstanding request, if there is one, takes the next number in place of its own (RFC 6525, section
+    /// 5.2.7). Allocates nothing.
+    pub fn renumber_reset(&mut self)
+        ensures { self.new ≡ renumbered self.old }
+    {
+        let number = self.next_outgoing_reset_req_seq_nbr;
+        match &mut self.reset_request {
+            None => {}
+            Some(request) => {
+                request.number = number;
+                self.next_outgoing_reset_req_seq_nbr = number.wrapping_add(1);
+            }
         }
     }
 }

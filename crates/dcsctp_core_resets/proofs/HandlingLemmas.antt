@@ -228,7 +228,7 @@ deferred old state streams reset (Err fault) new here names changes same = here 
 -- ---- one packet of them
 
 -- a packet of one chunk, by whether it fits
-emitted_where : {R : Type 0} (stream : R → Stream) (v : View R) (emission : Emission) (bytes : List ℕ) (b : Bool) → emission_bytes (ports_of v.endpoint.options) emission ≡ bytes
+pub emitted_where : {R : Type 0} (stream : R → Stream) (v : View R) (emission : Emission) (bytes : List ℕ) (b : Bool) → emission_bytes (ports_of v.endpoint.options) emission ≡ bytes
     → Moves stream v (if b then sends v.endpoint [] [] emission else quiet v.endpoint [] []) (if b then record v { endpoint = counted v.endpoint; events = v.events ++ sent bytes ∷ [] } else v)
 emitted_where stream v emission bytes true is =
     record {

@@ -12,7 +12,7 @@ use Rattle.dcsctp_core.specs.types.declared.association.Held.{Held}
 use Rattle.dcsctp_core.specs.spec.endpoint.Event.{Event, streams_reset_performed}
 use Rattle.dcsctp_core.specs.spec.Packet.{Emission}
 use Rattle.dcsctp_core.specs.spec.Reconfiguration.{RequestedReset, ResetParameter, outgoing_reset_request, incoming_reset_request, reconfiguration_response, other_reset_parameter, reset_parameter_content, reset_parameter_in}
-use Rattle.dcsctp_core.specs.spec.association.Effect.{Effect, draws, sends, holds, connects, ends, begins, completes, fails, accepts, performs, resumes, drawn_in}
+use Rattle.dcsctp_core.specs.spec.association.Effect.{Effect, draws, sends, holds, connects, ends, begins, gives_up, completes, fails, accepts, performs, resumes, drawn_in}
 use Rattle.dcsctp_core.specs.spec.association.ResetChanges.{Place, again, next, astray, place_of, Answered, accepted, outgoing_by, incoming_by, Informed, is_outstanding, informed_where, WorkedParameters, after_request, after_answer, work_parameters, work_chunk, informed_by}
 use Rattle.dcsctp_core.specs.spec.endpoint.FlushOutcomes.{is_none}
 use Rattle.dcsctp_core.specs.spec.endpoint.ResetOutcomes.{has_reset, answers_in_progress, reset_events, worked_part, is_in_progress, own_answer, in_progress_among, has_completed}
@@ -49,6 +49,7 @@ has_both (holds link ∷ front) rest = has_both front rest
 has_both (connects link ∷ front) rest = has_both front rest
 has_both (ends ∷ front) rest = has_both front rest
 has_both (begins number ∷ front) rest = has_both front rest
+has_both (gives_up number ∷ front) rest = has_both front rest
 has_both (resumes link first last ∷ front) rest = has_both front rest
 has_both (completes my number ∷ front) rest = has_both front rest
 has_both (fails number ∷ front) rest = has_both front rest
@@ -79,6 +80,7 @@ told_both theirs own (holds link ∷ front) rest = told_both theirs own front re
 told_both theirs own (connects link ∷ front) rest = told_both theirs own front rest
 told_both theirs own (ends ∷ front) rest = told_both theirs own front rest
 told_both theirs own (begins number ∷ front) rest = told_both theirs own front rest
+told_both theirs own (gives_up number ∷ front) rest = told_both theirs own front rest
 told_both theirs own (resumes link first last ∷ front) rest = told_both theirs own front rest
 
 drawn_both : (front rest : List Effect) → drawn_in front ≡ [] → drawn_in rest ≡ [] → drawn_in (front ++ rest) ≡ []
@@ -91,6 +93,7 @@ drawn_both (holds link ∷ front) rest none more = drawn_both front rest none mo
 drawn_both (connects link ∷ front) rest none more = drawn_both front rest none more
 drawn_both (ends ∷ front) rest none more = drawn_both front rest none more
 drawn_both (begins number ∷ front) rest none more = drawn_both front rest none more
+drawn_both (gives_up number ∷ front) rest none more = drawn_both front rest none more
 drawn_both (resumes link first last ∷ front) rest none more = drawn_both front rest none more
 drawn_both (completes my number ∷ front) rest none more = drawn_both front rest none more
 drawn_both (fails number ∷ front) rest none more = drawn_both front rest none more
@@ -799,6 +802,7 @@ completed_told theirs own (holds link ∷ es) = completed_told theirs own es
 completed_told theirs own (connects link ∷ es) = completed_told theirs own es
 completed_told theirs own (ends ∷ es) = completed_told theirs own es
 completed_told theirs own (begins number ∷ es) = completed_told theirs own es
+completed_told theirs own (gives_up number ∷ es) = completed_told theirs own es
 completed_told theirs own (resumes link first last ∷ es) = completed_told theirs own es
 
 own_performed : (answer : OwnAnswer) (streams : List ℕ) → performed_among (own_events answer streams) ≡ is_completed answer

@@ -205,6 +205,7 @@ fn settle<R: Rng>(context: &mut Context<R>, own: OwnAnswer) -> Option<SocketEven
         }
         OwnAnswer::Performed => {
             context.send_queue.commit_reset_streams();
+            heed_answer(context);
             match end_reset(&mut context.state) {
                 None => None,
                 Some(request) => Some(SocketEvent::OnStreamsResetPerformed(request.streams)),
@@ -212,6 +213,7 @@ fn settle<R: Rng>(context: &mut Context<R>, own: OwnAnswer) -> Option<SocketEven
         }
         OwnAnswer::Failed => {
             context.send_queue.rollback_reset_streams();
+            heed_answer(context);
             match end_reset(&mut context.state) {
                 None => None,
                 Some(request) => Some(SocketEvent::OnStreamsResetFailed(request.streams)),

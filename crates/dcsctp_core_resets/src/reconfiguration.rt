@@ -3,12 +3,15 @@
 ghost use Rattle.std.specs.Prelude.{◌≡◌};
 ghost use Rattle.dcsctp_core.specs.spec.endpoint.TimeTurns.{own_timer};
 ghost use Rattle.dcsctp_core.specs.spec.endpoint.OwnTimers.{reconfiguration};
-ghost use Rattle.dcsctp_core.specs.Handling.{Tries, Emits};
+ghost use Rattle.dcsctp_core.specs.spec.endpoint.ReconfigurationOutcomes.{is_renewed};
+ghost use Rattle.dcsctp_core.specs.Handling.{Tries};
 ghost use Rattle.dcsctp_core.specs.Timing.{Expires};
-ghost use Rattle.dcsctp_core_resets.specs.Repeating.{request_chunk, again_turn, unless_turn};
+ghost use Rattle.dcsctp_core.specs.Reconfiguring.{renumbered, tcb_changed};
+ghost use Rattle.dcsctp_core.specs.View.{endpoint_of, outstanding_of};
+ghost use Rattle.dcsctp_core_resets.specs.Repeating.{request_chunk, EmitsRequest, number_by, renumbered_where, repeated_turn, unless_turn};
 
 use dcsctp_core::wire::{Chunk, OutgoingSsnResetRequestParameter, Parameter, ReConfigChunk};
-use dcsctp_core::{Context, ResetRequest, stream_bytes};
+use dcsctp_core::{Context, ResetRequest, State, TransmissionControlBlock, stream_bytes};
 use rand_core::Rng;
 use std::alloc::AllocError;
 
@@ -19,29 +22,58 @@ fn last_tsn_of(request: &ResetRequest) -> u32
     request.last_tsn
 }
 
-// Sends this request under this tag, if it fits `mtu`. `Err`: an allocation failed, and nothing has changed.
+// The number under which the request is sent: its own, or the next one.
+fn number_of(tcb: &TransmissionControlBlock, request: &ResetRequest, is_new: bool) -> u32
+    ensures { result ≡ number_by is_new request.now.number tcb.now.next_outgoing_reset_req_seq_nbr }
+{
+    if is_new {
+        tcb.next_outgoing_reset_req_seq_nbr
+    } else {
+        request.number
+    }
+}
+
+// Sends this request under this tag, if it fits `mtu`. Returns whether it does. `Err`: an allocation failed, and
+// nothing has changed.
 fn emit_request<R: Rng>(
     context: &mut Context<R>,
     tag: u32,
     write_checksum: bool,
     request: OutgoingSsnResetRequestParameter<'_>,
-) -> Result<(), AllocError>
-    ensures { Emits write_checksum tag (request_chunk request.entry) context.old result context.new }
+) -> Result<bool, AllocError>
+    ensures { EmitsRequest write_checksum tag (request_chunk request.entry) context.old result context.new }
 {
     let mut parameters = Vec::with_capacity(context.alloc, 1)?;
     parameters.push(Parameter::OutgoingSsnResetRequest(request))?;
-    context.emit(
-        tag,
-        write_checksum,
-        &Chunk::ReConfig(ReConfigChunk { parameters }),
-    )?;
-    Ok(())
+    let chunk = Chunk::ReConfig(ReConfigChunk { parameters });
+    let fits = context.fits(&chunk);
+    context.emit(tag, write_checksum, &chunk)?;
+    Ok(fits)
 }
 
-// Sends our outstanding request again, if there is one and it fits `mtu`. `Err`: an allocation failed, and
-// nothing has changed.
-fn send_request<R: Rng>(context: &mut Context<R>) -> Result<(), AllocError>
-    ensures { Tries R.stream again_turn context.old result context.new }
+// Our outstanding request, if there is one, takes the next number.
+fn renumber(state: &mut State)
+    ensures { state.new ≡ tcb_changed renumbered state.old }
+{
+    match state.tcb_mut() {
+        None => {}
+        Some(tcb) => tcb.renumber_reset(),
+    }
+}
+
+// It does if it was sent under that number.
+fn renumber_where(state: &mut State, is_sent: bool, is_new: bool)
+    ensures { state.new ≡ renumbered_where is_sent is_new state.old }
+{
+    if is_sent && is_new {
+        renumber(state);
+    }
+}
+
+// Sends our outstanding request again, if there is one and it fits `mtu`: under its number, or under the next
+// one, which takes its place. `Err`: an allocation failed, and nothing has changed.
+fn send_request<R: Rng>(context: &mut Context<R>, is_new: bool) -> Result<(), AllocError>
+    ensures { Tries R.stream (repeated_turn is_new) context.old result context.new }
 {
     match context.state.tcb() {
         None => Ok(()),
@@ -50,7 +82,7 @@ fn send_request<R: Rng>(context: &mut Context<R>) -> Result<(), AllocError>
             Some(request) => {
                 let tag = tcb.peer.tag;
                 let write_checksum = !tcb.capabilities.zero_checksum_enabled();
-                let number = request.number;
+                let number = number_of(tcb, request, is_new);
                 let last_tsn = last_tsn_of(request);
                 let streams = stream_bytes(context.alloc, &request.streams)?;
                 let request = OutgoingSsnResetRequestParameter {
@@ -59,32 +91,52 @@ fn send_request<R: Rng>(context: &mut Context<R>) -> Result<(), AllocError>
                     sender_last_assigned_tsn: last_tsn,
                     streams: &streams,
                 };
-                emit_request(context, tag, write_checksum, request)
+                let is_sent = emit_request(context, tag, write_checksum, request)?;
+                renumber_where(&mut context.state, is_sent, is_new);
+                Ok(())
             }
         },
     }
 }
 
-// Sends it, unless the association is to be aborted. `Err`: an allocation failed, and nothing has changed.
-fn send_unless_exhausted<R: Rng>(context: &mut Context<R>) -> Result<(), AllocError>
-    ensures { Tries R.stream unless_turn context.old result context.new }
+// Is our outstanding request, if there is one, to be sent under the next number? With `Options::follow_rfc` it
+// is, where the peer has answered that it is in progress.
+fn is_renewed<R: Rng>(context: &Context<R>) -> bool
+    ensures { result ≡ is_renewed (endpoint_of context.now) (outstanding_of context.now.state) }
+{
+    match context.state.tcb() {
+        None => false,
+        Some(tcb) => match &tcb.reset_request {
+            None => false,
+            Some(request) => context.options.follow_rfc && request.waits_for_retry,
+        },
+    }
+}
+
+// Sends it, under its number or under the next one, unless the association is to be aborted. `Err`: an
+// allocation failed, and nothing has changed.
+fn send_unless_exhausted<R: Rng>(context: &mut Context<R>, is_new: bool) -> Result<(), AllocError>
+    ensures { Tries R.stream (unless_turn is_new) context.old result context.new }
 {
     if context.has_too_many_errors() {
         return Ok(());
     }
-    send_request(context)
+    send_request(context, is_new)
 }
 
 /// Advances the reconfiguration timer to the present moment, and returns whether it expires. Then our
-/// outstanding request is sent again, if the count of errors allows (RFC 6525, section 5.1.1).
+/// outstanding request is sent again, if the count of errors allows (RFC 6525, section 5.1.1). With
+/// `Options::follow_rfc` one that the peer has answered as in progress goes out under the next number (RFC
+/// 6525, section 5.2.7).
 ///
 /// `Err`: an allocation failed; the first of its events may already have been added.
 pub fn handle_reconfiguration<R: Rng>(context: &mut Context<R>) -> Result<bool, AllocError>
     ensures { Expires R.stream (own_timer reconfiguration) context.old result context.new }
 {
+    let is_new = is_renewed(context);
     if !context.expire_reconfiguration() {
         return Ok(false);
     }
-    send_unless_exhausted(context)?;
+    send_unless_exhausted(context, is_new)?;
     Ok(true)
 }

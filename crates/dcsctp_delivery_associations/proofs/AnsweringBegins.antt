@@ -1,5 +1,5 @@
 -- Turns of the receiver in which an association begins.
-use Rattle.std.proofs.Common.{◌≡◌, ◌≢◌, ℕ, ◌≤◌, suc, Bool, true, false, Option, None, Some, List, [], ◌∷◌, length, refl, sym, ◌∙◌, ap, subst, arith, inl, inr}
+use Rattle.std.proofs.Common.{◌≡◌, ◌≢◌, ℕ, Bool, true, false, Option, None, Some, List, [], ◌∷◌, length, refl, sym, ◌∙◌, ap, subst, arith, inl, inr}
 use Rattle.std.specs.Prelude.{◌⊎◌}
 use Rattle.dcsctp_spec_lemmas.specs.types.declared.association.Pair.{Pair}
 use Rattle.dcsctp_spec_runs.specs.Past.{Has, number_to_accept, number_to_perform}
@@ -9,7 +9,7 @@ use Rattle.dcsctp_spec_lemmas.specs.spec.queues.Reassembly.{DeferralModel}
 use Rattle.dcsctp_spec_lemmas.specs.spec.endpoint.BegunResets.{BegunReset}
 use Rattle.dcsctp_delivery_directions.specs.Directions.{nothing_asked, Asking}
 use Rattle.dcsctp_delivery_associations.specs.Answered as answered
-use Rattle.dcsctp_delivery_associations.specs.Answered.{Requests, number_at, WasHeld, WasJoined, AreAsked, IsPlaced, WerePerformed, IsInStep, StandsSo, Answers}
+use Rattle.dcsctp_delivery_associations.specs.Answered.{Requests, number_at, WantFrom, WasHeld, WasJoined, AreAsked, IsPlaced, WerePerformed, IsInStep, StandsSo, Answers}
 use Rattle.dcsctp_delivery_associations.proofs.AnsweringRests.{after_new, after_split, joined_later, asked_later}
 
 -- ---- it begins where it is expected
@@ -85,23 +85,23 @@ module _ (requests : ℕ → Requests) (mine : Option Link) (past : List Effect)
     stands_none : (requests t).asking.requests ≡ [] → StandsSo (requests t) later waits'
     stands_none none = answered.in_step (answered.all_performed (accept_first (requests t).asking.requests none) perform empty (inl none))
 
-    -- At most one was begun, and it wasn't performed.
-    stands_one : AreAsked (requests t) their_past → (l : List BegunReset) → (requests t).asking.requests ≡ l → (b : Bool) → (requests t).is_interleaved ≡ b → StandsSo (requests t) later waits'
-    stands_one asked [] is b kind = stands_none is
-    stands_one asked (begun ∷ earlier) is false kind = answered.plain kind (λ none. absurd (cc))
-    stands_one asked (begun ∷ []) is true kind = answered.in_step (answered.unaccepted begun [] is (accept_first [] refl) perform empty (not_yet (requests t).asking.is_performed refl))
+    -- None was performed, so that all want the same.
+    stands_behind : AreAsked (requests t) their_past → (l : List BegunReset) → (requests t).asking.requests ≡ l → (b : Bool) → (requests t).is_interleaved ≡ b → StandsSo (requests t) later waits'
+    stands_behind asked [] is b kind = stands_none is
+    stands_behind asked (begun ∷ earlier) is false kind = answered.plain kind (λ none. absurd (cc))
+    stands_behind asked (begun ∷ earlier) is true kind =
+        answered.in_step (answered.unaccepted begun earlier 0 is (omega arith) all_want (accept_first [] refl) perform empty (not_yet (requests t).asking.is_performed refl))
       where
+        all_want : WantFrom 0 begun.reset (requests t).asking.requests
+        all_want = elim (asked.some_performed kind begun earlier is) [ inl has ↦ absurd (none_performed_yet (requests t).my has.0 my_is has.1) | inr want ↦ want ]
+
         not_yet : (b : Bool) → (requests t).asking.is_performed ≡ b → (requests t).asking.is_performed ≡ false
         not_yet false known = known
-        not_yet true known = absurd (none_performed_yet (requests t).my _ my_is (asked.performed_is kind known 0 (sym (ap (λ (l : List BegunReset). length l) is))))
-    stands_one asked (begun ∷ second ∷ earlier) is true kind =
-        let count : length (requests t).asking.requests ≡ suc (suc (length earlier)) = ap (λ (l : List BegunReset). length l) is in
-        let one : (requests t).asking.out ≤ 1 = asked.out in
-        absurd (none_performed_yet (requests t).my _ my_is (asked.ended kind 0 (omega (arith, count, one))))
+        not_yet true known = absurd (none_performed_yet (requests t).my _ my_is (asked.performed_is kind known (length earlier) (sym (ap (λ (l : List BegunReset). length l) is))))
 
     stands_new : ((requests t).asking ≡ nothing_asked) ⊎ AreAsked (requests t) their_past → StandsSo (requests t) later waits'
     stands_new (inl none) = stands_none (ap (λ (s : Asking). s.requests) none)
-    stands_new (inr asked) = stands_one asked (requests t).asking.requests refl (requests t).is_interleaved refl
+    stands_new (inr asked) = stands_behind asked (requests t).asking.requests refl (requests t).is_interleaved refl
 
     pub begins_expected : Answers requests mine past (Some new) later waits'
     begins_expected =

@@ -1,5 +1,5 @@
 -- Turns of the receiver in which a request is deferred (RFC 6525, section 5.2.2).
-use Rattle.std.proofs.Common.{◌≡◌, ℕ, ◌<◌, ◌-◌, ◌^◌, false, Option, Some, List, length, refl, sym, ◌∙◌, ap, subst, inl, inr}
+use Rattle.std.proofs.Common.{◌≡◌, ℕ, ◌<◌, ◌-◌, ◌^◌, suc, false, Option, Some, List, length, sym, ◌∙◌, ap, subst, inl, inr}
 use Rattle.std.specs.Prelude.{◌⊎◌}
 use Rattle.dcsctp_spec_lemmas.specs.types.declared.association.Pair.{Pair}
 use Rattle.dcsctp_spec_runs.specs.Past.{Has, number_to_accept, number_to_perform}
@@ -11,14 +11,14 @@ use Rattle.dcsctp_spec_lemmas.specs.spec.queues.Reassembly.{DeferralModel}
 use Rattle.dcsctp_spec_lemmas.specs.spec.endpoint.BegunResets.{BegunReset}
 use Rattle.dcsctp_delivery_receiving.specs.Clear.{IsOwn}
 use Rattle.dcsctp_delivery_sending.specs.Places as places
+use Rattle.dcsctp_delivery_turns.specs.PeerRequests.{WaitsFor}
 use Rattle.dcsctp_delivery_associations.specs.Answered as answered
-use Rattle.dcsctp_delivery_associations.specs.Answered.{Requests, IsInStep, StandsSo, Answers}
-use Rattle.dcsctp_delivery_associations.proofs.RequestNumbers.{number_behind}
-use Rattle.dcsctp_delivery_associations.proofs.AnsweringNewest.{numbers_of, newest_is_asked}
+use Rattle.dcsctp_delivery_associations.specs.Answered.{Requests, number_at, IsInStep, StandsSo, Answers}
+use Rattle.dcsctp_delivery_associations.proofs.RequestNumbers.{next_place}
+use Rattle.dcsctp_delivery_associations.proofs.AnsweringNewest.{due_there}
 use Rattle.dcsctp_delivery_associations.proofs.AnsweringRests.{stays_standing}
 
-own_left : (reset : RequestedReset) (waits : Option DeferralModel) (left : DeferralModel) → IsOwn reset waits
-    → (left.last_tsn ≡ reset.last_tsn) ⊎ ((before : DeferralModel) × (waits ≡ Some before) × (left.last_tsn ≡ before.last_tsn)) → left.last_tsn ≡ reset.last_tsn
+own_left : (reset : RequestedReset) (waits : Option DeferralModel) (left : DeferralModel) → IsOwn reset waits → WaitsFor reset waits left → left.last_tsn ≡ reset.last_tsn
 own_left reset waits left own (inl same) = same
 own_left reset waits left own (inr was) = was.2 ∙ subst (IsOwn reset) was.1 own
 
@@ -33,15 +33,15 @@ module _ (requests : ℕ → Requests) (mine : Option Link) (past : List Effect)
   pub defers_it : (begun : BegunReset) (left : DeferralModel) → IsInStep (requests link.my.tag) their_past waits → places.Has begun (requests link.my.tag).asking.requests
       → length (requests link.my.tag).asking.requests < 2 ^ 32 - 1 → (number_to_accept their_past ≡ Some begun.number) ⊎ (number_to_perform their_past ≡ Some begun.number)
       → number_to_accept (after_effects happened their_past) ≡ Some (next_number begun.number) → number_to_perform (after_effects happened their_past) ≡ Some begun.number → waits' ≡ Some left
-      → (left.last_tsn ≡ begun.reset.last_tsn) ⊎ ((before : DeferralModel) × (waits ≡ Some before) × (left.last_tsn ≡ before.last_tsn))
+      → WaitsFor begun.reset waits left
       → Answers requests mine past (Some link) (after_effects happened their_past) waits'
   defers_it begun left step has few expected accept perform is last =
-      let newest = newest_is_asked requests mine past link their_past waits begun a step has few expected in
-      let numbers = numbers_of (requests link.my.tag) their_past (a.asked link.my.tag (a.theirs_held link refl).0.some) in
+      let due = due_there requests mine past link their_past waits begun a step has few expected in
+      let next : next_number begun.number ≡ number_at (requests link.my.tag).first (suc due.place) = ap next_number due.at ∙ next_place (requests link.my.tag).first due.place in
       stands_at_link
       (answered.in_step
-      (answered.in_progress begun newest.0 newest.1 (accept ∙ ap Some (number_behind (requests link.my.tag).first begun newest.0 (requests link.my.tag).asking.requests newest.1 numbers)) perform
-      (subst (IsOwn begun.reset) (sym is) (own_left begun.reset waits left newest.2 last)) newest.3))
+      (answered.in_progress due.newest due.earlier due.place due.is due.below due.want (accept ∙ ap Some next) (perform ∙ ap Some due.at)
+      (subst (IsOwn due.newest.reset) (sym is) (own_left due.newest.reset waits left due.own (subst (λ (r : RequestedReset). WaitsFor r waits left) due.wants last))) due.unknown))
 
   -- Messages don't interleave.
   pub defers_plain : (begun : BegunReset) → (requests link.my.tag).is_interleaved ≡ false → places.Has begun (requests link.my.tag).asking.requests

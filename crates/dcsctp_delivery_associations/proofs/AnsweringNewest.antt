@@ -1,5 +1,5 @@
--- The request that the receiver accepts or performs is the newest.
-use Rattle.std.proofs.Common.{◌≡◌, ℕ, ◌<◌, ◌-◌, ◌^◌, false, Option, Some, List, ◌∷◌, length, refl, sym, ◌∙◌, ap, subst, arith, inl, inr}
+-- The request that the receiver accepts or performs wants what the newest wants.
+use Rattle.std.proofs.Common.{◌≡◌, ◌≢◌, ℕ, ◌<◌, ◌≤◌, ◌-◌, ◌^◌, suc, false, Option, Some, List, ◌∷◌, length, refl, sym, ◌∙◌, ap, subst, arith, inl, inr}
 use Rattle.std.specs.Prelude.{◌⊎◌}
 use Rattle.dcsctp_spec_runs.specs.Past.{number_to_accept, number_to_perform}
 use Rattle.dcsctp_spec_lemmas.specs.spec.association.Effect.{Link, Effect}
@@ -10,12 +10,21 @@ use Rattle.dcsctp_delivery_sending.specs.Places as places
 use Rattle.dcsctp_delivery_directions.specs.Directions.{Asking, nothing_asked}
 use Rattle.dcsctp_delivery_turns.specs.Asking.{AreNumbered}
 use Rattle.dcsctp_delivery_associations.specs.Answered as answered
-use Rattle.dcsctp_delivery_associations.specs.Answered.{Requests, number_at, AreAsked, IsInStep, Answers}
-use Rattle.dcsctp_delivery_associations.proofs.RequestNumbers.{same_place, newest_number, number_among, is_newest}
+use Rattle.dcsctp_delivery_associations.specs.Answered.{Requests, number_at, WantFrom, AreAsked, IsInStep, Answers}
+use Rattle.dcsctp_delivery_associations.proofs.RequestNumbers.{same_place, newest_number, number_among, is_newest, want_later, wanted_at}
 
--- It is the newest, none was known to be performed, and what waits, waits for it.
-abbrev pub IsNewest : Requests → Option DeferralModel → BegunReset → Type 0
-IsNewest requests waits begun = (earlier : List BegunReset) × (requests.asking.requests ≡ begun ∷ earlier) × IsOwn begun.reset waits × (requests.asking.is_performed ≡ false)
+-- It is the one at this place, from which on all want the same; none was known to be performed; and what waits, waits for it.
+pub record IsDueAt (requests : Requests) (waits : Option DeferralModel) (begun : BegunReset) : Type 0 where
+  pub newest : BegunReset
+  pub earlier : List BegunReset
+  pub is : requests.asking.requests ≡ newest ∷ earlier
+  pub place : ℕ
+  pub below : place ≤ length earlier
+  pub at : begun.number ≡ number_at requests.first place
+  pub want : WantFrom place newest.reset requests.asking.requests
+  pub wants : begun.reset ≡ newest.reset
+  pub own : IsOwn newest.reset waits
+  pub unknown : requests.asking.is_performed ≡ false
 
 pub numbers_of : (requests : Requests) (their_past : List Effect) → (requests.asking ≡ nothing_asked) ⊎ AreAsked requests their_past → AreNumbered requests.first requests.asking.requests
 numbers_of requests their_past (inl none) = subst (λ (a : Asking). AreNumbered requests.first a.requests) (sym none) tt
@@ -26,31 +35,63 @@ module _ (requests : Requests) (their_past : List Effect) (waits : Option Deferr
   abbrev all : List BegunReset
   all = requests.asking.requests
 
-  newest_of : (newest : BegunReset) (earlier : List BegunReset) → all ≡ newest ∷ earlier → begun.number ≡ newest.number → IsOwn newest.reset waits → requests.asking.is_performed ≡ false → IsNewest requests waits begun
-  newest_of newest earlier is same own not =
-      let one : begun ≡ newest = is_newest requests.first newest earlier all begun is numbers (omega (arith, few)) has same in
-      (earlier, is ∙ ap (λ (b : BegunReset). b ∷ earlier) (sym one), subst (λ (b : BegunReset). IsOwn b.reset waits) (sym one) own, not)
+  -- The number of a request is that of a place of one.
+  under : (place : ℕ) → begun.number ≡ number_at requests.first place → place ≤ length all → place < length all
+  under place at le =
+      let r = number_among requests.first all begun numbers has in
+      let here : r.0 ≡ place = same_place requests.first r.0 place (sym r.2 ∙ at) (omega (arith, r.1, few)) (omega (arith, le, few)) in
+      omega (arith, here, r.1)
+
+  due_at : (newest : BegunReset) (earlier : List BegunReset) (first place : ℕ) → all ≡ newest ∷ earlier → first ≤ place → place ≤ length all → begun.number ≡ number_at requests.first place → WantFrom first newest.reset all
+      → IsOwn newest.reset waits → requests.asking.is_performed ≡ false → IsDueAt requests waits begun
+  due_at newest earlier first place is le above at want own un =
+      let long : length all ≡ suc (length earlier) = ap (λ (l : List BegunReset). length l) is in
+      let below : place < length all = under place at above in
+      let from : WantFrom place newest.reset all = want_later first place newest.reset all le want in
+      record {
+        newest = newest;
+        earlier = earlier;
+        is = is;
+        place = place;
+        below = omega (arith, long, below);
+        at = at;
+        want = from;
+        wants = wanted_at requests.first place newest.reset all begun numbers (omega (arith, few)) has (omega (arith, below, few)) at from;
+        own = own;
+        unknown = un;
+      }
 
   -- No request has the number behind the newest.
   none_behind : number_to_accept their_past ≡ Some (number_at requests.first (length all)) → number_to_accept their_past ≡ Some begun.number → ⊥
-  none_behind is expected =
-      let r = number_among requests.first all begun numbers has in
-      let same : begun.number ≡ number_at requests.first (length all) = cc in
-      let here : r.0 ≡ length all = same_place requests.first r.0 (length all) (sym r.2 ∙ same) (omega (arith, r.1, few)) (omega (arith, few)) in absurd (omega (arith, here, r.1))
+  none_behind is expected = (let same : begun.number ≡ number_at requests.first (length all) = cc in let below = under (length all) same (omega arith) in omega (arith, below))
 
-  pub newest_in_step : IsInStep requests their_past waits → (number_to_accept their_past ≡ Some begun.number) ⊎ (number_to_perform their_past ≡ Some begun.number) → IsNewest requests waits begun
-  newest_in_step (answered.all_performed number none empty is) (inl expected) = absurd (none_behind number expected)
-  newest_in_step (answered.all_performed number none empty is) (inr expected) = absurd (cc)
-  newest_in_step (answered.unaccepted newest earlier is number none empty not) (inl expected) =
-      let at : newest.number ≡ number_at requests.first (length earlier) = newest_number requests.first newest earlier all is numbers in
-      let same : begun.number ≡ newest.number = cc in newest_of newest earlier is same (subst (IsOwn newest.reset) (sym empty) tt) not
-  newest_in_step (answered.unaccepted newest earlier is number none empty not) (inr expected) = absurd (cc)
-  newest_in_step (answered.in_progress newest earlier is number out own not) (inl expected) = absurd (none_behind number expected)
-  newest_in_step (answered.in_progress newest earlier is number out own not) (inr expected) = newest_of newest earlier is (cc) own not
+  pub due_in_step : IsInStep requests their_past waits → (number_to_accept their_past ≡ Some begun.number) ⊎ (number_to_perform their_past ≡ Some begun.number) → IsDueAt requests waits begun
+  due_in_step (answered.all_performed number none empty is) (inl expected) = absurd (none_behind number expected)
+  due_in_step (answered.all_performed number none empty is) (inr expected) = absurd (cc)
+  due_in_step (answered.unaccepted newest earlier place is below want number none empty un) (inl expected) =
+      let long : length all ≡ suc (length earlier) = ap (λ (l : List BegunReset). length l) is in
+      due_at newest earlier place place is (omega arith) (omega (arith, long, below)) (cc) want (subst (IsOwn newest.reset) (sym empty) tt) un
+  due_in_step (answered.unaccepted newest earlier place is below want number none empty un) (inr expected) = absurd (cc)
+  due_in_step (answered.in_progress newest earlier place is below want number out own un) (inl expected) =
+      let long : length all ≡ suc (length earlier) = ap (λ (l : List BegunReset). length l) is in
+      due_at newest earlier place (suc place) is (omega arith) (omega (arith, long, below)) (cc) want own un
+  due_in_step (answered.in_progress newest earlier place is below want number out own un) (inr expected) =
+      let long : length all ≡ suc (length earlier) = ap (λ (l : List BegunReset). length l) is in
+      due_at newest earlier place place is (omega arith) (omega (arith, long, below)) (cc) want own un
 
-pub newest_is_asked : (requests : ℕ → Requests) (mine : Option Link) (past : List Effect) (link : Link) (their_past : List Effect) (waits : Option DeferralModel) (begun : BegunReset)
+  -- Is it the newest?
+  pub newest_where : (due : IsDueAt requests waits begun) → begun.number ≡ due.newest.number → begun ≡ due.newest
+  newest_where due same = is_newest requests.first due.newest due.earlier all begun due.is numbers (omega (arith, few)) has same
+
+  pub behind_where : (due : IsDueAt requests waits begun) → (begun.number ≡ due.newest.number → ⊥) → due.place < length due.earlier
+  behind_where due ne = (let le = due.below in let other = ne_place in omega (arith, le, other))
+    where
+      ne_place : due.place ≢ length due.earlier
+      ne_place here = ne (due.at ∙ ap (number_at requests.first) here ∙ sym (newest_number requests.first due.newest due.earlier all due.is numbers))
+
+pub due_there : (requests : ℕ → Requests) (mine : Option Link) (past : List Effect) (link : Link) (their_past : List Effect) (waits : Option DeferralModel) (begun : BegunReset)
     → Answers requests mine past (Some link) their_past waits → IsInStep (requests link.my.tag) their_past waits → places.Has begun (requests link.my.tag).asking.requests
     → length (requests link.my.tag).asking.requests < 2 ^ 32 - 1 → (number_to_accept their_past ≡ Some begun.number) ⊎ (number_to_perform their_past ≡ Some begun.number)
-    → IsNewest (requests link.my.tag) waits begun
-newest_is_asked requests mine past link their_past waits begun a step has few expected =
-    newest_in_step (requests link.my.tag) their_past waits begun (numbers_of (requests link.my.tag) their_past (a.asked link.my.tag (a.theirs_held link refl).0.some)) has few step expected
+    → IsDueAt (requests link.my.tag) waits begun
+due_there requests mine past link their_past waits begun a step has few expected =
+    due_in_step (requests link.my.tag) their_past waits begun (numbers_of (requests link.my.tag) their_past (a.asked link.my.tag (a.theirs_held link refl).0.some)) has few step expected

@@ -1,5 +1,5 @@
 -- Turns of the receiver in which a request is performed (RFC 6525, section 5.2.2).
-use Rattle.std.proofs.Common.{◌≡◌, ◌≢◌, ℕ, ◌<◌, ◌-◌, ◌^◌, suc, true, false, Option, None, Some, List, length, refl, sym, ◌∙◌, ap, subst, arith, inl, inr}
+use Rattle.std.proofs.Common.{◌≡◌, ◌≢◌, ℕ, ◌<◌, suc, true, false, Option, None, Some, List, ◌∷◌, length, refl, sym, ◌∙◌, ap, subst, arith, inl, inr}
 use Rattle.std.specs.Prelude.{◌⊎◌}
 use Rattle.dcsctp_spec_lemmas.specs.types.declared.association.Pair.{Pair}
 use Rattle.dcsctp_spec_runs.specs.Past.{Has, number_to_accept, number_to_perform}
@@ -15,10 +15,10 @@ use Rattle.dcsctp_delivery_sending.proofs.Places.{decide, set_same}
 use Rattle.dcsctp_delivery_directions.specs.Directions.{nothing_asked, Asking}
 use Rattle.dcsctp_delivery_turns.specs.Asking.{AreNumbered}
 use Rattle.dcsctp_delivery_associations.specs.Answered as answered
-use Rattle.dcsctp_delivery_associations.specs.Answered.{Requests, number_at, WasHeld, WasJoined, AreAsked, IsPlaced, WerePerformed, IsInStep, StandsSo, Answers}
+use Rattle.dcsctp_delivery_associations.specs.Answered.{Requests, number_at, WasHeld, WasJoined, AreAsked, IsPlaced, WerePerformed, StandsSo, Answers}
 use Rattle.dcsctp_delivery_associations.proofs.Growing.{set_all}
-use Rattle.dcsctp_delivery_associations.proofs.RequestNumbers.{newest_number, number_among, number_behind}
-use Rattle.dcsctp_delivery_associations.proofs.AnsweringNewest.{IsNewest, numbers_of, newest_is_asked}
+use Rattle.dcsctp_delivery_associations.proofs.RequestNumbers.{next_place, newest_number, number_among, number_behind, want_later}
+use Rattle.dcsctp_delivery_associations.proofs.AnsweringNewest.{IsDueAt, numbers_of}
 use Rattle.dcsctp_delivery_associations.proofs.AnsweringRests.{after_new, after_split, joined_later, joined_before, asked_later}
 
 module _ (requests : ℕ → Requests) (mine : Option Link) (past : List Effect) (link : Link) (happened their_past : List Effect) (waits waits' : Option DeferralModel) (begun : BegunReset)
@@ -70,9 +70,9 @@ module _ (requests : ℕ → Requests) (mine : Option Link) (past : List Effect)
   held_still : (there : Link) → Some link ≡ Some there → WasJoined later there.my.tag there.peer × ((requests there.my.tag).my ≡ there.peer)
   held_still there is = let held = a.theirs_held there is in (joined_later happened their_past there.my.tag there.peer held.0, held.1)
 
-  -- Messages don't interleave.
-  pub performs_plain : (requests t).is_interleaved ≡ false → Answers requests mine past (Some link) later waits'
-  performs_plain kind =
+  -- The requests stay as they are.
+  performs_same : (WasJoined later t (requests t).my → WerePerformed (requests t) later) → StandsSo (requests t) later waits' → Answers requests mine past (Some link) later waits'
+  performs_same here stands =
       record {
         asked = λ tag some. asked_later (requests tag) happened their_past (a.asked tag some);
         asked_held = a.asked_held;
@@ -86,11 +86,12 @@ module _ (requests : ℕ → Requests) (mine : Option Link) (past : List Effect)
         mine_held = a.mine_held;
         mine_first = a.mine_first;
         theirs_held = held_still;
-        stands = λ there is. (
-            let same : link ≡ there = cc in
-            subst (λ (l : Link). StandsSo (requests l.my.tag) later waits') same (answered.plain kind (λ none. subst (places.Has begun) none has))
-            );
+        stands = λ there is. (let same : link ≡ there = cc in subst (λ (l : Link). StandsSo (requests l.my.tag) later waits') same stands);
       }
+
+  -- Messages don't interleave.
+  pub performs_plain : (requests t).is_interleaved ≡ false → Answers requests mine past (Some link) later waits'
+  performs_plain kind = performs_same here (answered.plain kind (λ none. subst (places.Has begun) none has))
     where
       here : WasJoined later t (requests t).my → WerePerformed (requests t) later
       here was number there =
@@ -102,11 +103,32 @@ module _ (requests : ℕ → Requests) (mine : Option Link) (past : List Effect)
             | inr old ↦ a.performed t (before t (requests t).my was) number old
           ]
 
+  -- It isn't the newest, and nothing more is known.
+  pub performs_behind : (due : IsDueAt (requests t) waits begun) → due.place < length due.earlier → number_to_accept later ≡ Some (next_number begun.number) → number_to_perform later ≡ None
+      → waits' ≡ None → Answers requests mine past (Some link) later waits'
+  performs_behind due behind accept perform empty =
+      performs_same here
+      (answered.in_step
+      (answered.unaccepted due.newest due.earlier (suc due.place) due.is (omega (arith, behind)) (want_later due.place (suc due.place) due.newest.reset (requests t).asking.requests (omega arith) due.want) (accept ∙ ap Some next) perform empty
+      due.unknown))
+    where
+      next : next_number begun.number ≡ number_at (requests t).first (suc due.place)
+      next = ap next_number due.at ∙ next_place (requests t).first due.place
+
+      count : length (requests t).asking.requests ≡ suc (length due.earlier)
+      count = ap (λ (l : List BegunReset). length l) due.is
+
+      here : WasJoined later t (requests t).my → WerePerformed (requests t) later
+      here was number there =
+          elim (after_split (performs (requests t).my number) happened their_past there) [
+            | inl new ↦ record { place = due.place; below = omega (arith, count, behind); is = (only (requests t).my number new).1 ∙ due.at; newest = λ mixed last. absurd (omega (arith, last, count, behind)) }
+            | inr old ↦ a.performed t (before t (requests t).my was) number old
+          ]
+
   -- It is known then that the newest was performed.
-  pub performs_it : IsInStep (requests t) their_past waits → length (requests t).asking.requests < 2 ^ 32 - 1 → (number_to_accept their_past ≡ Some begun.number) ⊎ (number_to_perform their_past ≡ Some begun.number)
-      → Has (performs link.peer begun.number) happened → number_to_accept later ≡ Some (next_number begun.number) → number_to_perform later ≡ None → waits' ≡ None
+  pub performs_it : (earlier : List BegunReset) → (requests t).asking.requests ≡ begun ∷ earlier → Has (performs link.peer begun.number) happened → number_to_accept later ≡ Some (next_number begun.number) → number_to_perform later ≡ None → waits' ≡ None
       → Answers (set_at t (record (requests t) { asking = record (requests t).asking { is_performed = true } }) requests) mine past (Some link) later waits'
-  performs_it step few expected does accept perform empty =
+  performs_it earlier top does accept perform empty =
       record {
         asked = set_all (λ n r. n ≢ 0 → (r.asking ≡ nothing_asked) ⊎ AreAsked r later) t changed requests (λ some. inr (here_asked (a.asked t some)))
             (λ n ne some. asked_later (requests n) happened their_past (a.asked n some));
@@ -127,18 +149,15 @@ module _ (requests : ℕ → Requests) (mine : Option Link) (past : List Effect)
             subst (λ (l : Link). StandsSo (all l.my.tag) later waits') same
             (subst (λ (r : Requests). StandsSo r later waits') (sym (set_same t changed requests))
             (answered.in_step
-            (answered.all_performed (accept ∙ ap Some (number_behind (requests t).first begun newest.0 (requests t).asking.requests newest.1 numbers)) perform empty (inr refl))))
+            (answered.all_performed (accept ∙ ap Some (number_behind (requests t).first begun earlier (requests t).asking.requests top numbers)) perform empty (inr refl))))
             );
       }
     where
-      newest : IsNewest (requests t) waits begun
-      newest = newest_is_asked requests mine past link their_past waits begun a step has few expected
+      number_is : begun.number ≡ number_at (requests t).first (length earlier)
+      number_is = newest_number (requests t).first begun earlier (requests t).asking.requests top numbers
 
-      number_is : begun.number ≡ number_at (requests t).first (length newest.0)
-      number_is = newest_number (requests t).first begun newest.0 (requests t).asking.requests newest.1 numbers
-
-      count : length (requests t).asking.requests ≡ suc (length newest.0)
-      count = ap (λ (l : List BegunReset). length l) newest.1
+      count : length (requests t).asking.requests ≡ suc (length earlier)
+      count = ap (λ (l : List BegunReset). length l) top
 
       my_same : (tag : ℕ) → (all tag).my ≡ (requests tag).my
       my_same tag = set_all (λ n r. r.my ≡ (requests n).my) t changed requests refl (λ n ne. refl) tag
@@ -147,7 +166,7 @@ module _ (requests : ℕ → Requests) (mine : Option Link) (past : List Effect)
       first_same tag = set_all (λ n r. r.first ≡ (requests n).first) t changed requests refl (λ n ne. refl) tag
 
       at_newest : (place : ℕ) → suc place ≡ length (requests t).asking.requests → begun.number ≡ number_at (requests t).first place
-      at_newest place last = let same : length newest.0 ≡ place = omega (arith, last, count) in number_is ∙ ap (number_at (requests t).first) same
+      at_newest place last = let same : length earlier ≡ place = omega (arith, last, count) in number_is ∙ ap (number_at (requests t).first) same
 
       here_held : ((requests t).asking ≡ nothing_asked) ⊎ WasHeld past t (requests t).my → WasHeld past t (requests t).my
       here_held (inl none) = absurd (subst (λ (s : Asking). places.Has begun s.requests) none has)
@@ -159,15 +178,16 @@ module _ (requests : ℕ → Requests) (mine : Option Link) (past : List Effect)
           record {
             numbers = asked.numbers;
             out = asked.out;
-            ended = λ kind place below. after_within happened their_past _ (asked.ended kind place below);
+            ended = λ kind none place last. after_within happened their_past _ (asked.ended kind none place last);
             performed_is = λ kind is place last.
                 subst (λ (n : ℕ). Has (performs (requests t).my n) later) (at_newest place last)
                 (subst (λ (m : Pair). Has (performs m begun.number) later) (sym (a.theirs_held link refl).1) (after_new (performs link.peer begun.number) happened their_past does));
+            some_performed = λ kind newest rest same. inl (begun.number, subst (λ (m : Pair). Has (performs m begun.number) later) (sym (a.theirs_held link refl).1) (after_new (performs link.peer begun.number) happened their_past does));
           }
 
       here : WasJoined later t (requests t).my → WerePerformed changed later
       here was number there =
           elim (after_split (performs (requests t).my number) happened their_past there) [
-            | inl new ↦ record { place = length newest.0; below = omega (arith, count); is = (only (requests t).my number new).1 ∙ number_is; newest = λ mixed last. refl }
+            | inl new ↦ record { place = length earlier; below = omega (arith, count); is = (only (requests t).my number new).1 ∙ number_is; newest = λ mixed last. refl }
             | inr old ↦ (let p = a.performed t (before t (requests t).my was) number old in record { place = p.place; below = p.below; is = p.is; newest = λ mixed last. refl })
           ]

@@ -4,7 +4,7 @@ use Rattle.std.specs.Prelude.{◌⊎◌}
 use Rattle.dcsctp_spec_lemmas.specs.types.declared.association.Pair.{Pair}
 use Rattle.dcsctp_spec_runs.specs.Past.{Has, number_to_accept, number_to_perform}
 use Rattle.dcsctp_spec_runs.specs.World.{after_effects}
-use Rattle.dcsctp_spec_lemmas.specs.spec.association.Effect.{Link, Effect, draws, sends, holds, connects, ends, begins, completes, fails, accepts, performs, resumes}
+use Rattle.dcsctp_spec_lemmas.specs.spec.association.Effect.{Link, Effect, draws, sends, holds, connects, ends, begins, gives_up, completes, fails, accepts, performs, resumes}
 use Rattle.dcsctp_spec_lemmas.specs.spec.queues.Reassembly.{DeferralModel}
 use Rattle.dcsctp_spec_lemmas.specs.spec.Reconfiguration.{RequestedReset}
 use Rattle.dcsctp_theorem_association.proofs.Growth.{after_within}
@@ -48,7 +48,9 @@ none_performed (connects link ∷ effects) none my number (inr has) = none_perfo
 none_performed (ends ∷ effects) none my number (inl e) = absurd (cc)
 none_performed (ends ∷ effects) none my number (inr has) = none_performed effects none my number has
 none_performed (begins n ∷ effects) none my number (inl e) = absurd (cc)
+none_performed (gives_up n ∷ effects) none my number (inl e) = absurd (cc)
 none_performed (begins n ∷ effects) none my number (inr has) = none_performed effects none my number has
+none_performed (gives_up n ∷ effects) none my number (inr has) = none_performed effects none my number has
 none_performed (completes own n ∷ effects) none my number (inl e) = absurd (cc)
 none_performed (completes own n ∷ effects) none my number (inr has) = none_performed effects none my number has
 none_performed (fails n ∷ effects) none my number (inl e) = absurd (cc)
@@ -67,8 +69,9 @@ asked_later requests happened past (inr asked) =
     (record {
       numbers = asked.numbers;
       out = asked.out;
-      ended = λ kind place below. after_within happened past _ (asked.ended kind place below);
+      ended = λ kind none place newest. after_within happened past _ (asked.ended kind none place newest);
       performed_is = λ kind is place newest. after_within happened past _ (asked.performed_is kind is place newest);
+      some_performed = λ kind newest earlier is. elim (asked.some_performed kind newest earlier is) [ inl has ↦ inl (has.0, after_within happened past _ has.1) | inr want ↦ inr want ];
     })
 
 -- Without `holds` no association was joined.
@@ -158,8 +161,8 @@ stands_same requests their_past their_later waits waits' accept perform same (an
   where
     go : IsInStep requests their_past waits → IsInStep requests their_later waits'
     go (answered.all_performed number none empty is) = answered.all_performed (accept ∙ number) (perform ∙ none) (none_same waits waits' same empty) is
-    go (answered.unaccepted newest earlier is number none empty not) = answered.unaccepted newest earlier is (accept ∙ number) (perform ∙ none) (none_same waits waits' same empty) not
-    go (answered.in_progress newest earlier is number out own not) = answered.in_progress newest earlier is (accept ∙ number) (perform ∙ out) (own_same newest.reset waits waits' same own) not
+    go (answered.unaccepted newest earlier place is below want number none empty un) = answered.unaccepted newest earlier place is below want (accept ∙ number) (perform ∙ none) (none_same waits waits' same empty) un
+    go (answered.in_progress newest earlier place is below want number out own un) = answered.in_progress newest earlier place is below want (accept ∙ number) (perform ∙ out) (own_same newest.reset waits waits' same own) un
 
 pub asks_nothing : (requests : ℕ → Requests) (mine : Option Link) (past : List Effect) (link : Link) (happened their_past : List Effect) (waits waits' : Option DeferralModel)
     → Answers requests mine past (Some link) their_past waits → ((new : Link) → Has (holds new) happened → ⊥) → ((my : Pair) (number : ℕ) → Has (performs my number) happened → ⊥)

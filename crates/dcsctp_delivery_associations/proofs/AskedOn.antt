@@ -7,12 +7,11 @@ use Rattle.dcsctp_spec_runs.specs.World.{after_effects}
 use Rattle.dcsctp_spec_lemmas.specs.spec.association.Effect.{Effect, holds, performs}
 use Rattle.dcsctp_spec_lemmas.specs.spec.queues.Reassembly.{DeferralModel}
 use Rattle.dcsctp_spec_lemmas.specs.spec.endpoint.BegunResets.{BegunReset}
-use Rattle.dcsctp_spec_lemmas.proofs.MarkedItemLemmas.{le_or_lt}
 use Rattle.dcsctp_theorem_association.proofs.Growth.{after_within}
 use Rattle.dcsctp_delivery_directions.specs.Directions.{Asking, nothing_asked, all_ended}
 use Rattle.dcsctp_delivery_turns.specs.Asking.{AreNumbered}
-use Rattle.dcsctp_delivery_associations.specs.Answered.{Requests, number_at, WasHeld, AreAsked, IsPlaced, IsInStep, all_performed, unaccepted, in_progress, StandsSo, in_step, plain}
-use Rattle.dcsctp_delivery_associations.proofs.RequestNumbers.{newest_number}
+use Rattle.dcsctp_delivery_associations.specs.Answered.{Requests, number_at, WantFrom, WasHeld, AreAsked, IsPlaced, IsInStep, all_performed, unaccepted, in_progress, StandsSo, in_step, plain}
+use Rattle.dcsctp_delivery_associations.proofs.RequestNumbers.{newest_number, want_beyond}
 
 pub held_later : (effects past : List Effect) (tag : ℕ) (my : Pair) → WasHeld past tag my → WasHeld (after_effects effects past) tag my
 held_later effects past tag my h = record { link = h.link; held = after_within effects past (holds h.link) h.held; tag_is = h.tag_is; my_is = h.my_is; some = h.some }
@@ -22,6 +21,9 @@ pub data MayEnd (requests : Requests) (their_past : List Effect) : Asking → Ty
   as_it_was : MayEnd requests their_past requests.asking
   has_ended : (requests.is_interleaved ≡ true → (newest : BegunReset) (earlier : List BegunReset) → requests.asking.requests ≡ newest ∷ earlier → Has (performs requests.my newest.number) their_past)
       → MayEnd requests their_past (all_ended requests.asking)
+
+first_of : {one two : BegunReset} {rest others : List BegunReset} → one ∷ rest ≡ two ∷ others → one ≡ two
+first_of is = cc
 
 -- More may be begun.
 pub record MayBegin (first : ℕ) (between asking : Asking) : Type 0 where
@@ -43,30 +45,21 @@ module _ (r : Requests) (their_past : List Effect) (a : (r.asking ≡ nothing_as
   no_place : (place : ℕ) → r.asking ≡ nothing_asked → place < length r.asking.requests → ⊥
   no_place place is below = (let none : length r.asking.requests ≡ 0 = ap (λ (l : List BegunReset). length l) (none_of is) in omega (arith, below, none))
 
-  -- Where no request is without an end, each was performed.
-  all_were : (between : Asking) → MayEnd r their_past between → between.out ≡ 0 → r.is_interleaved ≡ true → (place : ℕ) → place < length r.asking.requests → Has (performs r.my (number_at r.first place)) their_past
-  all_were between ends none interleaved place below = elim a [
-    | inl is ↦ absurd (no_place place is below)
-    | inr asked ↦ go asked between ends none
-  ]
+  -- Where no request is without an end, the newest was performed.
+  newest_was : (between : Asking) → MayEnd r their_past between → between.out ≡ 0 → r.is_interleaved ≡ true → (place : ℕ) → suc place ≡ length r.asking.requests → Has (performs r.my (number_at r.first place)) their_past
+  newest_was between ends none interleaved place last = elim a [ inl is ↦ absurd (no_place place is (omega (arith, last))) | inr asked ↦ go asked between ends none ]
     where
-      last : (requests : List BegunReset) → r.asking.requests ≡ requests → AreAsked r their_past
-          → ((newest : BegunReset) (earlier : List BegunReset) → r.asking.requests ≡ newest ∷ earlier → Has (performs r.my newest.number) their_past)
-          → length r.asking.requests ≤ place + 1 → Has (performs r.my (number_at r.first place)) their_past
-      last [] is asked performed newest = (let none' : length r.asking.requests ≡ 0 = ap (λ (l : List BegunReset). length l) is in absurd (omega (arith, below, none')))
-      last (begun ∷ earlier) is asked performed newest =
+      performed_last : (requests : List BegunReset) → r.asking.requests ≡ requests → AreAsked r their_past
+          → ((newest : BegunReset) (earlier : List BegunReset) → r.asking.requests ≡ newest ∷ earlier → Has (performs r.my newest.number) their_past) → Has (performs r.my (number_at r.first place)) their_past
+      performed_last [] is asked performed = (let none' : length r.asking.requests ≡ 0 = ap (λ (l : List BegunReset). length l) is in absurd (omega (arith, last, none')))
+      performed_last (begun ∷ earlier) is asked performed =
           let long : length r.asking.requests ≡ suc (length earlier) = ap (λ (l : List BegunReset). length l) is in
-          let at : length earlier ≡ place = omega (arith, long, newest, below) in
+          let at : length earlier ≡ place = omega (arith, long, last) in
           subst (λ (n : ℕ). Has (performs r.my n) their_past) (newest_number r.first begun earlier r.asking.requests is asked.numbers ∙ ap (number_at r.first) at) (performed begun earlier is)
 
       go : AreAsked r their_past → (between : Asking) → MayEnd r their_past between → between.out ≡ 0 → Has (performs r.my (number_at r.first place)) their_past
-      go asked _ as_it_was none' = asked.ended interleaved place (omega (arith, below, none'))
-      go asked _ (has_ended performed) none' =
-          let out = asked.out in
-          elim (le_or_lt (length r.asking.requests) (place + r.asking.out)) [
-            | inl x ↦ last r.asking.requests refl asked (performed interleaved) (omega (arith, x, out))
-            | inr x ↦ asked.ended interleaved place x
-          ]
+      go asked _ as_it_was none' = asked.ended interleaved none' place last
+      go asked _ (has_ended performed) none' = performed_last r.asking.requests refl asked (performed interleaved)
 
   requests_same : (between : Asking) → MayEnd r their_past between → between.requests ≡ r.asking.requests
   requests_same _ as_it_was = refl
@@ -85,31 +78,38 @@ module _ (r : Requests) (their_past : List Effect) (a : (r.asking ≡ nothing_as
       record {
         numbers = begins.numbers;
         out = begins.out;
-        ended = λ interleaved place below. ended interleaved begins.more begins.is begins.count place below;
+        ended = λ interleaved none place newest. ended interleaved begins.more begins.is begins.count none place newest;
         performed_is = λ interleaved known place newest. performed interleaved known begins.more begins.is begins.same begins.anew place newest;
+        some_performed = λ interleaved newest earlier is. one_was interleaved begins.more begins.is begins.count newest earlier is;
       }
     where
       same : between.requests ≡ r.asking.requests
       same = requests_same between ends
 
-      ended : r.is_interleaved ≡ true → (more : List BegunReset) → asking.requests ≡ more ++ between.requests → asking.out ≡ length more + between.out → (place : ℕ) → place + asking.out < length asking.requests
+      ended : r.is_interleaved ≡ true → (more : List BegunReset) → asking.requests ≡ more ++ between.requests → asking.out ≡ length more + between.out → asking.out ≡ 0 → (place : ℕ) → suc place ≡ length asking.requests
           → Has (performs r.my (number_at r.first place)) their_past
-      ended interleaved [] is count place below =
-          let long : length asking.requests ≡ length r.asking.requests = ap (λ (l : List BegunReset). length l) (is ∙ same) in
+      ended interleaved [] is count none place newest = newest_was between ends (omega (arith, count, none)) interleaved place (newest ∙ ap (λ (l : List BegunReset). length l) (is ∙ same))
+      ended interleaved (begun ∷ more) is count none place newest = absurd (omega (arith, count, none))
+
+      one_was : r.is_interleaved ≡ true → (more : List BegunReset) → asking.requests ≡ more ++ between.requests → asking.out ≡ length more + between.out → (newest : BegunReset) (earlier : List BegunReset) → asking.requests ≡ newest ∷ earlier
+          → ((number : ℕ) × Has (performs r.my number) their_past) ⊎ WantFrom 0 newest.reset asking.requests
+      one_was interleaved [] is count newest earlier top =
           elim a [
-            | inl none ↦ absurd (no_place place none (omega (arith, below, long)))
-            | inr asked ↦ by_end between ends (omega (arith, below, long, count)) asked
+            | inl none ↦ (let empty : r.asking.requests ≡ [] = none_of none in let some : r.asking.requests ≡ newest ∷ earlier = sym (is ∙ same) ∙ top in absurd (cc))
+            | inr asked ↦ elim (asked.some_performed interleaved newest earlier (sym (is ∙ same) ∙ top)) [
+              | inl has ↦ inl has
+              | inr want ↦ inr (subst (WantFrom 0 newest.reset) (sym (is ∙ same)) want)
+            ]
           ]
+      one_was interleaved (begun ∷ []) is count newest earlier top = by_before r.asking.requests refl
         where
-          by_end : (between : Asking) → MayEnd r their_past between → place + between.out < length r.asking.requests → AreAsked r their_past → Has (performs r.my (number_at r.first place)) their_past
-          by_end _ as_it_was under asked = asked.ended interleaved place under
-          by_end _ (has_ended performed) under asked = all_were (all_ended r.asking) (has_ended performed) refl interleaved place (omega (arith, under))
-      ended interleaved (begun ∷ more) is count place below =
-          let out = begins.out in
-          let long : length asking.requests ≡ suc (length (more ++ between.requests)) = ap (λ (l : List BegunReset). length l) is in
-          let all : length (more ++ between.requests) ≡ length more + length between.requests = length-append more between.requests in
-          let requests : length between.requests ≡ length r.asking.requests = ap (λ (l : List BegunReset). length l) same in
-          all_were between ends (omega (arith, out, count)) interleaved place (omega (arith, below, long, all, requests, out, count))
+          by_before : (before : List BegunReset) → r.asking.requests ≡ before → ((number : ℕ) × Has (performs r.my number) their_past) ⊎ WantFrom 0 newest.reset asking.requests
+          by_before [] none =
+              let all : asking.requests ≡ begun ∷ [] = is ∙ ap (λ (l : List BegunReset). begun ∷ l) (same ∙ none) in
+              let one : begun ≡ newest = first_of (sym all ∙ top) in inr (subst (WantFrom 0 newest.reset) (sym all) (λ at. ap (λ (b : BegunReset). b.reset) one, tt))
+          by_before (last ∷ rest) some =
+              let out = begins.out in inl (number_at r.first (length rest), newest_was between ends (omega (arith, count, out)) interleaved (length rest) (sym (ap (λ (l : List BegunReset). length l) some)))
+      one_was interleaved (begun ∷ other ∷ more) is count newest earlier top = (let out = begins.out in absurd (omega (arith, count, out)))
 
       performed : r.is_interleaved ≡ true → asking.is_performed ≡ true → (more : List BegunReset) → asking.requests ≡ more ++ between.requests → (more ≡ [] → asking.is_performed ≡ between.is_performed)
           → ((newest : BegunReset) (rest : List BegunReset) → more ≡ newest ∷ rest → asking.is_performed ≡ false) → (place : ℕ) → suc place ≡ length asking.requests → Has (performs r.my (number_at r.first place)) their_past
@@ -159,24 +159,26 @@ module _ (r : Requests) (their_past : List Effect) (a : (r.asking ≡ nothing_as
       kept is performed (all_performed accept perform none which) =
           all_performed (accept ∙ ap (λ (l : List BegunReset). Some (number_at r.first (length l))) (sym is)) perform none
           (elim which [ inl x ↦ inl (is ∙ x) | inr x ↦ inr (performed ∙ x) ])
-      kept is performed (unaccepted newest earlier requests accept perform none un) = unaccepted newest earlier (is ∙ requests) accept perform none (performed ∙ un)
-      kept is performed (in_progress newest earlier requests accept perform own un) =
-          in_progress newest earlier (is ∙ requests) (accept ∙ ap (λ (l : List BegunReset). Some (number_at r.first (length l))) (sym is)) perform own (performed ∙ un)
+      kept is performed (unaccepted newest earlier place requests below want accept perform none un) =
+          unaccepted newest earlier place (is ∙ requests) below (subst (WantFrom place newest.reset) (sym is) want) accept perform none (performed ∙ un)
+      kept is performed (in_progress newest earlier place requests below want accept perform own un) =
+          in_progress newest earlier place (is ∙ requests) below (subst (WantFrom place newest.reset) (sym is) want) accept perform own (performed ∙ un)
 
       some_not : (more : List BegunReset) (begun : BegunReset) → asking.requests ≡ begun ∷ more → asking.requests ≡ [] → ⊥
       some_not more begun is none = absurd (cc)
 
+      was_performed : between.out ≡ 0 → r.is_interleaved ≡ true → (newest : BegunReset) (earlier : List BegunReset) → r.asking.requests ≡ newest ∷ earlier → r.asking.is_performed ≡ false → {A : Type 0} → A
+      was_performed none interleaved newest earlier requests un' =
+          let long : length r.asking.requests ≡ suc (length earlier) = ap (λ (l : List BegunReset). length l) requests in
+          let was : r.asking.is_performed ≡ true = known interleaved newest earlier requests (newest_was between ends none interleaved (length earlier) (sym long)) in
+          absurd (cc)
+
       anew : (begun : BegunReset) → asking.requests ≡ begun ∷ between.requests → asking.is_performed ≡ false → between.out ≡ 0 → r.is_interleaved ≡ true → IsInStep r their_past waits → IsInStep (after asking) their_past waits
       anew begun is un none interleaved (all_performed accept perform waits_none which) =
-          unaccepted begun between.requests is (accept ∙ ap (λ (l : List BegunReset). Some (number_at r.first (length l))) (sym same)) perform waits_none un
-      anew begun is un none interleaved (unaccepted newest earlier requests accept perform waits_none un') =
-          let long : length r.asking.requests ≡ suc (length earlier) = ap (λ (l : List BegunReset). length l) requests in
-          let was : r.asking.is_performed ≡ true = known interleaved newest earlier requests (all_were between ends none interleaved (length earlier) (omega (arith, long))) in
-          absurd (cc)
-      anew begun is un none interleaved (in_progress newest earlier requests accept perform own un') =
-          let long : length r.asking.requests ≡ suc (length earlier) = ap (λ (l : List BegunReset). length l) requests in
-          let was : r.asking.is_performed ≡ true = known interleaved newest earlier requests (all_were between ends none interleaved (length earlier) (omega (arith, long))) in
-          absurd (cc)
+          unaccepted begun between.requests (length between.requests) is (omega arith) (subst (WantFrom (length between.requests) begun.reset) (sym is) (λ at. refl, want_beyond (length between.requests) begun.reset between.requests (omega arith)))
+          (accept ∙ ap (λ (l : List BegunReset). Some (number_at r.first (length l))) (sym same)) perform waits_none un
+      anew begun is un none interleaved (unaccepted newest earlier place requests below want accept perform waits_none un') = was_performed none interleaved newest earlier requests un'
+      anew begun is un none interleaved (in_progress newest earlier place requests below want accept perform own un') = was_performed none interleaved newest earlier requests un'
 
       by_kind : (begun : BegunReset) → asking.requests ≡ begun ∷ between.requests → asking.is_performed ≡ false → between.out ≡ 0 → (b : Bool) → r.is_interleaved ≡ b → StandsSo r their_past waits → StandsSo (after asking) their_past waits
       by_kind begun is un none false kind stands = plain kind (some_not between.requests begun is)

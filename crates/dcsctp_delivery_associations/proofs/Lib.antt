@@ -3,6 +3,7 @@ pub mod Growing
 pub mod Own
 pub mod RequestNumbers
 pub mod AskedOn
+pub mod Renewed
 pub mod SenderAsks
 pub mod SenderOpens
 pub mod SenderAnswers

@@ -25,6 +25,7 @@ use Rattle.dcsctp_delivery_directions.specs.Directions.{Asking, nothing_asked, D
 use Rattle.dcsctp_delivery_directions.specs.Requests.{IsOfBegun}
 use Rattle.dcsctp_delivery_directions.proofs.Requests.{requests_were_begun}
 use Rattle.dcsctp_delivery_turns.specs.Actions.{IsOpening, came_by, Begun, IsCall, IsCalm}
+use Rattle.dcsctp_delivery_turns.specs.Asking.{AreNumbered}
 use Rattle.dcsctp_delivery_turns.specs.PeerRequests.{KnowsPeerIn, IsPlainRequest, IsDue, WaitsFor, PeerTurns, asks_nothing, performs_it, defers_it, begins_anew}
 use Rattle.dcsctp_delivery_turns.specs.Runs.{IsNewest, PerformsNewest, performed_where, PerformedBy}
 use Rattle.dcsctp_delivery_turns.specs.Sides.{WasSent}
@@ -35,7 +36,7 @@ use Rattle.dcsctp_delivery_associations.specs.Answered.{Requests, WasJoined, IsI
 use Rattle.dcsctp_delivery_associations.proofs.UnaskedPasts.{same_numbers, reset_none, some_reset, performs_reset}
 use Rattle.dcsctp_delivery_associations.proofs.AnsweringRests as answering
 use Rattle.dcsctp_delivery_associations.proofs.AnsweringRests.{none_performed, same_requests}
-use Rattle.dcsctp_delivery_associations.proofs.AnsweringNewest.{newest_is_asked}
+use Rattle.dcsctp_delivery_associations.proofs.AnsweringNewest.{IsDueAt, numbers_of, newest_where, behind_where, due_there}
 use Rattle.dcsctp_delivery_associations.proofs.AnsweringDefers as defers
 use Rattle.dcsctp_delivery_associations.proofs.AnsweringPerforms as performs
 
@@ -150,7 +151,17 @@ module _ (ends : Ends) (e : Endpoint) (past : List Effect) (d : Endpoint) (their
           let is : ◌≡◌ {A = Option RequestedReset} (Some reset) (Some other) = ap requested_in same ∙ asked in
           cc
 
-      -- What is performed is the newest.
+      numbers_here : AreNumbered (ends.firsts link.my.tag) (ends.sends link.my.tag).asking.requests
+      numbers_here = numbers_of (requests_of ends w.pairs link.my.tag) their_past (answers_here.asked link.my.tag (answers_here.theirs_held link refl).0.some)
+
+      -- It is due, and wants what the newest wants.
+      due_so : IsInStep (requests_of ends w.pairs link.my.tag) their_past transfer.reassembly.deferral → (number : ℕ) (reset : RequestedReset) → (came : came_by input ≡ Some (reset_request number reset)) → IsDue their_past number
+          → IsDueAt (requests_of ends w.pairs link.my.tag) transfer.reassembly.deferral (handled number reset came).0
+      due_so step number reset came due =
+          let found = handled number reset came in
+          due_there (requests_of ends w.pairs) (link_in e.core) past link their_past transfer.reassembly.deferral found.0 answers_here step found.1 few (subst (IsDue their_past) (sym found.2) due)
+
+      -- So does what is performed.
       pub performs_newest : IsInStep (requests_of ends w.pairs link.my.tag) their_past transfer.reassembly.deferral → PerformsNewest direction transfer (came_by input) o.effects
       performs_newest step done parameters reset came asked = by_peers peers
         where
@@ -160,16 +171,14 @@ module _ (ends : Ends) (e : Endpoint) (past : List Effect) (d : Endpoint) (their
           by_peers (begins_anew begun opening linked' none empty) = (let clash : true ≡ false = sym done ∙ reset_none o.effects none in absurd (cc))
           by_peers (performs_it number other came' due only has accept perform empty) =
               let found = handled number other came' in
-              let newest =
-              newest_is_asked (requests_of ends w.pairs) (link_in e.core) past link their_past transfer.reassembly.deferral found.0 answers_here step found.1 few
-              (subst (λ (n : ℕ). (number_to_accept their_past ≡ Some n) ⊎ (number_to_perform their_past ≡ Some n)) (sym found.2) due) in
-              let same : other ≡ reset = requested_is parameters number other reset came' came asked in
+              let one = due_so step number other came' due in
+              let wants : one.newest.reset ≡ reset = sym one.wants ∙ found.3 ∙ requested_is parameters number other reset came' came asked in
               record {
-                newest = found.0;
-                earlier = newest.0;
-                is = ap (λ (a : Asking). a.requests) asked_is ∙ newest.1;
-                asks = found.3 ∙ same;
-                own = subst (λ (r : RequestedReset). IsOwn r transfer.reassembly.deferral) (found.3 ∙ same) newest.2;
+                newest = one.newest;
+                earlier = one.earlier;
+                is = ap (λ (a : Asking). a.requests) asked_is ∙ one.is;
+                asks = wants;
+                own = subst (λ (r : RequestedReset). IsOwn r transfer.reassembly.deferral) wants one.own;
               }
 
       -- Where nothing was asked nothing is performed.
@@ -182,10 +191,37 @@ module _ (ends : Ends) (e : Endpoint) (past : List Effect) (d : Endpoint) (their
           by_peers (begins_anew begun opening linked' unasked empty) = (let clash : true ≡ false = sym done ∙ reset_none o.effects unasked in absurd (cc))
           by_peers (performs_it number other came due only has accept perform empty) = (let found = handled number other came in subst (λ (a : Asking). places.Has found.0 a.requests) none found.1)
 
-      -- where the receiver stands, if a request that it performs is known to be the newest
+      -- the number of a request that is performed, beside that of the newest
+      abbrev Compares : (ℕ → ℕ → Type 0) → Type 0
+      Compares Are =
+          (number : ℕ) → Has (effects.performs link.peer number) o.effects → (newest : BegunReset) (earlier : List BegunReset) → (ends.sends link.my.tag).asking.requests ≡ newest ∷ earlier → Are number newest.number
+
+      -- where the receiver stands: what it performs is the newest; or it isn't, or messages don't interleave
       abbrev pub Standing : Bool → Type 0
-      Standing true = IsInStep (requests_of ends w.pairs link.my.tag) their_past transfer.reassembly.deferral
-      Standing false = (ends.sends link.my.tag).below.queue.is_interleaved ≡ false
+      Standing true = IsInStep (requests_of ends w.pairs link.my.tag) their_past transfer.reassembly.deferral × Compares (λ number newest. number ≡ newest)
+      Standing false =
+          ((ends.sends link.my.tag).below.queue.is_interleaved ≡ false) ⊎ (IsInStep (requests_of ends w.pairs link.my.tag) their_past transfer.reassembly.deferral × Compares (λ number newest. number ≢ newest))
+
+      pub newest_or_not : IsInStep (requests_of ends w.pairs link.my.tag) their_past transfer.reassembly.deferral → Standing true ⊎ Standing false
+      newest_or_not step = by_peers peers
+        where
+          by_requests : (number : ℕ) → ((peer : Pair) (other : ℕ) → Has (effects.performs peer other) o.effects → (peer ≡ link.peer) × (other ≡ number)) → (requests : List BegunReset) → (ends.sends link.my.tag).asking.requests ≡ requests
+              → Standing true ⊎ Standing false
+          by_requests number only [] none = inl (step, λ other has newest earlier is. absurd (cc))
+          by_requests number only (last ∷ before) some =
+              elim (decide number last.number) [
+                | inl e ↦ inl (step, λ other has newest earlier is. (only link.peer other has).1 ∙ e ∙ number_of (sym some ∙ is))
+                | inr ne ↦ inr (inr (step, λ other has newest earlier is same. ne (sym (only link.peer other has).1 ∙ same ∙ sym (number_of (sym some ∙ is)))))
+              ]
+            where
+              number_of : {one two : BegunReset} {rest others : List BegunReset} → one ∷ rest ≡ two ∷ others → one.number ≡ two.number
+              number_of is = cc
+
+          by_peers : PeerTurns link their_past d input o transfer.reassembly.deferral left.reassembly.deferral → Standing true ⊎ Standing false
+          by_peers (asks_nothing none same) = inl (step, λ number has. absurd (none_performed o.effects none link.peer number has))
+          by_peers (defers_it number reset came due none accept perform kept is waits) = inl (step, λ other has. absurd (none link.peer other has))
+          by_peers (begins_anew begun opening linked' none empty) = inl (step, λ number has. absurd (none_performed o.effects none link.peer number has))
+          by_peers (performs_it number reset came due only has accept perform empty) = by_requests number only (ends.sends link.my.tag).asking.requests refl
 
       -- ---- after the turn
 
@@ -249,8 +285,11 @@ module _ (ends : Ends) (e : Endpoint) (past : List Effect) (d : Endpoint) (their
         by_performing : (b : Bool) → is_known ≡ b → Standing b → (number : ℕ) (reset : RequestedReset) → came_by input ≡ Some (reset_request number reset) → IsDue their_past number
             → ((peer : Pair) (other : ℕ) → Has (effects.performs peer other) o.effects → (peer ≡ link.peer) × (other ≡ number)) → Has (effects.performs link.peer number) o.effects
             → number_to_accept (after_effects o.effects their_past) ≡ Some (next_number number) → number_to_perform (after_effects o.effects their_past) ≡ None → left.reassembly.deferral ≡ None → After
-        by_performing true known step number reset came due only has accept perform empty =
+        by_performing true known (step, newest) number reset came due only has accept perform empty =
             let found = handled number reset came in
+            let one = due_so step number reset came due in
+            let top : found.0 ≡ one.newest =
+            newest_where (requests_of ends w.pairs link.my.tag) their_past transfer.reassembly.deferral found.0 numbers_here found.1 few one (found.2 ∙ newest number has one.newest one.earlier one.is) in
             let is : asking ≡ record (ends.sends link.my.tag).asking { is_performed = true } = performed_so number reset came has ∙ ap (λ (b : Bool). performed_where b true (ends.sends link.my.tag).asking) known in
             answered_by
             (same_requests (requests_of (asked_ends ends link.my.tag asking got) w.pairs)
@@ -258,30 +297,42 @@ module _ (ends : Ends) (e : Endpoint) (past : List Effect) (d : Endpoint) (their
             (link_in e.core) past (Some link) (after_effects o.effects their_past) left.reassembly.deferral
             (λ t. new_asked ends w.pairs link.my.tag got asking t ∙ ap (λ (a : Asking). set_at link.my.tag (record (requests_of ends w.pairs link.my.tag) { asking = a }) (requests_of ends w.pairs) t) is)
             (performs.performs_it (requests_of ends w.pairs) (link_in e.core) past link o.effects their_past transfer.reassembly.deferral left.reassembly.deferral found.0 answers_here (no_holds same)
-            (λ peer other h. (let one = only peer other h in (one.0, one.1 ∙ sym found.2))) found.1 step few
-            (subst (λ (n : ℕ). (number_to_accept their_past ≡ Some n) ⊎ (number_to_perform their_past ≡ Some n)) (sym found.2) due)
+            (λ peer other h. (let one' = only peer other h in (one'.0, one'.1 ∙ sym found.2))) found.1 one.earlier (one.is ∙ ap (λ (b : BegunReset). b ∷ one.earlier) (sym top))
             (subst (λ (n : ℕ). Has (effects.performs link.peer n) o.effects) (sym found.2) has) (accept ∙ ap (λ (n : ℕ). Some (next_number n)) (sym found.2)) perform empty))
-        by_performing false known kind number reset came due only has accept perform empty =
+        by_performing false known (inl kind) number reset came due only has accept perform empty =
             let found = handled number reset came in
             unchanged (performed_so number reset came has ∙ ap (λ (b : Bool). performed_where b true (ends.sends link.my.tag).asking) known)
             (performs.performs_plain (requests_of ends w.pairs) (link_in e.core) past link o.effects their_past transfer.reassembly.deferral left.reassembly.deferral found.0 answers_here (no_holds same)
             (λ peer other h. (let one = only peer other h in (one.0, one.1 ∙ sym found.2))) found.1 kind)
+        by_performing false known (inr (step, other)) number reset came due only has accept perform empty =
+            let found = handled number reset came in
+            let one = due_so step number reset came due in
+            let behind = behind_where (requests_of ends w.pairs link.my.tag) their_past transfer.reassembly.deferral found.0 numbers_here found.1 few one (λ is. other number has one.newest one.earlier one.is (sym found.2 ∙ is)) in
+            unchanged (performed_so number reset came has ∙ ap (λ (b : Bool). performed_where b true (ends.sends link.my.tag).asking) known)
+            (performs.performs_behind (requests_of ends w.pairs) (link_in e.core) past link o.effects their_past transfer.reassembly.deferral left.reassembly.deferral found.0 answers_here (no_holds same)
+            (λ peer other' h. (let one' = only peer other' h in (one'.0, one'.1 ∙ sym found.2))) found.1 one behind (accept ∙ ap (λ (n : ℕ). Some (next_number n)) (sym found.2)) perform empty)
 
+        -- Where it stands in step what is deferred is in progress.
         by_deferring : (b : Bool) → Standing b → (number : ℕ) (reset : RequestedReset) → came_by input ≡ Some (reset_request number reset) → IsDue their_past number
             → ((peer : Pair) (other : ℕ) → Has (effects.performs peer other) o.effects → ⊥)
             → number_to_accept (after_effects o.effects their_past) ≡ Some (next_number number) → number_to_perform (after_effects o.effects their_past) ≡ Some number
             → (kept : DeferralModel) → left.reassembly.deferral ≡ Some kept → WaitsFor reset transfer.reassembly.deferral kept → After
-        by_deferring true step number reset came due none accept perform kept is waits =
-            let found = handled number reset came in
-            unchanged (asking_same (none_reset none))
-            (defers.defers_it (requests_of ends w.pairs) (link_in e.core) past link o.effects their_past transfer.reassembly.deferral left.reassembly.deferral answers_here (no_holds same) none found.0 kept step found.1 few
-            (subst (λ (n : ℕ). (number_to_accept their_past ≡ Some n) ⊎ (number_to_perform their_past ≡ Some n)) (sym found.2) due)
-            (accept ∙ ap (λ (n : ℕ). Some (next_number n)) (sym found.2)) (perform ∙ ap Some (sym found.2)) is
-            (subst (λ (r : RequestedReset). WaitsFor r transfer.reassembly.deferral kept) (sym found.3) waits))
-        by_deferring false kind number reset came due none accept perform kept is waits =
-            let found = handled number reset came in
-            unchanged (asking_same (none_reset none))
-            (defers.defers_plain (requests_of ends w.pairs) (link_in e.core) past link o.effects their_past transfer.reassembly.deferral left.reassembly.deferral answers_here (no_holds same) none found.0 kind found.1)
+        by_deferring b stands number reset came due none accept perform kept is waits = unchanged (asking_same (none_reset none)) (go b stands)
+          where
+            found : (begun : BegunReset) × places.Has begun (ends.sends link.my.tag).asking.requests × (begun.number ≡ number) × (begun.reset ≡ reset)
+            found = handled number reset came
+
+            deferred : IsInStep (requests_of ends w.pairs link.my.tag) their_past transfer.reassembly.deferral → Answers (requests_of ends w.pairs) (link_in e.core) past (Some link) (after_effects o.effects their_past) left.reassembly.deferral
+            deferred step =
+                defers.defers_it (requests_of ends w.pairs) (link_in e.core) past link o.effects their_past transfer.reassembly.deferral left.reassembly.deferral answers_here (no_holds same) none found.0 kept step found.1 few
+                (subst (IsDue their_past) (sym found.2) due) (accept ∙ ap (λ (n : ℕ). Some (next_number n)) (sym found.2)) (perform ∙ ap Some (sym found.2)) is
+                (subst (λ (r : RequestedReset). WaitsFor r transfer.reassembly.deferral kept) (sym found.3) waits)
+
+            go : (b : Bool) → Standing b → Answers (requests_of ends w.pairs) (link_in e.core) past (Some link) (after_effects o.effects their_past) left.reassembly.deferral
+            go true (step, newest) = deferred step
+            go false (inr (step, other)) = deferred step
+            go false (inl kind) =
+                defers.defers_plain (requests_of ends w.pairs) (link_in e.core) past link o.effects their_past transfer.reassembly.deferral left.reassembly.deferral answers_here (no_holds same) none found.0 kind found.1
 
         pub goes_answered : After
         goes_answered = by_peers peers

@@ -26,7 +26,7 @@ use Rattle.dcsctp_delivery_associations.specs.Answered.{IsInStep, StandsSo, in_s
 use Rattle.dcsctp_delivery_associations.specs.Laws.{AsksLittle}
 use Rattle.dcsctp_delivery_associations.proofs.UnaskedPasts.{reset_none}
 use Rattle.dcsctp_delivery_associations.proofs.AnsweringRests.{none_performed}
-use Rattle.dcsctp_delivery_associations.proofs.ReceiverAnswers.{asked_ends, Standing, performs_newest, nothing_performed, goes_answered}
+use Rattle.dcsctp_delivery_associations.proofs.ReceiverAnswers.{asked_ends, Standing, performs_newest, newest_or_not, nothing_performed, goes_answered}
 use Rattle.dcsctp_delivery_associations.proofs.ReceiverOpens.{rests_answered}
 use Rattle.dcsctp_spec_lemmas.specs.types.declared.association.Pair.{Pair}
 use Rattle.dcsctp_spec_lemmas.specs.spec.Packet.{re_config}
@@ -216,7 +216,7 @@ module _ (options : Options) (ends : Ends) (e : Endpoint) (queued : List Message
           receivers_go_on is_known options (ends.firsts c.link.my.tag) options.max_receiver_window_buffer_size (joined (ends.sends c.link.my.tag) (ends.gets c.link.my.tag)) transfer d input o now there sent newest h.receiver.fits
           (λ begun opening linked. (new begun opening linked).own_small) may turn
 
-      -- What is performed is the newest where the receiver stands in step.
+      -- What is performed wants what the newest wants where the receiver stands in step.
       newest_so : IsInStep (requests_of ends w.pairs c.link.my.tag) their_past transfer.reassembly.deferral → PerformsNewest (joined (ends.sends c.link.my.tag) (ends.gets c.link.my.tag)) transfer (came_by input) o.effects
       newest_so step done = by_left o.after.below.transfer refl
         where
@@ -228,8 +228,18 @@ module _ (options : Options) (ends : Ends) (e : Endpoint) (queued : List Message
               (joined (ends.sends c.link.my.tag) (ends.gets c.link.my.tag)) (ends.firsts c.link.my.tag) (h.runs c.link.my.tag) refl sent few_asked knows step done
 
       turn_goes : StandsSo (requests_of ends w.pairs c.link.my.tag) their_past transfer.reassembly.deferral → Turned
-      turn_goes (in_step step) = by_turn true (λ left is. step) (goes_known true (λ known. newest_so step))
-      turn_goes (plain kind some) = by_turn false (λ left is. kind) (goes_known false (λ known. (let clash : false ≡ true = known in absurd (cc))))
+      turn_goes (plain kind some) = by_turn false (λ left is. inl kind) (goes_known false (λ known. (let clash : false ≡ true = known in absurd (cc))))
+      turn_goes (in_step step) = by_left o.after.below.transfer refl
+        where
+          by_left : (found : Option Transfer) → o.after.below.transfer ≡ found → Turned
+          by_left None gone =
+              by_turn false (λ left is. (let clash : ◌≡◌ {A = Option Transfer} None (Some left) = sym gone ∙ is in absurd (cc))) (goes_known false (λ known. (let clash : false ≡ true = known in absurd (cc))))
+          by_left (Some left) is =
+              elim (newest_or_not ends e past d their_past w input o may turn new_tags c.link c.linked transfer left there is options.max_receiver_window_buffer_size options
+              (joined (ends.sends c.link.my.tag) (ends.gets c.link.my.tag)) (ends.firsts c.link.my.tag) (h.runs c.link.my.tag) refl sent few_asked knows step) [
+                | inl newest ↦ by_turn true (λ other there'. newest) (goes_known true (λ known. newest_so step))
+                | inr behind ↦ by_turn false (λ other there'. behind) (goes_known false (λ known. (let clash : false ≡ true = known in absurd (cc))))
+              ]
 
   -- ---- in any turn
 

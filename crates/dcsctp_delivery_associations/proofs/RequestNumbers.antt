@@ -1,10 +1,11 @@
 -- Numbers of requests, and their places.
-use Rattle.std.proofs.Common.{◌≡◌, ℕ, ◌<◌, ◌^◌, suc, List, [], ◌∷◌, length, sym, ◌∙◌, ap, subst, arith, inl, inr}
+use Rattle.std.proofs.Common.{◌≡◌, ℕ, ◌<◌, ◌≤◌, ◌^◌, suc, List, [], ◌∷◌, length, sym, ◌∙◌, ap, subst, arith, inl, inr}
+use Rattle.dcsctp_spec_lemmas.specs.spec.Reconfiguration.{RequestedReset}
 use Rattle.dcsctp_spec_lemmas.specs.spec.association.FlushChanges.{next_number}
 use Rattle.dcsctp_spec_lemmas.specs.spec.endpoint.BegunResets.{BegunReset}
 use Rattle.dcsctp_delivery_sending.specs.Places as places
 use Rattle.dcsctp_delivery_turns.specs.Asking.{AreNumbered}
-use Rattle.dcsctp_delivery_associations.specs.Answered.{number_at}
+use Rattle.dcsctp_delivery_associations.specs.Answered.{number_at, WantFrom}
 
 pub same_place : (first i j : ℕ) → number_at first i ≡ number_at first j → i < 2 ^ 32 → j < 2 ^ 32 → i ≡ j
 same_place first i j is one two = omega (arith, is, one, two)
@@ -35,3 +36,23 @@ is_newest first newest earlier requests begun is numbered few has same = go (sub
 pub number_behind : (first : ℕ) (newest : BegunReset) (earlier requests : List BegunReset) → requests ≡ newest ∷ earlier → AreNumbered first requests → next_number newest.number ≡ number_at first (length requests)
 number_behind first newest earlier requests is numbered =
     ap next_number (newest_number first newest earlier requests is numbered) ∙ next_place first (length earlier) ∙ ap (λ (l : List BegunReset). number_at first (length l)) (sym is)
+
+-- ---- what requests want
+
+-- There are none from there on.
+pub want_beyond : (place : ℕ) (reset : RequestedReset) (requests : List BegunReset) → length requests ≤ place → WantFrom place reset requests
+want_beyond place reset [] beyond = tt
+want_beyond place reset (begun ∷ earlier) beyond = (λ at. absurd (omega (arith, at, beyond)), want_beyond place reset earlier (omega (arith, beyond)))
+
+pub want_later : (place later : ℕ) (reset : RequestedReset) (requests : List BegunReset) → place ≤ later → WantFrom place reset requests → WantFrom later reset requests
+want_later place later reset [] le want = tt
+want_later place later reset (begun ∷ earlier) le want = (λ at. want.0 (omega (arith, at, le)), want_later place later reset earlier le want.1)
+
+-- So the one at this place wants it.
+pub wanted_at : (first place : ℕ) (reset : RequestedReset) (requests : List BegunReset) (begun : BegunReset) → AreNumbered first requests → length requests < 2 ^ 32 → places.Has begun requests → place < 2 ^ 32
+    → begun.number ≡ number_at first place → WantFrom place reset requests → begun.reset ≡ reset
+wanted_at first place reset [] begun numbered few has small at want = absurd has
+wanted_at first place reset (newest ∷ earlier) begun numbered few (inl e) small at want =
+    let here : length earlier ≡ place = same_place first (length earlier) place (sym numbered.0 ∙ sym (ap (λ (b : BegunReset). b.number) e) ∙ at) (omega (arith, few)) small in
+    ap (λ (b : BegunReset). b.reset) e ∙ want.0 (omega (arith, here))
+wanted_at first place reset (newest ∷ earlier) begun numbered few (inr has) small at want = wanted_at first place reset earlier begun numbered.1 (omega (arith, few)) has small at want.1

@@ -17,7 +17,7 @@ use Rattle.dcsctp_delivery_sending.proofs.Places.{decide, set_same, set_other}
 use Rattle.dcsctp_delivery_directions.specs.Directions.{Asking, nothing_asked}
 use Rattle.dcsctp_delivery_turns.specs.Actions.{IsCall, peer_tag}
 use Rattle.dcsctp_delivery_turns.specs.Asking.{Own, own_with, own_in, own_of, AreNumbered, IsAsking, OutIs, AsksFit, AskingGrows}
-use Rattle.dcsctp_delivery_turns.specs.Runs.{EndsPerformed, IsBetween, as_it_was, once_performed, once_refused}
+use Rattle.dcsctp_delivery_turns.specs.Runs.{EndsPerformed, IsBetween, as_it_was, once_performed, once_refused, once_renewed}
 use Rattle.dcsctp_delivery_turns.proofs.Completing.{completes_own}
 use Rattle.dcsctp_delivery_associations.specs.Ends.{SendingEnd, ReceivingEnd, Ends, NewPeer}
 use Rattle.dcsctp_delivery_associations.specs.Answered.{Requests, number_at, Answers, requests_of, waits_in, AreAnswered}
@@ -25,7 +25,8 @@ use Rattle.dcsctp_delivery_associations.specs.Laws.{RefusesNone, CompletesPerfor
 use Rattle.dcsctp_delivery_associations.proofs.RequestNumbers.{same_place, newest_number}
 use Rattle.dcsctp_delivery_associations.proofs.AnsweringRests.{same_requests}
 use Rattle.dcsctp_delivery_associations.proofs.AskedOn as asked
-use Rattle.dcsctp_delivery_associations.proofs.AskedOn.{MayEnd, MayBegin}
+use Rattle.dcsctp_delivery_associations.proofs.AskedOn.{MayBegin}
+use Rattle.dcsctp_delivery_associations.proofs.Renewed.{MayGo, ends_so, was_renewed}
 use Rattle.dcsctp_delivery_associations.proofs.SenderAsks.{newest_known, asks_on}
 use Rattle.dcsctp_delivery_associations.proofs.SenderOpens.{fresh_requests, opens_on, closes_on}
 use Rattle.dcsctp_delivery_associations.proofs.Senders.{link_tag, no_key}
@@ -53,6 +54,7 @@ some_completed (effects.holds link ∷ happened) is = (let found = some_complete
 some_completed (effects.connects link ∷ happened) is = (let found = some_completed happened is in (found.0, found.1, inr found.2))
 some_completed (effects.ends ∷ happened) is = (let found = some_completed happened is in (found.0, found.1, inr found.2))
 some_completed (effects.begins number ∷ happened) is = (let found = some_completed happened is in (found.0, found.1, inr found.2))
+some_completed (effects.gives_up number ∷ happened) is = (let found = some_completed happened is in (found.0, found.1, inr found.2))
 some_completed (effects.fails number ∷ happened) is = (let found = some_completed happened is in (found.0, found.1, inr found.2))
 some_completed (effects.accepts number ∷ happened) is = (let found = some_completed happened is in (found.0, found.1, inr found.2))
 some_completed (effects.performs peer number ∷ happened) is = (let found = some_completed happened is in (found.0, found.1, inr found.2))
@@ -122,11 +124,12 @@ module _ (requests : ℕ → Requests) (link : Link) (past : List Effect) (their
       newest_known requests link past theirs their_past waits h few (kind ∙ interleaved) out.0 out.1 out.2
       (subst (λ (n : ℕ). Has (performs link.my n) their_past) (newest_number r.first out.0 out.1 r.asking.requests out.2 numbers) (performed_newest done out.0 out.1 out.2))
 
-  pub may_end : RefusesNone e o → (between : Asking) → IsBetween o.effects (requests link.peer.tag).asking between → MayEnd (requests link.peer.tag) their_past between
-  may_end none _ as_it_was = asked.as_it_was
-  may_end none _ (once_performed done) =
-      asked.has_ended (λ interleaved newest earlier is. subst (λ (p : Pair). Has (performs p newest.number) their_past) (sym (h.mine_held link refl).1) (performed_newest done newest earlier is))
-  may_end none _ (once_refused done) = asked.has_ended (λ interleaved. (let clash : true ≡ false = sym done ∙ none (sym kind ∙ interleaved) in absurd (cc)))
+  pub may_go : RefusesNone e o → (between : Asking) → IsBetween o.effects (requests link.peer.tag).asking between → MayGo (requests link.peer.tag) their_past between
+  may_go none _ as_it_was = ends_so _ asked.as_it_was
+  may_go none _ (once_performed done) =
+      ends_so _ (asked.has_ended (λ interleaved newest earlier is. subst (λ (p : Pair). Has (performs p newest.number) their_past) (sym (h.mine_held link refl).1) (performed_newest done newest earlier is)))
+  may_go none _ (once_refused done) = ends_so _ (asked.has_ended (λ interleaved. (let clash : true ≡ false = sym done ∙ none (sym kind ∙ interleaved) in absurd (cc))))
+  may_go none _ (once_renewed newest earlier number is out next) = was_renewed newest earlier number is out
 
 -- More may be begun.
 pub may_begin : (first : ℕ) (core : Core) (request : Option OutstandingRequest) (between asking : Asking) (link : Link) → link_in core ≡ Some link → AskingGrows between asking → AsksFit first (own_in core request) asking
@@ -171,7 +174,7 @@ module _ (ends : Ends) (e : Endpoint) (past : List Effect) (d : Endpoint) (their
 
   -- with this begun
   module _ (link : Link) (linked : link_in e.core ≡ Some link) (some : link.peer.tag ≢ 0) (between asking : Asking) (is : end.asking ≡ asking) (few : length (ends.sends link.peer.tag).asking.requests < 2 ^ 32 - 1)
-      (may : MayEnd (requests_of ends w.pairs link.peer.tag) their_past between) (more : MayBegin (ends.firsts link.peer.tag) between asking) where
+      (may : MayGo (requests_of ends w.pairs link.peer.tag) their_past between) (more : MayBegin (ends.firsts link.peer.tag) between asking) where
     key_is : peer_tag e.core ≡ link.peer.tag
     key_is = link_tag e.core link linked
 

@@ -1,5 +1,5 @@
 -- What becomes of all requests by a turn of the sender.
-use Rattle.std.proofs.Common.{◌≡◌, ◌≢◌, ℕ, suc, true, ◌<◌, ◌-◌, ◌^◌, Option, Some, List, ◌∷◌, length, refl, sym, ◌∙◌, ap, subst, inl, inr, arith}
+use Rattle.std.proofs.Common.{◌≡◌, ◌≢◌, ℕ, true, ◌<◌, ◌-◌, ◌^◌, Option, Some, List, ◌∷◌, length, refl, sym, ◌∙◌, subst, inl, inr}
 use Rattle.std.specs.Prelude.{◌⊎◌}
 use Rattle.dcsctp_spec_lemmas.specs.types.declared.association.Pair.{Pair}
 use Rattle.dcsctp_spec_runs.specs.Past.{Has}
@@ -11,8 +11,8 @@ use Rattle.dcsctp_delivery_sending.specs.Places.{set_at}
 use Rattle.dcsctp_delivery_sending.proofs.Places.{decide, set_same, set_other}
 use Rattle.dcsctp_delivery_directions.specs.Directions.{Asking, nothing_asked}
 use Rattle.dcsctp_delivery_associations.specs.Answered.{Requests, number_at, WasHeld, WasJoined, AreAsked, IsPlaced, WerePerformed, StandsSo, Answers}
-use Rattle.dcsctp_delivery_associations.proofs.RequestNumbers.{same_place}
-use Rattle.dcsctp_delivery_associations.proofs.AskedOn.{held_later, MayEnd, MayBegin, asked_on, placed_on, stands_on}
+use Rattle.dcsctp_delivery_associations.proofs.AskedOn.{held_later, MayBegin}
+use Rattle.dcsctp_delivery_associations.proofs.Renewed.{MayGo, known_newest, asked_then, placed_then, stands_then}
 
 -- what holds of the requests of a tag, and of all others
 pub set_requests : (P : ℕ → Requests → Type 0) (key : ℕ) (new : Requests) (old : ℕ → Requests) → P key new → ((tag : ℕ) → tag ≢ key → P tag (old tag)) → (tag : ℕ) → P tag (set_at key new old tag)
@@ -44,14 +44,9 @@ module _ (requests : ℕ → Requests) (link : Link) (past : List Effect) (their
   -- If the newest was performed, that is known.
   pub newest_known : length r.asking.requests < 2 ^ 32 - 1 → r.is_interleaved ≡ true → (newest : BegunReset) (earlier : List BegunReset) → r.asking.requests ≡ newest ∷ earlier
       → Has (performs link.my (number_at r.first (length earlier))) their_past → r.asking.is_performed ≡ true
-  newest_known few interleaved newest earlier is has =
-      let at = is_placed (number_at r.first (length earlier)) has in
-      let long : length r.asking.requests ≡ suc (length earlier) = ap (λ (l : List BegunReset). length l) is in
-      let below = at.below in
-      let same : length earlier ≡ at.place = same_place r.first (length earlier) at.place at.is (omega (arith, long, few)) (omega (arith, below, few)) in
-      at.newest interleaved (omega (arith, same, long))
+  newest_known few interleaved newest earlier is has = known_newest (requests link.peer.tag) few newest earlier is interleaved (is_placed (number_at r.first (length earlier)) has)
 
-  module _ (few : length (requests link.peer.tag).asking.requests < 2 ^ 32 - 1) (some : link.peer.tag ≢ 0) (between asking : Asking) (ends : MayEnd (requests link.peer.tag) their_past between)
+  module _ (few : length (requests link.peer.tag).asking.requests < 2 ^ 32 - 1) (some : link.peer.tag ≢ 0) (between asking : Asking) (goes : MayGo (requests link.peer.tag) their_past between)
       (begins : MayBegin (requests link.peer.tag).first between asking) (effects : List Effect) where
     later : Requests
     later = record (requests link.peer.tag) { asking = asking }
@@ -74,7 +69,7 @@ module _ (requests : ℕ → Requests) (link : Link) (past : List Effect) (their
     asked_later : (tag : ℕ) → tag ≢ 0 → ((all_later tag).asking ≡ nothing_asked) ⊎ AreAsked (all_later tag) their_past
     asked_later tag zero =
         set_requests (λ t n. t ≢ 0 → (n.asking ≡ nothing_asked) ⊎ AreAsked n their_past) link.peer.tag (record (requests link.peer.tag) { asking = asking }) requests
-        (λ z. inr (asked_on (requests link.peer.tag) their_past (h.asked link.peer.tag some) few between asking ends begins)) (λ t ne z. h.asked t z) tag zero
+        (λ z. inr (asked_then (requests link.peer.tag) their_past (h.asked link.peer.tag some) few between asking goes begins)) (λ t ne z. h.asked t z) tag zero
 
     held_still : (tag : ℕ) → tag ≢ 0 → ((all_later tag).asking ≡ nothing_asked) ⊎ WasHeld Past tag (all_later tag).my
     held_still =
@@ -85,16 +80,15 @@ module _ (requests : ℕ → Requests) (link : Link) (past : List Effect) (their
     performed_later : (tag : ℕ) → WasJoined their_past tag (all_later tag).my → WerePerformed (all_later tag) their_past
     performed_later =
         set_requests (λ t n. WasJoined their_past t n.my → WerePerformed n their_past) link.peer.tag (record (requests link.peer.tag) { asking = asking }) requests
-        (λ joined number has. placed_on (requests link.peer.tag) their_past (h.asked link.peer.tag some) few between asking ends begins number (h.performed link.peer.tag joined number has)) (λ t ne. h.performed t)
+        (λ joined number has. placed_then (requests link.peer.tag) their_past (h.asked link.peer.tag some) few between asking goes begins number (h.performed link.peer.tag joined number has)) (λ t ne. h.performed t)
 
-    known : (requests link.peer.tag).is_interleaved ≡ true → (newest : BegunReset) (earlier : List BegunReset) → (requests link.peer.tag).asking.requests ≡ newest ∷ earlier
-        → Has (performs (requests link.peer.tag).my (number_at (requests link.peer.tag).first (length earlier))) their_past → (requests link.peer.tag).asking.is_performed ≡ true
-    known interleaved newest earlier is has = newest_known few interleaved newest earlier is (subst (λ (p : Pair). Has (performs p (number_at (requests link.peer.tag).first (length earlier))) their_past) mine has)
+    placed_there : (number : ℕ) → Has (performs (requests link.peer.tag).my number) their_past → IsPlaced (requests link.peer.tag) number
+    placed_there number has = is_placed number (subst (λ (p : Pair). Has (performs p number) their_past) mine has)
 
     stands_later : (tag : ℕ) → StandsSo (requests tag) their_past waits → StandsSo (all_later tag) their_past waits
     stands_later =
         set_requests (λ t n. StandsSo (requests t) their_past waits → StandsSo n their_past waits) link.peer.tag (record (requests link.peer.tag) { asking = asking }) requests
-        (stands_on (requests link.peer.tag) their_past (h.asked link.peer.tag some) few waits between asking ends begins known) (λ t ne stands. stands)
+        (stands_then (requests link.peer.tag) their_past (h.asked link.peer.tag some) few waits between asking goes begins placed_there) (λ t ne stands. stands)
 
     pub asks_on : Answers all_later (Some link) Past theirs their_past waits
     asks_on =

@@ -117,8 +117,8 @@ module _ (requests : ℕ → Requests) (mine : Option Link) (past : List Effect)
     stands_before n none first (plain not some') = absurd (some' (ap (λ (a : Asking). a.requests) none))
     stands_before n none first (in_step (all_performed accept perform wait which)) =
         in_step (all_performed (accept ∙ ap (λ (x : ℕ). Some (number_at x (length n.asking.requests))) first ∙ ap (λ (a : Asking). Some (number_at new.my.first_tsn (length a.requests))) none) perform wait (inl refl))
-    stands_before n none first (in_step (unaccepted newest earlier is accept perform wait un)) = (let empty : n.asking.requests ≡ [] = ap (λ (a : Asking). a.requests) none in absurd (cc))
-    stands_before n none first (in_step (in_progress newest earlier is accept perform own un)) = (let empty : n.asking.requests ≡ [] = ap (λ (a : Asking). a.requests) none in absurd (cc))
+    stands_before n none first (in_step (unaccepted newest earlier place is below want accept perform wait un)) = (let empty : n.asking.requests ≡ [] = ap (λ (a : Asking). a.requests) none in absurd (cc))
+    stands_before n none first (in_step (in_progress newest earlier place is below want accept perform own un)) = (let empty : n.asking.requests ≡ [] = ap (λ (a : Asking). a.requests) none in absurd (cc))
 
     stands_opened : (other : Link) → theirs ≡ Some other → StandsSo (opened other.my.tag) their_past waits
     stands_opened other is =

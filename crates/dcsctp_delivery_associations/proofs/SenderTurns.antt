@@ -26,10 +26,11 @@ use Rattle.dcsctp_delivery_associations.specs.Answered.{Answers, requests_of, wa
 use Rattle.dcsctp_delivery_associations.specs.Laws.{RefusesNone, CompletesPerformed, AsksLittle, AreEnds}
 use Rattle.dcsctp_delivery_associations.specs.Reads.{Read}
 use Rattle.dcsctp_delivery_associations.proofs.AskedOn as asked
-use Rattle.dcsctp_delivery_associations.proofs.AskedOn.{MayEnd, MayBegin}
+use Rattle.dcsctp_delivery_associations.proofs.AskedOn.{MayBegin}
+use Rattle.dcsctp_delivery_associations.proofs.Renewed.{MayGo, ends_so}
 use Rattle.dcsctp_delivery_associations.proofs.Counting.{addressed_requests}
 use Rattle.dcsctp_delivery_associations.proofs.Growing.{input_adds}
-use Rattle.dcsctp_delivery_associations.proofs.SenderAnswers.{some_completed, ends_performed, may_end, may_begin, goes_answers, closes_answers, idle_answers}
+use Rattle.dcsctp_delivery_associations.proofs.SenderAnswers.{some_completed, ends_performed, may_go, may_begin, goes_answers, closes_answers, idle_answers}
 use Rattle.dcsctp_delivery_associations.proofs.Senders.{link_tag, grown_end, grown_ends}
 use Rattle.dcsctp_delivery_associations.proofs.SenderStays.{goes_on, ended_ends, ended}
 use Rattle.dcsctp_delivery_associations.proofs.SenderBegins.{begins}
@@ -105,9 +106,9 @@ module _ (options : Options) (ends : Ends) (e : Endpoint) (queued : List Message
         subst (λ (t : ℕ). EndsPerformed e o (ends.sends t).asking) (sym key_is)
         (ends_performed (requests_of ends w.pairs) link past (link_in d.core) their_past (waits_in d.below.transfer) answers e input o linked kind fits few completes_so may turn)
 
-    may_be : RefusesNone e o → (between : Asking) → IsBetween o.effects (ends.sends (peer_tag e.core)).asking between → MayEnd (requests_of ends w.pairs link.peer.tag) their_past between
+    may_be : RefusesNone e o → (between : Asking) → IsBetween o.effects (ends.sends (peer_tag e.core)).asking between → MayGo (requests_of ends w.pairs link.peer.tag) their_past between
     may_be refuses between is =
-        may_end (requests_of ends w.pairs) link past (link_in d.core) their_past (waits_in d.below.transfer) answers e input o linked kind fits few completes_so may turn refuses between
+        may_go (requests_of ends w.pairs) link past (link_in d.core) their_past (waits_in d.below.transfer) answers e input o linked kind fits few completes_so may turn refuses between
         (subst (λ (t : ℕ). IsBetween o.effects (ends.sends t).asking between) key_is is)
 
     begins_so : (core : Core) (request : Option OutstandingRequest) (between asking : Asking) → link_in core ≡ Some link → AskingGrows between asking → AsksFit (ends.firsts (peer_tag e.core)) (own_in core request) asking
@@ -116,7 +117,7 @@ module _ (options : Options) (ends : Ends) (e : Endpoint) (queued : List Message
         may_begin (ends.firsts link.peer.tag) core request between asking link there grows (subst (λ (t : ℕ). AsksFit (ends.firsts t) (own_in core request) asking) key_is fit) little'
 
     -- what becomes of the requests by this end of the turn
-    goes : (after : Endpoint) (end : SendingEnd) → end.below.queue.is_interleaved ≡ e.below.queue.is_interleaved → (between : Asking) → MayEnd (requests_of ends w.pairs link.peer.tag) their_past between
+    goes : (after : Endpoint) (end : SendingEnd) → end.below.queue.is_interleaved ≡ e.below.queue.is_interleaved → (between : Asking) → MayGo (requests_of ends w.pairs link.peer.tag) their_past between
         → MayBegin (ends.firsts link.peer.tag) between end.asking
         → Answers (requests_of (record ends { sends = set_at (peer_tag e.core) end ends.sends }) w.pairs) (Some link) (after_effects o.effects past) (link_in d.core) their_past (waits_in d.below.transfer)
     goes after end same between ended_so begun_so = goes_answers ends e past d their_past w h.sender.below_is after o.effects end same link linked some between end.asking refl few ended_so begun_so
@@ -186,8 +187,8 @@ module _ (options : Options) (ends : Ends) (e : Endpoint) (queued : List Message
         unlinked = w.unlinked;
       }
     where
-      as_it_was_asked : MayEnd (requests_of ends w.pairs link.peer.tag) their_past (ends.sends link.peer.tag).asking
-      as_it_was_asked = asked.as_it_was
+      as_it_was_asked : MayGo (requests_of ends w.pairs link.peer.tag) their_past (ends.sends link.peer.tag).asking
+      as_it_was_asked = ends_so _ asked.as_it_was
 
   by_turn : IsCall input → Turn e input o → RefusesNone e o → CompletesPerformed their_past o
       → SenderTurns options (ends.firsts (peer_tag e.core)) options.max_receiver_window_buffer_size (joined (ends.sends (peer_tag e.core)) (ends.gets (peer_tag e.core))) e input o

@@ -21,6 +21,7 @@ same_numbers (effects.draws pair ∷ happened) past none no_holds no_ends = same
 same_numbers (effects.sends packet ∷ happened) past none no_holds no_ends = same_numbers happened (effects.sends packet ∷ past) none (λ l h. no_holds l (inr h)) (λ h. no_ends (inr h))
 same_numbers (effects.connects link ∷ happened) past none no_holds no_ends = same_numbers happened (effects.connects link ∷ past) none (λ l h. no_holds l (inr h)) (λ h. no_ends (inr h))
 same_numbers (effects.begins number ∷ happened) past none no_holds no_ends = same_numbers happened (effects.begins number ∷ past) none (λ l h. no_holds l (inr h)) (λ h. no_ends (inr h))
+same_numbers (effects.gives_up number ∷ happened) past none no_holds no_ends = same_numbers happened (effects.gives_up number ∷ past) none (λ l h. no_holds l (inr h)) (λ h. no_ends (inr h))
 same_numbers (effects.completes my number ∷ happened) past none no_holds no_ends = same_numbers happened (effects.completes my number ∷ past) none (λ l h. no_holds l (inr h)) (λ h. no_ends (inr h))
 same_numbers (effects.fails number ∷ happened) past none no_holds no_ends = same_numbers happened (effects.fails number ∷ past) none (λ l h. no_holds l (inr h)) (λ h. no_ends (inr h))
 
@@ -39,6 +40,7 @@ first_numbers new (effects.draws pair ∷ happened) past none only no_ends accep
 first_numbers new (effects.sends packet ∷ happened) past none only no_ends accept perform = first_numbers new happened (effects.sends packet ∷ past) none (λ l h. only l (inr h)) (λ h. no_ends (inr h)) accept perform
 first_numbers new (effects.connects link ∷ happened) past none only no_ends accept perform = first_numbers new happened (effects.connects link ∷ past) none (λ l h. only l (inr h)) (λ h. no_ends (inr h)) accept perform
 first_numbers new (effects.begins number ∷ happened) past none only no_ends accept perform = first_numbers new happened (effects.begins number ∷ past) none (λ l h. only l (inr h)) (λ h. no_ends (inr h)) accept perform
+first_numbers new (effects.gives_up number ∷ happened) past none only no_ends accept perform = first_numbers new happened (effects.gives_up number ∷ past) none (λ l h. only l (inr h)) (λ h. no_ends (inr h)) accept perform
 first_numbers new (effects.completes my number ∷ happened) past none only no_ends accept perform = first_numbers new happened (effects.completes my number ∷ past) none (λ l h. only l (inr h)) (λ h. no_ends (inr h)) accept perform
 first_numbers new (effects.fails number ∷ happened) past none only no_ends accept perform = first_numbers new happened (effects.fails number ∷ past) none (λ l h. only l (inr h)) (λ h. no_ends (inr h)) accept perform
 
@@ -55,6 +57,7 @@ reset_none (effects.draws pair ∷ happened) none = reset_none happened none
 reset_none (effects.sends packet ∷ happened) none = reset_none happened none
 reset_none (effects.connects link ∷ happened) none = reset_none happened none
 reset_none (effects.begins number ∷ happened) none = reset_none happened none
+reset_none (effects.gives_up number ∷ happened) none = reset_none happened none
 reset_none (effects.completes my number ∷ happened) none = reset_none happened none
 reset_none (effects.fails number ∷ happened) none = reset_none happened none
 
@@ -65,6 +68,7 @@ some_reset (effects.draws pair ∷ happened) is = (let found = some_reset happen
 some_reset (effects.sends packet ∷ happened) is = (let found = some_reset happened is in (found.0, found.1, inr found.2))
 some_reset (effects.connects link ∷ happened) is = (let found = some_reset happened is in (found.0, found.1, inr found.2))
 some_reset (effects.begins number ∷ happened) is = (let found = some_reset happened is in (found.0, found.1, inr found.2))
+some_reset (effects.gives_up number ∷ happened) is = (let found = some_reset happened is in (found.0, found.1, inr found.2))
 some_reset (effects.completes my number ∷ happened) is = (let found = some_reset happened is in (found.0, found.1, inr found.2))
 some_reset (effects.fails number ∷ happened) is = (let found = some_reset happened is in (found.0, found.1, inr found.2))
 some_reset (effects.accepts number ∷ happened) is = (let found = some_reset happened is in (found.0, found.1, inr found.2))
@@ -82,7 +86,9 @@ performs_reset (effects.sends packet ∷ happened) peer number (inr has) = perfo
 performs_reset (effects.connects link ∷ happened) peer number (inl is) = absurd (cc)
 performs_reset (effects.connects link ∷ happened) peer number (inr has) = performs_reset happened peer number has
 performs_reset (effects.begins another ∷ happened) peer number (inl is) = absurd (cc)
+performs_reset (effects.gives_up another ∷ happened) peer number (inl is) = absurd (cc)
 performs_reset (effects.begins another ∷ happened) peer number (inr has) = performs_reset happened peer number has
+performs_reset (effects.gives_up another ∷ happened) peer number (inr has) = performs_reset happened peer number has
 performs_reset (effects.completes my another ∷ happened) peer number (inl is) = absurd (cc)
 performs_reset (effects.completes my another ∷ happened) peer number (inr has) = performs_reset happened peer number has
 performs_reset (effects.fails another ∷ happened) peer number (inl is) = absurd (cc)

@@ -2,6 +2,7 @@
 use Rattle.std.specs.Prelude.{◌≡◌, ◌≢◌, ◌⊎◌, ◌<◌, ◌≤◌, ◌+◌, ◌%◌, ◌^◌, ℕ, suc, Bool, true, false, Option, None, Some, List, [], ◌∷◌, length}
 use Rattle.dcsctp_spec_lemmas.specs.types.declared.association.Pair.{Pair}
 use Rattle.dcsctp_spec_runs.specs.Past.{Has, number_to_accept, number_to_perform}
+use Rattle.dcsctp_spec_lemmas.specs.spec.Reconfiguration.{RequestedReset}
 use Rattle.dcsctp_spec_lemmas.specs.spec.endpoint.Endpoint.{Endpoint}
 use Rattle.dcsctp_spec_lemmas.specs.spec.association.Effect.{Link, Effect, holds, performs, link_in}
 use Rattle.dcsctp_spec_lemmas.specs.spec.queues.Transfer.{Transfer}
@@ -25,6 +26,11 @@ pub record Requests : Type 0 where
 abbrev pub number_at : ℕ → ℕ → ℕ
 number_at first place = (first + place) % 2 ^ 32
 
+-- Each request from this place on wants this reset, as one does that is sent again under other numbers.
+abbrev pub WantFrom : ℕ → RequestedReset → List BegunReset → Type 0
+WantFrom place reset [] = Unit {0}
+WantFrom place reset (begun ∷ earlier) = (place ≤ length earlier → begun.reset ≡ reset) × WantFrom place reset earlier
+
 -- The sender had it: its peer has this tag.
 pub record WasHeld (past : List Effect) (tag : ℕ) (my : Pair) : Type 0 where
   pub link : Link
@@ -41,13 +47,17 @@ pub record WasJoined (their_past : List Effect) (tag : ℕ) (my : Pair) : Type 0
   pub my_is : link.peer ≡ my
   pub some : tag ≢ 0
 
--- The numbers go up by one, and at most one request has no end. With interleaving the receiver has performed each of the others.
+-- The numbers go up by one, and at most one request has no end.
 pub record AreAsked (requests : Requests) (their_past : List Effect) : Type 0 where
   pub numbers : AreNumbered requests.first requests.asking.requests
   pub out : requests.asking.out ≤ 1
-  pub ended : requests.is_interleaved ≡ true → (place : ℕ) → place + requests.asking.out < length requests.asking.requests → Has (performs requests.my (number_at requests.first place)) their_past
-  -- If it is known that the newest was performed, it was.
+  -- With interleaving the receiver has performed the newest if it has an end,
+  pub ended : requests.is_interleaved ≡ true → requests.asking.out ≡ 0 → (place : ℕ) → suc place ≡ length requests.asking.requests → Has (performs requests.my (number_at requests.first place)) their_past
+  -- or if that is known;
   pub performed_is : requests.is_interleaved ≡ true → requests.asking.is_performed ≡ true → (place : ℕ) → suc place ≡ length requests.asking.requests → Has (performs requests.my (number_at requests.first place)) their_past
+  -- and it has performed one, or all want the same.
+  pub some_performed : requests.is_interleaved ≡ true → (newest : BegunReset) (earlier : List BegunReset) → requests.asking.requests ≡ newest ∷ earlier
+      → ((number : ℕ) × Has (performs requests.my number) their_past) ⊎ WantFrom 0 newest.reset requests.asking.requests
 
 -- The number is that of a request. With interleaving it is known whether the newest was performed.
 pub record IsPlaced (requests : Requests) (number : ℕ) : Type 0 where
@@ -60,17 +70,19 @@ pub record IsPlaced (requests : Requests) (number : ℕ) : Type 0 where
 abbrev pub WerePerformed : Requests → List Effect → Type 0
 WerePerformed requests their_past = (number : ℕ) → Has (performs requests.my number) their_past → IsPlaced requests number
 
--- Where the receiver stands, if it has performed each request but the newest: what it has accepted and performed, and what waits there.
+-- Where the receiver stands: what it has accepted and performed, and what waits there. It may be behind where a request was sent again under
+-- other numbers.
 pub data IsInStep (requests : Requests) (their_past : List Effect) (waits : Option DeferralModel) : Type 0 where
-  -- It has performed each, or none was begun.
+  -- It has performed the newest, or none was begun.
   all_performed : number_to_accept their_past ≡ Some (number_at requests.first (length requests.asking.requests)) → number_to_perform their_past ≡ None → waits ≡ None
       → (requests.asking.requests ≡ []) ⊎ (requests.asking.is_performed ≡ true) → IsInStep requests their_past waits
-  -- It hasn't accepted the newest,
-  unaccepted : (newest : BegunReset) (earlier : List BegunReset) → requests.asking.requests ≡ newest ∷ earlier → number_to_accept their_past ≡ Some (number_at requests.first (length earlier)) → number_to_perform their_past ≡ None
-      → waits ≡ None → requests.asking.is_performed ≡ false → IsInStep requests their_past waits
+  -- It hasn't accepted the one at this place, from which on all want the same,
+  unaccepted : (newest : BegunReset) (earlier : List BegunReset) (place : ℕ) → requests.asking.requests ≡ newest ∷ earlier → place ≤ length earlier → WantFrom place newest.reset requests.asking.requests
+      → number_to_accept their_past ≡ Some (number_at requests.first place) → number_to_perform their_past ≡ None → waits ≡ None → requests.asking.is_performed ≡ false → IsInStep requests their_past waits
   -- or hasn't performed it yet.
-  in_progress : (newest : BegunReset) (earlier : List BegunReset) → requests.asking.requests ≡ newest ∷ earlier → number_to_accept their_past ≡ Some (number_at requests.first (length requests.asking.requests))
-      → number_to_perform their_past ≡ Some newest.number → IsOwn newest.reset waits → requests.asking.is_performed ≡ false → IsInStep requests their_past waits
+  in_progress : (newest : BegunReset) (earlier : List BegunReset) (place : ℕ) → requests.asking.requests ≡ newest ∷ earlier → place ≤ length earlier → WantFrom place newest.reset requests.asking.requests
+      → number_to_accept their_past ≡ Some (number_at requests.first (suc place)) → number_to_perform their_past ≡ Some (number_at requests.first place) → IsOwn newest.reset waits → requests.asking.is_performed ≡ false
+      → IsInStep requests their_past waits
 
 -- So it stands, or messages don't interleave.
 pub data StandsSo (requests : Requests) (their_past : List Effect) (waits : Option DeferralModel) : Type 0 where

@@ -14,7 +14,7 @@ use Rattle.dcsctp_spec.specs.endpoint.MessageOutcomes.{sending_queued}
 use Rattle.dcsctp_spec.specs.endpoint.SettingOutcomes.{set_in_queue}
 use Rattle.dcsctp_delivery_sending.specs.ChunkCounts.{chunks_in, going, tsns_of, tsns_where, tsns_below}
 use Rattle.dcsctp_delivery_sending.specs.Stages.{Bears}
-use Rattle.dcsctp_delivery_directions.specs.Directions.{Direction, in_flight, assigned, Step, queues, sets, prepares, commits, rolls_back, resends, resends_nothing, speaks, asks_again, turns_aside, tracks, defers, flushes, acknowledges, loses, receives, forwards, receives_interleaved, forwards_interleaved, performs, resets, takes, NoneInFlight, Run, begins, goes_on, starts}
+use Rattle.dcsctp_delivery_directions.specs.Directions.{Direction, in_flight, assigned, Step, queues, sets, prepares, commits, rolls_back, resends, resends_nothing, speaks, asks_again, renews, turns_aside, tracks, defers, flushes, acknowledges, loses, receives, forwards, receives_interleaved, forwards_interleaved, performs, resets, takes, NoneInFlight, Run, begins, goes_on, starts}
 use Rattle.dcsctp_delivery_sending.proofs.Acknowledged.{acknowledged_bear, lost_bear}
 use Rattle.dcsctp_delivery_sending.proofs.ChunkCounts.{one_at_most, flushes_assign_few, at_once_same}
 use Rattle.dcsctp_delivery_directions.proofs.Directions.{run_stands}
@@ -72,6 +72,7 @@ module _ (options : Options) (first size : ℕ) (small : first < 2 ^ 32) (old : 
       omega (arith, size, before, h)
   stepped_few _ (speaks emission no_data) = (let sent = chunks_more old.sent (emission ∷ []) in omega (arith, sent, h))
   stepped_few _ (asks_again emission begun was contents) = (let sent = chunks_more old.sent (emission ∷ []) in omega (arith, sent, h))
+  stepped_few _ (renews emission newest earlier number asks out contents) = (let sent = chunks_more old.sent (emission ∷ []) in omega (arith, sent, h))
   stepped_few _ (turns_aside transfer new known same) =
       let size : length new.retransmission.outstanding.items ≡ length transfer.retransmission.outstanding.items = ap (λ (r : _). length r.outstanding.items) same in
       let before = at_known transfer known in

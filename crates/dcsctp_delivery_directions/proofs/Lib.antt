@@ -5,6 +5,7 @@ pub mod Flushing
 pub mod Sending
 pub mod Receiving
 pub mod Performing
+pub mod Renewing
 pub mod Steps
 pub mod Directions
 pub mod Marking

@@ -61,13 +61,13 @@ named_field (one ∷ ids) id small named = go (one == id) refl named (λ rest. n
 
 -- ---- it is of the newest mark
 
-record IsNewest (marks : List Mark) (begun : BegunReset) : Type 0 where
-  mark : Mark
-  earlier : List Mark
-  is : marks ≡ mark ∷ earlier
-  begins : mark.begun ≡ begun
+pub record IsNewest (marks : List Mark) (begun : BegunReset) : Type 0 where
+  pub mark : Mark
+  pub earlier : List Mark
+  pub is : marks ≡ mark ∷ earlier
+  pub begins : mark.begun ≡ begun
 
-newest_of : (marks : List Mark) (begun : BegunReset) (earlier : List BegunReset) → map (λ mark. mark.begun) marks ≡ begun ∷ earlier → IsNewest marks begun
+pub newest_of : (marks : List Mark) (begun : BegunReset) (earlier : List BegunReset) → map (λ mark. mark.begun) marks ≡ begun ∷ earlier → IsNewest marks begun
 newest_of [] begun earlier is = absurd (cc)
 newest_of (mark ∷ marks) begun earlier is = record { mark = mark; earlier = marks; is = refl; begins = cc }
 

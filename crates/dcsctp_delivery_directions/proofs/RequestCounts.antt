@@ -10,7 +10,7 @@ use Rattle.dcsctp_spec.specs.association.Choices.{plain_contents}
 use Rattle.dcsctp_spec.specs.endpoint.BegunResets.{BegunReset, request_contents}
 use Rattle.dcsctp_spec.specs.endpoint.FlushOutcomes.{Told, told_event, Answer, answer_contents, filled, goes_out, asked, next_draft, flush_of}
 use Rattle.dcsctp_delivery_sending.specs.Flushes.{NoRequests, NoContent, NoData, begun_by}
-use Rattle.dcsctp_delivery_directions.specs.Directions.{Asking, asking_with, Direction, Step, queues, sets, prepares, commits, rolls_back, resends, resends_nothing, speaks, asks_again, turns_aside, tracks, defers, flushes, acknowledges, loses, receives, forwards, receives_interleaved, forwards_interleaved, performs, resets, takes, Run, begins, goes_on, starts}
+use Rattle.dcsctp_delivery_directions.specs.Directions.{Asking, asking_with, Direction, Step, queues, sets, prepares, commits, rolls_back, resends, resends_nothing, speaks, asks_again, renews, turns_aside, tracks, defers, flushes, acknowledges, loses, receives, forwards, receives_interleaved, forwards_interleaved, performs, resets, takes, Run, begins, goes_on, starts}
 use Rattle.dcsctp_delivery_directions.specs.Requests.{one_if_asked, is_request, requests_among, requests_in, requests_to}
 use Rattle.dcsctp_delivery_directions.proofs.Requests.{packets_apart, told_then, told_alone}
 
@@ -117,6 +117,10 @@ stepped old _ h (resends now room transfer left tsns chunks emission known sends
 stepped old _ h (resends_nothing now room transfer left tsns known sends) = h
 stepped old _ h (speaks emission no_data) = one_more old emission h
 stepped old _ h (asks_again emission begun was contents) = one_more old emission h
+stepped old _ h (renews emission newest earlier number asks out contents) =
+    let more = requests_more old.sent (emission ∷ []) in
+    let one : requests_among emission.packet.contents ≡ 1 = ap requests_among contents in
+    omega (arith, more, one, h)
 stepped old _ h (turns_aside transfer new known same) = h
 stepped old _ h (acknowledges now sack transfer new known valid does) = h
 stepped old _ h (loses now transfer known) = h

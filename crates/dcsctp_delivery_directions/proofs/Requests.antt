@@ -13,7 +13,7 @@ use Rattle.dcsctp_spec.specs.endpoint.FlushOutcomes.{Told, amount_is_low, total_
 use Rattle.dcsctp_delivery_sending.specs.Places.{Has}
 use Rattle.dcsctp_delivery_sending.specs.Flushes.{NoContent, NoData, begun_by}
 use Rattle.dcsctp_delivery_sending.proofs.PausedFlushes.{later_begun}
-use Rattle.dcsctp_delivery_directions.specs.Directions.{Asking, asking_with, Direction, Step, queues, sets, prepares, commits, rolls_back, resends, resends_nothing, speaks, asks_again, turns_aside, tracks, defers, flushes, acknowledges, loses, receives, forwards, receives_interleaved, forwards_interleaved, performs, resets, takes, Run, begins, goes_on, starts}
+use Rattle.dcsctp_delivery_directions.specs.Directions.{Asking, asking_with, Direction, Step, queues, sets, prepares, commits, rolls_back, resends, resends_nothing, speaks, asks_again, renews, turns_aside, tracks, defers, flushes, acknowledges, loses, receives, forwards, receives_interleaved, forwards_interleaved, performs, resets, takes, Run, begins, goes_on, starts}
 use Rattle.dcsctp_delivery_directions.specs.Requests.{IsOfBegun}
 
 -- ---- the packets among events
@@ -179,6 +179,10 @@ stepped old _ h (resends_nothing now room transfer left tsns known sends) = h
 stepped old _ h (speaks emission no_data) = one_more old.asking.requests old.sent emission h (of_none old.asking.requests emission.packet.contents no_data)
 stepped old _ h (asks_again emission begun was contents) =
     one_more old.asking.requests old.sent emission h (subst (AreOfBegun old.asking.requests) (sym contents) (inr (begun, was, refl), tt))
+stepped old _ h (renews emission newest earlier number asks out contents) =
+    let begun : BegunReset = record { number = number; reset = newest.reset } in
+    let requests : List BegunReset = begun ∷ old.asking.requests in
+    one_more requests old.sent emission (packets_later begun old.asking.requests old.sent h) (subst (AreOfBegun requests) (sym contents) (inr (begun, inl refl, refl), tt))
 stepped old _ h (turns_aside transfer new known same) = h
 stepped old _ h (acknowledges now sack transfer new known valid does) = h
 stepped old _ h (loses now transfer known) = h

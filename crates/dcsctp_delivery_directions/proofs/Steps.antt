@@ -1,10 +1,11 @@
 -- Each step of a direction keeps what holds.
 use Rattle.std.proofs.Common.{ℕ, ◌<◌, ◌≤◌, ◌^◌, length, arith}
-use Rattle.dcsctp_delivery_directions.specs.Directions.{Direction, Step, queues, sets, prepares, commits, rolls_back, flushes, resends, resends_nothing, speaks, asks_again, turns_aside, acknowledges, loses, receives, forwards, receives_interleaved, forwards_interleaved, tracks, defers, performs, resets, takes}
+use Rattle.dcsctp_delivery_directions.specs.Directions.{Direction, Step, queues, sets, prepares, commits, rolls_back, flushes, resends, resends_nothing, speaks, asks_again, renews, turns_aside, acknowledges, loses, receives, forwards, receives_interleaved, forwards_interleaved, tracks, defers, performs, resets, takes}
 use Rattle.dcsctp_delivery_directions.proofs.Flushing.{stepped_flushes}
 use Rattle.dcsctp_delivery_directions.proofs.Performing.{stepped_performs}
 use Rattle.dcsctp_delivery_directions.proofs.Queued.{stepped_queues, stepped_sets, stepped_prepares, stepped_commits, stepped_rolls_back}
 use Rattle.dcsctp_delivery_directions.proofs.Receiving.{stepped_receives, stepped_receives_interleaved, stepped_forwards, stepped_forwards_interleaved, stepped_tracks, stepped_defers, stepped_resets, stepped_takes}
+use Rattle.dcsctp_delivery_directions.proofs.Renewing.{stepped_renews}
 use Rattle.dcsctp_delivery_directions.proofs.Sending.{stepped_resends, stepped_resends_nothing, stepped_speaks, stepped_asks_again, stepped_turns_aside, stepped_acknowledges, stepped_loses}
 use Rattle.dcsctp_delivery_directions.proofs.Standing.{Stands}
 
@@ -19,6 +20,7 @@ more_queued old _ (resends now room transfer left tsns chunks emission known sen
 more_queued old _ (resends_nothing now room transfer left tsns known sends) = omega arith
 more_queued old _ (speaks emission no_data) = omega arith
 more_queued old _ (asks_again emission begun was contents) = omega arith
+more_queued old _ (renews emission newest earlier number asks out contents) = omega arith
 more_queued old _ (turns_aside transfer new known same) = omega arith
 more_queued old _ (acknowledges now sack transfer new known valid does) = omega arith
 more_queued old _ (loses now transfer known) = omega arith
@@ -43,6 +45,7 @@ stepped first old small s _ few (resends now room transfer left tsns chunks emis
 stepped first old small s _ few (resends_nothing now room transfer left tsns known sends) = stepped_resends_nothing first old s now room transfer left tsns known sends
 stepped first old small s _ few (speaks emission no_data) = stepped_speaks first old s emission no_data
 stepped first old small s _ few (asks_again emission begun was contents) = stepped_asks_again first old s emission begun was contents
+stepped first old small s _ few (renews emission newest earlier number asks out contents) = stepped_renews first old s emission newest earlier number asks out contents
 stepped first old small s _ few (turns_aside transfer new known same) = stepped_turns_aside first old s transfer new known same
 stepped first old small s _ few (acknowledges now sack transfer new known valid does) = stepped_acknowledges first old s now sack transfer new known valid does
 stepped first old small s _ few (loses now transfer known) = stepped_loses first old s now transfer known

@@ -69,6 +69,10 @@ abbrev pub asking_with : Option BegunReset → Asking → Asking
 asking_with None asking = asking
 asking_with (Some begun) asking = record { requests = begun ∷ asking.requests; out = suc asking.out; is_performed = false }
 
+-- once the newest request goes on under this number
+abbrev pub asking_renewed : ℕ → BegunReset → Asking → Asking
+asking_renewed number newest asking = record asking { requests = record { number = number; reset = newest.reset } ∷ asking.requests; is_performed = false }
+
 -- once each request has ended
 abbrev pub all_ended : Asking → Asking
 all_ended asking = record asking { out = 0 }
@@ -117,6 +121,9 @@ pub data Step (old : Direction) : Direction → Type 0 where
   -- A request that was begun is sent again.
   asks_again : (emission : Emission) (begun : BegunReset) → Has begun old.asking.requests → emission.packet.contents ≡ reset_request begun.number begun.reset ∷ []
       → Step old (record old { sent = old.sent ++ emission ∷ [] })
+  -- The newest request, which has no end, is sent again under another number, and takes its place.
+  renews : (emission : Emission) (newest : BegunReset) (earlier : List BegunReset) (number : ℕ) → old.asking.requests ≡ newest ∷ earlier → old.asking.out ≡ 1
+      → emission.packet.contents ≡ reset_request number newest.reset ∷ [] → Step old (record old { sent = old.sent ++ emission ∷ []; asking = asking_renewed number newest old.asking })
   -- The sender receives something itself.
   turns_aside : (transfer new : Transfer) → old.below.transfer ≡ Some transfer → new.retransmission ≡ transfer.retransmission
       → Step old (record old { below = record old.below { transfer = Some new } })

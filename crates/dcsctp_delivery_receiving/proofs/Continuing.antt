@@ -1,25 +1,28 @@
 -- What was received of a peer stays so as it goes on.
-use Rattle.std.proofs.Common.{◌≡◌, ℕ, Bool, true, false, ◌≤◌, ◌+◌, List, [], ◌∷◌, length, arith, inl, inr}
+use Rattle.std.proofs.Common.{◌≡◌, ℕ, Bool, true, false, ◌≤◌, ◌+◌, List, [], ◌∷◌, length, arith, subst, inl, inr}
 use Rattle.std.specs.Prelude.{◌⊎◌, Option, None, Some}
 use Rattle.std.specs.List.{AllByRecursion}
 use Rattle.dcsctp_spec_lemmas.specs.types.declared.arrivals.SkippedTo.{SkippedTo}
 use Rattle.dcsctp_spec_lemmas.specs.types.declared.arrivals.SkippedTo.TheVariants.{Ssn, Mid}
+use Rattle.dcsctp_spec_lemmas.specs.spec.queues.Incoming.{is_named}
 use Rattle.dcsctp_spec_lemmas.specs.spec.queues.Runs.{RunModel}
 use Rattle.dcsctp_spec_lemmas.specs.spec.queues.IncomingStreams.{ChunkModel}
 use Rattle.dcsctp_spec_lemmas.specs.spec.queues.Reassembly.{WaitingModel, WaitingSkips, DeferralModel}
 use Rattle.dcsctp_delivery_sending.specs.Places.{Has, at_place}
 use Rattle.dcsctp_delivery_sending.specs.Log.{Piece, Slot, Mark, History}
 use Rattle.dcsctp_delivery_sending.specs.Numbers.{IsCurrent}
+use Rattle.dcsctp_delivery_sending.proofs.Extended.{IsAsOne}
 use Rattle.dcsctp_delivery_receiving.specs.Rows.{IsRow, AreRows, Spent}
 use Rattle.dcsctp_delivery_receiving.specs.Ready.{IsNumberedAs, IsOn, IsApart, Reads, Names}
 use Rattle.dcsctp_delivery_receiving.specs.Received.{Carries, CarriesCurrent, IsTsn, kept_entries, SkipsLater, SkipsWait, ForwardsWait, Defers}
 
--- All pieces of a history are in a later one, each current one still is current, and the other marks are of resets that began later.
+-- All pieces of a history are in a later one, each current one still is current, and the other marks are of resets that began later, or of
+-- known ones under another number.
 pub record GoesOn (history wider : History) : Type 0 where
   pub stays : (n : ℕ) (slot : Slot) → at_place n history.log ≡ Some slot → at_place n wider.log ≡ Some slot
   pub current : (n : ℕ) (f : Piece) → at_place n history.log ≡ Some (Some f) → IsCurrent history f → IsCurrent wider f
   pub longer : length history.log ≤ length wider.log
-  pub marks : (mark : Mark) → Has mark wider.marks → Has mark history.marks ⊎ (length history.log ≤ mark.bound)
+  pub marks : (mark : Mark) → Has mark wider.marks → IsAsOne history mark ⊎ (length history.log ≤ mark.bound)
 
 module _ (history wider : History) (goes : GoesOn history wider) where
   numbered_more : (is_unordered : Bool) (n : ℕ) (f : Piece) (number : ℕ) → at_place n history.log ≡ Some (Some f) → IsNumberedAs history is_unordered f number → IsNumberedAs wider is_unordered f number
@@ -118,7 +121,13 @@ module _ (history wider : History) (goes : GoesOn history wider) where
       stream = s.stream;
       unordered = s.unordered;
       is = s.is;
-      within = λ mark has names below. elim (goes.marks mark has) [ inl h ↦ s.within mark h names below | inr up ↦ omega (arith, assigned, up) ];
+      within = λ mark has names below. elim (goes.marks mark has) [
+        | inl h ↦
+            (let same = h.bound in
+            let passes = s.within h.one h.has (subst (λ (ids : List ℕ). is_named ids s.piece.message.stream ≡ true) h.ids names) (omega (arith, below, same)) in
+            omega (arith, passes, same))
+        | inr up ↦ omega (arith, assigned, up)
+      ];
     },
     goes.current s.number s.piece s.at is,
   )

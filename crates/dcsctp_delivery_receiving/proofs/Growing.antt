@@ -8,12 +8,13 @@ use Rattle.dcsctp_spec_lemmas.specs.spec.queues.Incoming.{IncomingModel, stream_
 use Rattle.dcsctp_spec_lemmas.specs.spec.queues.Reassembly.{ReassemblyState, waiting_of}
 use Rattle.dcsctp_spec_lemmas.specs.spec.queues.Tracker.{TrackerState}
 use Rattle.dcsctp_spec_lemmas.specs.spec.endpoint.BegunResets.{BegunReset}
-use Rattle.dcsctp_delivery_sending.specs.Places.{at_place}
-use Rattle.dcsctp_delivery_sending.specs.Log.{Message, Slot, Mark, History, grown, with_mark, new_history}
+use Rattle.dcsctp_delivery_sending.specs.Places.{Has, at_place}
+use Rattle.dcsctp_delivery_sending.specs.Log.{Message, Slot, Mark, History, grown, with_mark, with_renewed, new_history}
 use Rattle.dcsctp_delivery_sending.specs.Numbers.{AreCurrent}
 use Rattle.dcsctp_delivery_receiving.specs.Rows.{IsQueued}
 use Rattle.dcsctp_delivery_receiving.specs.Ready.{IsOn, IsApart, IsOfStream, ordered_base, unordered_base, WereQueued, WaitQueued, Holds}
 use Rattle.dcsctp_delivery_receiving.specs.Received.{Reassembles, untouched, placed, Received}
+use Rattle.dcsctp_delivery_sending.proofs.Extended.{as_itself, as_renewed}
 use Rattle.dcsctp_delivery_sending.proofs.Packets.{at_more}
 use Rattle.dcsctp_delivery_sending.proofs.Places.{at_new, at_cases, at_stays}
 use Rattle.dcsctp_delivery_receiving.proofs.Current.{OthersArePast}
@@ -117,7 +118,7 @@ pub received_more : (queued more : List Message) (history : History) (later : Li
     → Received queued history first read tracker reassembly → Received (more ++ queued) (grown later history) first read tracker reassembly
 received_more queued more history later first read tracker reassembly are r =
     received_wider queued more history (grown later history)
-    (record { stays = λ n slot at. at_more later history.log n slot at; current = λ n f at is. is; longer = omega (arith, length-append later history.log); marks = λ mark has. inl has }) first read tracker reassembly old r
+    (record { stays = λ n slot at. at_more later history.log n slot at; current = λ n f at is. is; longer = omega (arith, length-append later history.log); marks = λ mark has. inl (as_itself history mark has) }) first read tracker reassembly old r
   where
     old : OthersArePast (grown later history) first tracker.cumulative
     old n f at kind aged =
@@ -139,9 +140,18 @@ received_asked queued history (Some begun) ids bound first read tracker reassemb
       longer = omega arith;
       marks = λ mark has. elim has [
         | inl e ↦ inr (let same : mark.bound ≡ bound = ap (λ (m : Mark). m.bound) e in omega (arith, same, assigned))
-        | inr earlier ↦ inl earlier
+        | inr earlier ↦ inl (as_itself history mark earlier)
       ];
     }) first read tracker reassembly
+    (λ n f at kind aged. (let past = r.old n f at kind aged in record { mark = past.mark; has = inr past.has; names = past.names; below = past.below; passed = past.passed })) r
+
+-- ---- a reset goes on under another number
+
+pub received_renewed : (queued : List Message) (history : History) (number : ℕ) (renewed : Mark) (first : ℕ) (read : List ℕ) (tracker : TrackerState) (reassembly : ReassemblyState) → Has renewed history.marks
+    → Received queued history first read tracker reassembly → Received queued (with_renewed number renewed history) first read tracker reassembly
+received_renewed queued history number renewed first read tracker reassembly known r =
+    received_wider queued [] history (with_renewed number renewed history)
+    (record { stays = λ n slot at. at; current = λ n f at is. is; longer = omega arith; marks = λ mark has. inl (as_renewed history number renewed mark known has) }) first read tracker reassembly
     (λ n f at kind aged. (let past = r.old n f at kind aged in record { mark = past.mark; has = inr past.has; names = past.names; below = past.below; passed = past.passed })) r
 
 -- ---- nothing was assigned yet

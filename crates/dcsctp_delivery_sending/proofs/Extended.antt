@@ -1,14 +1,15 @@
 -- What was said stays said as more is done in an association.
-use Rattle.std.proofs.Common.{◌≡◌, ℕ, Bool, true, false, ◌≤◌, List, [], ◌∷◌, ◌++◌, length, sym, ◌∙◌, arith, inr, ap, inl}
+use Rattle.std.proofs.Common.{◌≡◌, ℕ, Bool, true, false, ◌≤◌, List, [], ◌∷◌, ◌++◌, length, refl, sym, ◌∙◌, arith, inr, ap, inl, subst}
 use Rattle.std.specs.Prelude.{◌⊎◌, Option, None, Some}
 use Rattle.std.proofs.lemmas.List.{length-append}
 use Rattle.dcsctp_spec.specs.wire.Content.{ChunkContent, data_chunk, i_data_chunk, init_chunk, init_ack_chunk, sack_chunk, heartbeat_chunk, heartbeat_ack_chunk, abort_chunk, shutdown_chunk, shutdown_ack_chunk, error_chunk, cookie_echo_chunk, cookie_ack_chunk, shutdown_complete_chunk, re_config_chunk, forward_tsn_chunk, i_forward_tsn_chunk, unknown_chunk}
 use Rattle.dcsctp_spec.specs.Packet.{Plain, unknown, heartbeat, heartbeat_ack, unworked, plain, init, init_ack, cookie_echo, cookie_ack, re_config, abort, shutdown, shutdown_ack, shutdown_complete, Content, Emission}
 use Rattle.dcsctp_spec.specs.Reconfiguration.{ResetParameter, outgoing_reset_request, incoming_reset_request, reconfiguration_response, other_reset_parameter}
+use Rattle.dcsctp_spec.specs.queues.Incoming.{is_named}
 use Rattle.dcsctp_spec.specs.queues.Sending.{Fragment}
 use Rattle.dcsctp_spec.specs.endpoint.BegunResets.{BegunReset}
 use Rattle.dcsctp_delivery_sending.specs.Places.{Has, at_place}
-use Rattle.dcsctp_delivery_sending.specs.Log.{Slot, Mark, History, grown, with_mark}
+use Rattle.dcsctp_delivery_sending.specs.Log.{Slot, Mark, History, grown, with_mark, with_renewed}
 use Rattle.dcsctp_delivery_sending.specs.Numbers.{KindAt}
 use Rattle.dcsctp_delivery_sending.specs.Stages.{SaysAt}
 use Rattle.dcsctp_delivery_sending.specs.Flushes.{IsPassed, AreEntries, IsForward, SaysPlain, AreBegun, SaysContent, SayAll, PacketsSay}
@@ -18,25 +19,43 @@ pub at_more : {A : Type 0} (more log : List A) (n : ℕ) (x : A) → at_place n 
 at_more [] log n x at = at
 at_more (slot ∷ more) log n x at = at_stays n slot x (more ++ log) (at_more more log n x at)
 
+-- It lies where a reset of this history does, and names the same streams.
+pub record IsAsOne (history : History) (mark : Mark) : Type 0 where
+  pub one : Mark
+  pub has : Has one history.marks
+  pub bound : mark.bound ≡ one.bound
+  pub ids : mark.ids ≡ one.ids
+
+pub as_itself : (history : History) (mark : Mark) → Has mark history.marks → IsAsOne history mark
+as_itself history mark has = record { one = mark; has = has; bound = refl; ids = refl }
+
+-- So does the request of another number.
+pub as_renewed : (history : History) (number : ℕ) (renewed mark : Mark) → Has renewed history.marks → Has mark (with_renewed number renewed history).marks → IsAsOne history mark
+as_renewed history number renewed mark known has =
+    elim has [
+      | inl e ↦ record { one = renewed; has = known; bound = ap (λ (m : Mark). m.bound) e; ids = ap (λ (m : Mark). m.ids) e }
+      | inr old ↦ as_itself history mark old
+    ]
+
 -- The later history has all TSNs and resets of the earlier one.
 pub record Extends (old new : History) : Type 0 where
   pub at : (n : ℕ) (slot : Slot) → at_place n old.log ≡ Some slot → at_place n new.log ≡ Some slot
   pub size : length old.log ≤ length new.log
   pub marks : (mark : Mark) → Has mark old.marks → Has mark new.marks
-  -- A later reset lies behind all TSNs of the earlier history.
-  pub later : (mark : Mark) → Has mark new.marks → (Has mark old.marks) ⊎ (length old.log ≤ mark.bound)
+  -- A later reset lies behind all TSNs of the earlier history, or is one of that under another number.
+  pub later : (mark : Mark) → Has mark new.marks → IsAsOne old mark ⊎ (length old.log ≤ mark.bound)
 
 pub extends_grown : (more : List Slot) (history : History) → Extends history (grown more history)
-extends_grown more history = record { at = at_more more history.log; size = omega (arith, length-append more history.log); marks = λ mark has. has; later = λ mark has. inl has }
+extends_grown more history = record { at = at_more more history.log; size = omega (arith, length-append more history.log); marks = λ mark has. has; later = λ mark has. inl (as_itself history mark has) }
 
 pub extends_marked : (begun : Option BegunReset) (ids : List ℕ) (bound : ℕ) (history : History) → length history.log ≤ bound → Extends history (with_mark begun ids bound history)
-extends_marked None ids bound history low = record { at = λ n slot at. at; size = omega arith; marks = λ mark has. has; later = λ mark has. inl has }
+extends_marked None ids bound history low = record { at = λ n slot at. at; size = omega arith; marks = λ mark has. has; later = λ mark has. inl (as_itself history mark has) }
 extends_marked (Some begun) ids bound history low =
     record {
       at = λ n slot at. at;
       size = omega arith;
       marks = λ mark has. inr has;
-      later = λ mark has. elim has [ inl e ↦ inr (let is : mark.bound ≡ bound = ap (λ (m : Mark). m.bound) e in omega (arith, low)) | inr old ↦ inl old ];
+      later = λ mark has. elim has [ inl e ↦ inr (let is : mark.bound ≡ bound = ap (λ (m : Mark). m.bound) e in omega (arith, low)) | inr old ↦ inl (as_itself history mark old) ];
     }
 
 -- a reset that was begun among more TSNs
@@ -47,8 +66,17 @@ extends_noted (Some begun) ids bound more history low =
       at = at_more more history.log;
       size = omega (arith, length-append more history.log);
       marks = λ mark has. inr has;
-      later = λ mark has. elim has [ inl e ↦ inr (let is : mark.bound ≡ bound = ap (λ (m : Mark). m.bound) e in omega (arith, low)) | inr old ↦ inl old ];
+      later = λ mark has. elim has [ inl e ↦ inr (let is : mark.bound ≡ bound = ap (λ (m : Mark). m.bound) e in omega (arith, low)) | inr old ↦ inl (as_itself history mark old) ];
     }
+
+-- a reset that goes on under another number
+pub extends_renewed : (number : ℕ) (renewed : Mark) (history : History) → Has renewed history.marks → Extends history (with_renewed number renewed history)
+extends_renewed number renewed history known =
+    record { at = λ n slot at. at; size = omega arith; marks = λ mark has. inr has; later = λ mark has. inl (as_renewed history number renewed mark known has) }
+
+-- A mark of the one is as one of the other, which is as one of a third.
+as_then : (old between : History) (mark : Mark) → (is : IsAsOne between mark) → IsAsOne old is.one → IsAsOne old mark
+as_then old between mark is earlier = record { one = earlier.one; has = earlier.has; bound = is.bound ∙ earlier.bound; ids = is.ids ∙ earlier.ids }
 
 pub extends_then : (old between new : History) → Extends old between → Extends between new → Extends old new
 extends_then old between new one two =
@@ -57,7 +85,10 @@ extends_then old between new one two =
       size = (let less = one.size in let less' = two.size in omega (arith, less, less'));
       marks = λ mark has. two.marks mark (one.marks mark has);
       later = λ mark has. elim (two.later mark has) [
-        | inl earlier ↦ one.later mark earlier
+        | inl earlier ↦ elim (one.later earlier.one earlier.has) [
+          | inl is ↦ inl (as_then old between mark earlier is)
+          | inr behind ↦ inr (let same = earlier.bound in omega (arith, behind, same))
+        ]
         | inr less' ↦ inr (let less = one.size in omega (arith, less, less'))
       ];
     }
@@ -83,7 +114,13 @@ module _ (old new : History) (extends : Extends old new) (first : ℕ) where
       number = names.0.number;
       piece = names.0.piece;
       at = extends.at names.0.number (Some names.0.piece) names.0.at;
-      within = λ mark has resets less. elim (extends.later mark has) [ inl earlier ↦ names.0.within mark earlier resets less | inr past ↦ omega (arith, below, past) ];
+      within = λ mark has resets less. elim (extends.later mark has) [
+        | inl is ↦
+            (let same = is.bound in
+            let passes = names.0.within is.one is.has (subst (λ (ids : List ℕ). is_named ids names.0.piece.message.stream ≡ true) is.ids resets) (omega (arith, less, same)) in
+            omega (arith, passes, same))
+        | inr past ↦ omega (arith, below, past)
+      ];
       kind = names.0.kind;
       stream = names.0.stream;
       unordered = names.0.unordered;

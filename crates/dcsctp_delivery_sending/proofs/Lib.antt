@@ -25,6 +25,7 @@ pub mod PausedFlushes
 pub mod Handing
 pub mod BegunMarks
 pub mod Raised
+pub mod Renewed
 pub mod OnePacket
 pub mod Flushes
 pub mod NextIdentifiers

@@ -112,6 +112,13 @@ abbrev pub with_mark : Option BegunReset → List ℕ → ℕ → History → Hi
 with_mark None ids bound history = history
 with_mark (Some begun) ids bound history = record history { marks = record { bound = bound; begun = begun; ids = ids } ∷ history.marks }
 
+-- The newest reset is asked for under another number. Its request wants what the other one does.
+abbrev pub mark_renewed : ℕ → Mark → Mark
+mark_renewed number mark = record mark { begun = record { number = number; reset = mark.begun.reset } }
+
+abbrev pub with_renewed : ℕ → Mark → History → History
+with_renewed number mark history = record history { marks = mark_renewed number mark ∷ history.marks }
+
 -- nothing was done in the association yet
 abbrev pub new_history : (ℕ → Bool → ℕ) → History
 new_history floors = record { log = []; marks = []; floors = floors }

@@ -9,7 +9,7 @@ use Rattle.dcsctp_spec_lemmas.specs.spec.endpoint.Event.{packets_in}
 use Rattle.dcsctp_spec_lemmas.specs.spec.Packet.{Content}
 use Rattle.dcsctp_spec_runs.specs.Past.{Has}
 use Rattle.dcsctp_spec_lemmas.specs.spec.endpoint.Turn.{Turn}
-use Rattle.dcsctp_spec_lemmas.specs.spec.association.Effect.{Link, Effect, draws, sends, holds, connects, ends, begins, completes, fails, accepts, performs, resumes, noted, link_in}
+use Rattle.dcsctp_spec_lemmas.specs.spec.association.Effect.{Link, Effect, draws, sends, holds, connects, ends, begins, gives_up, completes, fails, accepts, performs, resumes, noted, link_in}
 use Rattle.dcsctp_theorem_association.specs.OneSide.{EffectsMean}
 use Rattle.dcsctp_theorem_sockets.specs.Telling.{NotesAnew}
 use Rattle.dcsctp_theorem_sockets.proofs.NewAssociations.{FirstAlone, change_anew}
@@ -38,6 +38,7 @@ noted_none (holds link ∷ effects) none = absurd none.0
 noted_none (connects link ∷ effects) none = (tt, noted_none effects none.1)
 noted_none (ends ∷ effects) none = (tt, noted_none effects none.1)
 noted_none (begins number ∷ effects) none = (tt, noted_none effects none.1)
+noted_none (gives_up number ∷ effects) none = (tt, noted_none effects none.1)
 noted_none (completes my number ∷ effects) none = (tt, noted_none effects none.1)
 noted_none (fails number ∷ effects) none = (tt, noted_none effects none.1)
 noted_none (accepts number ∷ effects) none = (tt, noted_none effects none.1)
@@ -56,6 +57,7 @@ noted_alone (holds link ∷ effects) first = noted_none effects first
 noted_alone (connects link ∷ effects) first = noted_none effects first
 noted_alone (ends ∷ effects) first = noted_none effects first
 noted_alone (begins number ∷ effects) first = noted_none effects first
+noted_alone (gives_up number ∷ effects) first = noted_none effects first
 noted_alone (completes my number ∷ effects) first = noted_none effects first
 noted_alone (fails number ∷ effects) first = noted_none effects first
 noted_alone (accepts number ∷ effects) first = noted_none effects first

@@ -10,7 +10,7 @@ use Rattle.dcsctp_spec_lemmas.specs.spec.Packet.{Emission}
 use Rattle.dcsctp_spec_runs.specs.Past.{Has, Each}
 use Rattle.dcsctp_spec_runs.specs.Sockets.{endpoint_after}
 use Rattle.dcsctp_spec_runs.specs.World.{after_effects}
-use Rattle.dcsctp_spec_lemmas.specs.spec.association.Effect.{Link, Effect, draws, sends, holds, connects, ends, begins, completes, fails, accepts, performs, resumes, link_in}
+use Rattle.dcsctp_spec_lemmas.specs.spec.association.Effect.{Link, Effect, draws, sends, holds, connects, ends, begins, gives_up, completes, fails, accepts, performs, resumes, link_in}
 use Rattle.dcsctp_spec_lemmas.proofs.TurnLists.{after_all-append, events_of-append}
 use Rattle.dcsctp_theorem_association.proofs.Growth.{after_effects-append}
 use Rattle.dcsctp_theorem_sockets.specs.Agreement.{noted_past}
@@ -54,6 +54,7 @@ each_after (sends packet ∷ effects) past none each = each_after effects (sends
 each_after (connects link ∷ effects) past none each = each_after effects (connects link ∷ past) none.1 (tt, each)
 each_after (ends ∷ effects) past none each = each_after effects (ends ∷ past) none.1 (tt, each)
 each_after (begins number ∷ effects) past none each = each_after effects (begins number ∷ past) none.1 (tt, each)
+each_after (gives_up number ∷ effects) past none each = each_after effects (gives_up number ∷ past) none.1 (tt, each)
 each_after (completes my number ∷ effects) past none each = each_after effects (completes my number ∷ past) none.1 (tt, each)
 each_after (fails number ∷ effects) past none each = each_after effects (fails number ∷ past) none.1 (tt, each)
 each_after (accepts number ∷ effects) past none each = each_after effects (accepts number ∷ past) none.1 (tt, each)

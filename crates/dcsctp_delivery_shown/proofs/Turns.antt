@@ -6,7 +6,7 @@ use Rattle.dcsctp_spec_lemmas.specs.spec.endpoint.Event.{packets_in}
 use Rattle.dcsctp_spec_lemmas.specs.spec.endpoint.Outcome.{Outcome, then_outcome}
 use Rattle.dcsctp_spec_lemmas.specs.spec.Packet.{Content, init_ack, cookie_echo, Emission}
 use Rattle.dcsctp_spec_lemmas.specs.spec.endpoint.Turn.{Input, chunk_input, act_input, user_sends, restores, Turn}
-use Rattle.dcsctp_spec_lemmas.specs.spec.association.Acts.{flushes, request_again}
+use Rattle.dcsctp_spec_lemmas.specs.spec.association.Acts.{flushes, request_again, request_renewed}
 use Rattle.dcsctp_spec_lemmas.specs.spec.association.Effect.{Effect, Link, link_of, link_in}
 use Rattle.dcsctp_spec_lemmas.specs.types.queues.Messages.{MessageContent}
 use Rattle.dcsctp_spec_lemmas.specs.spec.queues.Transfer.{Below}
@@ -16,12 +16,12 @@ use Rattle.dcsctp_theorem_sockets.proofs.Bursts.{packets_in-append}
 use Rattle.dcsctp_delivery_sending.specs.Log.{Message}
 use Rattle.dcsctp_delivery_directions.specs.Directions.{nothing_asked}
 use Rattle.dcsctp_delivery_turns.specs.Asking.{own_of, SomeFit}
-use Rattle.dcsctp_delivery_turns.specs.Actions.{ledger_of, came_by, Begun, begun_below, IsOpening, Inside, inside, Made, MakesAlso, OwnEnds, unended, committed, rolled_back, PeerResets, unreset, absent, deferred, reset_now, Becomes, goes_on, works_resets, ends, begins, IsCall, peer_tag, queued_after, read_after}
+use Rattle.dcsctp_delivery_turns.specs.Actions.{ledger_of, came_by, Begun, begun_below, IsOpening, Inside, inside, Made, MakesAlso, OwnEnds, unended, committed, rolled_back, PeerResets, unreset, absent, deferred, reset_now, Becomes, goes_on, works_resets, renews, ends, begins, IsCall, peer_tag, queued_after, read_after}
 use Rattle.dcsctp_delivery_turns.proofs.Fixed.{queue_all_core, refusal_none}
-use Rattle.dcsctp_delivery_turns.proofs.Fronts.{own_ends_fit}
+use Rattle.dcsctp_delivery_turns.proofs.Fronts.{renewed_fit, own_ends_fit}
 use Rattle.dcsctp_delivery_turns.proofs.Beginnings.{nothing_fits, unlinked_fits}
 use Rattle.dcsctp_delivery_turns.proofs.Turns.{turns_are_actions}
-use Rattle.dcsctp_delivery_shown.proofs.Allowed.{AreAllowed}
+use Rattle.dcsctp_delivery_shown.proofs.Allowed.{AllAllowed, AreAllowed}
 use Rattle.dcsctp_delivery_shown.proofs.Actions.{TransferIs, events_both, LedgerIs, of_known, actions_are}
 
 -- ---- an endpoint
@@ -43,9 +43,10 @@ pub record EndpointIs (kinds : Capabilities) (e : Endpoint) : Type 0 where
 
 -- ---- inputs
 
--- No snapshot is restored, and a request to reset streams is sent again by its timer alone.
+-- No snapshot is restored, and a request to reset streams is sent again by its timer alone, under its number or the next one.
 abbrev pub IsStep : Input → Type 0
 IsStep (act_input (request_again reset)) = ⊥
+IsStep (act_input (request_renewed reset)) = ⊥
 IsStep (restores state) = ⊥
 IsStep input = Unit {0}
 
@@ -54,11 +55,13 @@ abbrev pub IsCalm : Input → Type 0
 IsCalm (chunk_input tag (init_ack theirs cookie)) = ⊥
 IsCalm (chunk_input tag (cookie_echo cookie)) = ⊥
 IsCalm (act_input (request_again reset)) = ⊥
+IsCalm (act_input (request_renewed reset)) = ⊥
 IsCalm (restores state) = ⊥
 IsCalm input = Unit {0}
 
 pub calm_step : (input : Input) → IsCalm input → IsStep input
 calm_step (act_input (request_again reset)) calm = absurd calm
+calm_step (act_input (request_renewed reset)) calm = absurd calm
 calm_step (restores state) calm = absurd calm
 calm_step input calm = tt
 
@@ -79,6 +82,7 @@ pub data MovesLink (came : Option Content) (e : Endpoint) (o : Outcome) : Type 0
 is_call : (input : Input) → IsStep input → ((sendings : List Sending) → input ≡ user_sends sendings → ⊥) → IsCall input
 is_call (user_sends sendings) step other = absurd (other sendings refl)
 is_call (act_input (request_again reset)) step other = absurd step
+is_call (act_input (request_renewed reset)) step other = absurd step
 is_call (restores state) step other = absurd step
 is_call input step other = tt
 
@@ -155,6 +159,15 @@ module _ (kinds : Capabilities) where
   becomes_is came to adds taken e o h so (works_resets linked between worked ended peer makes) =
       let worked_is : InsideIs worked = peer_resets came o.effects between worked (own_ends o.effects (inside e) between (record { left = h.left; asks = h.asks }) ended) peer in
       stays_is came e o h linked (makes_is came to adds taken worked (inside o.after) (packets_in o.events) worked_is makes)
+  becomes_is came to adds taken e o h so (renews calm linked alike unread own number emission kept out is packets tag contents) =
+      stays_is came e o h linked
+      (record {
+        inside_is = record {
+          left = subst (λ (i : Inside). TransferIs kinds i.below.transfer) (sym is) h.left;
+          asks = renewed_fit (own_of e) (own_of o.after) own number kept out (ap (λ (i : Inside). i.own) is) h.asks;
+        };
+        says = subst (AreAllowed kinds) (sym packets) (subst (AllAllowed kinds) (sym contents) (tt, tt), tt);
+      })
   becomes_is came to adds taken e o h so (ends none unread last own makes is) =
       let made : MadeIs last (packets_in o.events) = makes_is came to adds taken (inside e) last (packets_in o.events) (record { left = h.left; asks = h.asks }) makes in
       record {

@@ -14,7 +14,7 @@ use Rattle.dcsctp_spec_runs.specs.Past.{Each, InPlace, number_to_perform}
 use Rattle.dcsctp_spec_lemmas.specs.spec.Reconfiguration.{ResetParameter, outgoing_reset_request, reconfiguration_response}
 use Rattle.dcsctp_spec_lemmas.specs.types.Settings.{SameOptions}
 use Rattle.dcsctp_spec_runs.specs.World.{SideState, after_effects, ControlTurn, acted, worked, resumed, SideRun, side_after}
-use Rattle.dcsctp_spec_lemmas.specs.spec.association.Acts.{Act, connect, t1_expires, shut_down, step_of_shutdown, shutdown_repeats, abort_with, hands_over, flushes, request_again, act_change, chunk_change}
+use Rattle.dcsctp_spec_lemmas.specs.spec.association.Acts.{Act, connect, t1_expires, shut_down, step_of_shutdown, shutdown_repeats, abort_with, hands_over, flushes, request_again, request_renewed, act_change, chunk_change}
 use Rattle.dcsctp_spec_lemmas.specs.spec.association.Choices.{Choices, idle_choices}
 use Rattle.dcsctp_spec_lemmas.specs.spec.association.Effect.{Effect, performs, noted, Change}
 use Rattle.dcsctp_spec_lemmas.specs.spec.association.FlushChanges.{next_number}
@@ -106,6 +106,7 @@ longest_acts p n core (abort_with reason) choices = refl
 longest_acts p n core hands_over choices = refl
 longest_acts p n core flushes choices = refl
 longest_acts p n core (request_again reset) choices = refl
+longest_acts p n core (request_renewed reset) choices = refl
 
 longest_turns : (p : Options) (n : ℕ) (core : Core) (change : Change) → ControlTurn (record p { max_message_size = n }) core change → ControlTurn p core change
 longest_turns p n core change (acted act choices is) = acted act choices (is ∙ longest_acts p n core act choices)

@@ -10,7 +10,8 @@ use Rattle.dcsctp_spec_lemmas.specs.spec.queues.OwnResets.{ready_streams}
 use Rattle.dcsctp_spec_lemmas.specs.spec.queues.Retransmission.{RetransmissionState}
 use Rattle.dcsctp_spec_lemmas.specs.spec.queues.SendQueue.{SendQueueState}
 use Rattle.dcsctp_spec_lemmas.specs.spec.queues.Transfer.{Transfer, is_idle}
-use Rattle.dcsctp_spec_lemmas.specs.spec.endpoint.BegunResets.{BegunReset, streams_within, last_assigned_tsn, stream_field, begun_where, begun_in, held_asking, core_asking, after_begun}
+use Rattle.dcsctp_spec_lemmas.specs.spec.association.FlushChanges.{held_asking}
+use Rattle.dcsctp_spec_lemmas.specs.spec.endpoint.BegunResets.{BegunReset, streams_within, last_assigned_tsn, stream_field, begun_where, begun_in, core_asking, after_begun}
 use Rattle.dcsctp_spec_lemmas.specs.spec.endpoint.FlushOutcomes.{told_event, Answer, answer_contents, filled, goes_out, asked, next_draft, flush_of, Ask, first_ask, later_ask, begun_at, GivesWhere, AnsweredBelow, Answered, Answers, at_limit, at_empty, after_packet, FlushAnswers, packets_allowed}
 use Rattle.dcsctp_spec_lemmas.specs.spec.endpoint.ReconfigurationOutcomes.{reset_again}
 use Rattle.dcsctp_spec_lemmas.proofs.FlushKeeps.{later_begins}
@@ -60,7 +61,7 @@ fields_twice (stream ∷ streams) =
 assigned_twice : (state : RetransmissionState) → last_assigned_tsn state % 2 ^ 32 ≡ last_assigned_tsn state
 assigned_twice state = omega arith
 
-next_again : (first n own : ℕ) → own ≡ (first + n) % 2 ^ 32 → (own + 1) % 2 ^ 32 ≡ (first + suc n) % 2 ^ 32
+pub next_again : (first n own : ℕ) → own ≡ (first + n) % 2 ^ 32 → (own + 1) % 2 ^ 32 ≡ (first + suc n) % 2 ^ 32
 next_again first n own is = omega arith
 
 -- ---- what a flush begins

@@ -1,18 +1,21 @@
 -- What a RE-CONFIG does before all else, as steps of both sides: the own request ends, and streams of the peer are reset.
 use Rattle.dcsctp_delivery_directions.specs.Directions as directions
-use Rattle.std.proofs.Common.{◌≡◌, ◌≤◌, ℕ, Bool, true, false, Option, None, Some, List, refl, sym, ◌∙◌, subst, arith}
+use Rattle.std.proofs.Common.{◌≡◌, ◌≤◌, ◌+◌, ◌%◌, ◌^◌, ℕ, suc, Bool, true, false, Option, None, Some, List, ◌∷◌, length, refl, sym, ◌∙◌, ap, subst, arith}
 use Rattle.dcsctp_spec_lemmas.specs.spec.Packet.{Content}
 use Rattle.dcsctp_spec_lemmas.specs.spec.Reconfiguration.{RequestedReset}
 use Rattle.dcsctp_spec_lemmas.specs.spec.association.Effect.{Effect}
+use Rattle.dcsctp_spec_lemmas.specs.spec.association.FlushChanges.{next_number}
+use Rattle.dcsctp_spec_lemmas.specs.spec.endpoint.BegunResets.{BegunReset}
 use Rattle.dcsctp_spec_lemmas.specs.spec.queues.Reassembly.{ReassemblyState, Leaves}
 use Rattle.dcsctp_spec_lemmas.specs.spec.queues.Transfer.{Transfer}
 use Rattle.dcsctp_spec_lemmas.specs.spec.endpoint.ResetOutcomes.{has_completed, has_reset}
 use Rattle.dcsctp_delivery_receiving.specs.Clear.{IsOwn}
-use Rattle.dcsctp_delivery_directions.specs.Directions.{Asking, all_ended, is_reached, Direction}
-use Rattle.dcsctp_delivery_turns.specs.Asking.{Own, OutIs, IsAsking, AsksFit}
+use Rattle.dcsctp_delivery_directions.specs.Directions.{Asking, asking_renewed, all_ended, is_reached, Direction}
+use Rattle.dcsctp_delivery_turns.specs.Asking.{Own, renewed_own, AreNumbered, IsOut, OutIs, IsAsking, AsksFit, SomeFit}
 use Rattle.dcsctp_delivery_turns.specs.Actions.{Inside, ended_own, OwnEnds, unended, committed, rolled_back, PeerResets, unreset, absent, deferred, reset_now}
 use Rattle.dcsctp_delivery_turns.specs.Runs.{IsBetween, as_it_was, once_performed, once_refused, IsNewest, PerformsNewest, performed_where}
 use Rattle.dcsctp_delivery_turns.specs.Sides.{Steps, stays, receiving}
+use Rattle.dcsctp_delivery_turns.proofs.Begun.{next_again}
 use Rattle.dcsctp_delivery_turns.proofs.Sides.{one_step, all_steps}
 
 -- ---- what is kept of the own requests
@@ -21,7 +24,7 @@ out_small : (number : Option ℕ) (again : RequestedReset) (asking : Asking) →
 out_small None again asking out = omega arith
 out_small (Some number) again asking out = (let one = out.one in omega (arith, one))
 
-is_asking : (first : ℕ) (found : Option Own) (own : Own) (asking : Asking) → found ≡ Some own → AsksFit first found asking → IsAsking first own asking
+pub is_asking : (first : ℕ) (found : Option Own) (own : Own) (asking : Asking) → found ≡ Some own → AsksFit first found asking → IsAsking first own asking
 is_asking first found own asking is fits = subst (λ (f : Option Own). AsksFit first f asking) is fits
 
 ended_fits : (first : ℕ) (own : Own) (asking : Asking) → IsAsking first own asking → IsAsking first (ended_own own) (all_ended asking)
@@ -32,6 +35,45 @@ pub own_ends_fit : (happened : List Effect) (old new : Inside) (first : ℕ) (as
 own_ends_fit happened old _ first asking unended fits = (asking, fits)
 own_ends_fit happened old _ first asking (committed completed own is) fits = (all_ended asking, ended_fits first own asking (is_asking first old.own own asking is fits))
 own_ends_fit happened old _ first asking (rolled_back refused own is) fits = (all_ended asking, ended_fits first own asking (is_asking first old.own own asking is fits))
+
+-- The request that has no end is the newest, and goes on under the next number.
+pub record Renews (first : ℕ) (own : Own) (asking : Asking) : Type 0 where
+  pub newest : BegunReset
+  pub earlier : List BegunReset
+  pub is : asking.requests ≡ newest ∷ earlier
+  pub one : asking.out ≡ 1
+  pub again : newest.reset ≡ own.again
+  pub next : own.next ≡ next_number newest.number
+  pub fits : IsAsking first (renewed_own own) (asking_renewed own.next newest asking)
+
+number_after : (first n number next : ℕ) → number ≡ (first + n) % 2 ^ 32 → next ≡ (first + suc n) % 2 ^ 32 → next ≡ next_number number
+number_after first n number next is after = omega (arith, is, after)
+
+pub own_renews : (first : ℕ) (own : Own) (number : ℕ) (asking : Asking) → own.number ≡ Some number → IsAsking first own asking → Renews first own asking
+own_renews first own number asking out fits =
+    let newest : BegunReset = record { number = number; reset = own.again } in
+    let left : IsOut number own.again asking = subst (λ (n : Option ℕ). OutIs n own.again asking) out fits.out in
+    let numbers : AreNumbered first (newest ∷ left.earlier) = subst (AreNumbered first) left.is fits.numbers in
+    record {
+      newest = newest;
+      earlier = left.earlier;
+      is = left.is;
+      one = left.one;
+      again = refl;
+      next = number_after first (length left.earlier) number own.next numbers.0 (fits.next ∙ ap (λ (l : List BegunReset). (first + length l) % 2 ^ 32) left.is);
+      fits = record {
+        numbers = (fits.next, fits.numbers);
+        next = next_again first (length asking.requests) own.next fits.next;
+        out = record { one = left.one; earlier = asking.requests; is = refl };
+      };
+    }
+
+-- So something that was begun fits what is kept then.
+pub renewed_fit : (old new : Option Own) (own : Own) (number : ℕ) → old ≡ Some own → own.number ≡ Some number → new ≡ Some (renewed_own own) → SomeFit old → SomeFit new
+renewed_fit old new own number kept out is fits =
+    let renews = own_renews fits.first own number fits.asking out (is_asking fits.first old own fits.asking kept fits.fits) in
+    let asking : Asking = asking_renewed own.next renews.newest fits.asking in
+    record { first = fits.first; asking = asking; fits = subst (λ (f : Option Own). AsksFit fits.first f asking) (sym is) renews.fits }
 
 pub own_resets : (came : Option Content) (happened : List Effect) (old new : Inside) → PeerResets came happened old new → new.own ≡ old.own
 own_resets came happened old _ (unreset none) = refl

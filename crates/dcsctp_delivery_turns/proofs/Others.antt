@@ -5,7 +5,6 @@ use Rattle.std.proofs.Common.{◌≡◌, ◌==◌, ℕ, Bool, true, false, cond,
 use Rattle.dcsctp_spec_lemmas.specs.types.declared.association.Held.{Held}
 use Rattle.dcsctp_spec_lemmas.specs.types.declared.ends.Violation.{Violation}
 use Rattle.dcsctp_spec_lemmas.specs.spec.endpoint.Cause.{Cause}
-use Rattle.dcsctp_spec_lemmas.specs.spec.endpoint.Event.{packets_in}
 use Rattle.dcsctp_spec_lemmas.specs.spec.Packet.{Content, Plain, plain, unknown, heartbeat, heartbeat_ack, unworked, Emission}
 use Rattle.dcsctp_spec_lemmas.specs.spec.Reconfiguration.{RequestedReset}
 use Rattle.dcsctp_spec_lemmas.specs.spec.endpoint.Endpoint.{Endpoint, Core, closed, cookie_wait, cookie_echoed, open_in, OutstandingRequest, held_in}
@@ -14,16 +13,17 @@ use Rattle.dcsctp_spec_lemmas.specs.spec.association.FlushChanges.{reset_request
 use Rattle.dcsctp_spec_lemmas.specs.spec.endpoint.HeartbeatOutcomes.{heartbeat_outcome, info_in, counter_of, answered, heartbeat_ack_outcome, interval_expired, beating, heartbeat_emission, interval_outcome, is_exhausted}
 use Rattle.dcsctp_spec_lemmas.specs.spec.endpoint.OwnTimers.{OwnTimer, acknowledgement_delay, retransmission, heartbeat_interval, heartbeat_timeout, reconfiguration, TimerTurn}
 use Rattle.dcsctp_spec_lemmas.specs.spec.endpoint.PlainOutcomes.{PlainTurn, PlainTurnBy, violation_at, is_reported, after_unknown, unknown_bytes, unknown_told, unknown_report, error_outcome}
-use Rattle.dcsctp_spec_lemmas.specs.spec.endpoint.ReconfigurationOutcomes.{reset_again, request_emitted, request_unless, request_errors, request_expired, reconfiguration_outcome}
+use Rattle.dcsctp_spec_lemmas.specs.spec.endpoint.ReconfigurationOutcomes.{reset_again, request_emitted, renewed_where, request_renewed, is_renewed, request_repeated, request_unless, request_errors, request_expired, reconfiguration_outcome}
 use Rattle.dcsctp_spec_lemmas.specs.wire.Content.{ParameterContent, data_chunk, sack_chunk, error_chunk, i_data_chunk, forward_tsn_chunk, i_forward_tsn_chunk}
-use Rattle.dcsctp_delivery_turns.specs.Actions.{IsCalm, inside, Makes, goes_on}
-use Rattle.dcsctp_delivery_turns.specs.Asking.{own_with, own_in, own_of, IsAsking, AsksFit, IsOut, OutIs, Own}
+use Rattle.dcsctp_delivery_turns.specs.Actions.{IsCalm, Inside, inside, goes_on, renews}
+use Rattle.dcsctp_delivery_turns.specs.Asking.{own_with, own_in, own_of, renewed_own, IsAsking, AsksFit, IsOut, OutIs, Own}
 use Rattle.dcsctp_delivery_sending.specs.Places.{Has}
-use Rattle.dcsctp_spec_lemmas.specs.spec.endpoint.BegunResets.{BegunReset}
+use Rattle.dcsctp_spec_lemmas.specs.spec.endpoint.BegunResets.{BegunReset, core_asking}
 use Rattle.dcsctp_spec_lemmas.specs.spec.association.Effect.{link_in}
 use Rattle.dcsctp_delivery_turns.specs.Tags.{IsPeerTag}
 use Rattle.dcsctp_delivery_turns.proofs.Actions.{emits_link, Goes, MakesTo, rests, spoken, emitted, emission_of, packet_if}
 use Rattle.dcsctp_delivery_turns.proofs.Fixed.{held_tag}
+use Rattle.dcsctp_delivery_turns.proofs.Tags.{asking_link}
 use Rattle.dcsctp_delivery_turns.proofs.Handshake.{aborting_goes}
 use Rattle.dcsctp_delivery_turns.proofs.Data.{data_goes, i_data_goes, sack_goes, forward_goes, i_forward_goes, delay_goes, loss_goes}
 
@@ -79,17 +79,9 @@ module _ (came : Option Content) (calm : IsCalm came) (to : ℕ) where
       let out : IsOut number (reset_again e.outstanding) asking = subst (λ (n : Option ℕ). OutIs n (reset_again e.outstanding) asking) is asks.out in
       actions.asks_again emission begun tag (subst (Has begun) (sym out.is) (inl refl)) refl))
 
-  unless_makes : (b : Bool) (e : Endpoint) (held : Held) → held.peer.tag ≡ to → own_of e ≡ Some (own_with held e.outstanding) → MakesTo came to (inside e) (request_unless b e held (reset_again e.outstanding))
-  unless_makes true e held tag own = rests came to (inside e)
-  unless_makes false e held tag own = request_makes e held held.own_outstanding tag own refl
-
   request_link : (e : Endpoint) (held : Held) (number : Option ℕ) (reset : RequestedReset) → link_in (request_emitted e held number reset).after.core ≡ link_in e.core
   request_link e held None reset = refl
   request_link e held (Some number) reset = emits_link e [] (to_peer held (reset_request number reset))
-
-  unless_link : (b : Bool) (e : Endpoint) (held : Held) (reset : RequestedReset) → link_in (request_unless b e held reset).after.core ≡ link_in e.core
-  unless_link true e held reset = refl
-  unless_link false e held reset = request_link e held held.own_outstanding reset
 
   own_waits : (core : Core) (request : OutstandingRequest) → own_in core (Some (record request { waits_for_retry = false })) ≡ own_in core (Some request)
   own_waits closed request = refl
@@ -103,17 +95,47 @@ module _ (came : Option Content) (calm : IsCalm came) (to : ℕ) where
   own_held (cookie_echoed my own cookie) request held is = (let same : own ≡ held = cc in ap (λ (h : Held). Some (own_with h request)) same)
   own_held (open_in phase my own) request held is = (let same : own ≡ held = cc in ap (λ (h : Held). Some (own_with h request)) same)
 
+  -- The request goes on under the next number.
+  asking_own : (core : Core) (request : Option OutstandingRequest) (own : Own) → own_in core request ≡ Some own → own_in (core_asking core) request ≡ Some (renewed_own own)
+  asking_own closed request own is = absurd (cc)
+  asking_own (cookie_wait my) request own is = absurd (cc)
+  asking_own (cookie_echoed my held cookie) request own is = (let same : own_with held request ≡ own = cc in ap (λ (o : Own). Some (renewed_own o)) same)
+  asking_own (open_in phase my held) request own is = (let same : own_with held request ≡ own = cc in ap (λ (o : Own). Some (renewed_own o)) same)
+
+  -- An endpoint at which the timer has expired has the same below it, and keeps the same of its request.
+  module _ (e base : Endpoint) (held : Held) (same : inside base ≡ inside e) (linked : link_in base.core ≡ link_in e.core) (tag : held.peer.tag ≡ to) (own : own_of base ≡ Some (own_with held base.outstanding)) where
+    makes_goes : (o : Outcome) → link_in o.after.core ≡ link_in base.core → MakesTo came to (inside base) o → Goes came to e o
+    makes_goes o kept makes = goes_on calm (kept ∙ linked) (subst (λ (i : Inside). MakesTo came to i o) same makes)
+
+    renewed_goes : (b : Bool) (number : ℕ) → held.own_outstanding ≡ Some number → Goes came to e (renewed_where b base held number (reset_request held.own_next (reset_again base.outstanding)))
+    renewed_goes false number out = makes_goes (still base) refl (rests came to (inside base))
+    renewed_goes true number out =
+        let kept : Own = own_with held base.outstanding in
+        renews calm (asking_link base.core ∙ linked) (λ queued. refl) (λ read. refl) kept number (to_peer held (reset_request held.own_next (reset_again base.outstanding))) (sym (ap (λ (i : Inside). i.own) same) ∙ own) out
+        (ap (λ (k : Option Own). record { below = base.below; own = k }) (asking_own base.core base.outstanding kept own)
+        ∙ ap (λ (i : Inside). record { below = i.below; own = Some (renewed_own kept) }) same) refl tag refl
+
+    renewing_goes : (number : Option ℕ) → held.own_outstanding ≡ number → Goes came to e (request_renewed base held number (reset_again base.outstanding))
+    renewing_goes None out = makes_goes (still base) refl (rests came to (inside base))
+    renewing_goes (Some number) out = renewed_goes (fits base (to_peer held (reset_request held.own_next (reset_again base.outstanding)))) number out
+
+    repeated_goes : (is_new : Bool) → Goes came to e (request_repeated is_new base held (reset_again base.outstanding))
+    repeated_goes false =
+        makes_goes (request_emitted base held held.own_outstanding (reset_again base.outstanding)) (request_link base held held.own_outstanding (reset_again base.outstanding))
+        (request_makes base held held.own_outstanding tag own refl)
+    repeated_goes true = renewing_goes held.own_outstanding refl
+
+    unless_goes : (over is_new : Bool) → Goes came to e (request_unless over is_new base held (reset_again base.outstanding))
+    unless_goes true is_new = makes_goes (still base) refl (rests came to (inside base))
+    unless_goes false is_new = repeated_goes is_new
+
   reconfiguration_goes : (e : Endpoint) (peer : Option Held) (request : Option OutstandingRequest) → IsPeerTag e.core to → held_in e.core ≡ peer → e.outstanding ≡ request → Goes came to e (reconfiguration_outcome e peer request)
   reconfiguration_goes e None request at holds is = goes_on calm refl (rests came to (inside e))
   reconfiguration_goes e (Some held) None at holds is = goes_on calm refl (rests came to (inside e))
   reconfiguration_goes e (Some held) (Some request) at holds is =
       let base : Endpoint = request_expired e request in
-      let over : Bool = is_exhausted e.options.max_retransmissions (request_errors e request) in
-      let o : Outcome = request_unless over base held (reset_again (Some request)) in
-      goes_on calm (unless_link over base held (reset_again (Some request)))
-      (subst (λ (own : Option Own). Makes came to (record { below = e.below; own = own }) (packets_in o.events) (inside o.after))
-      (own_waits e.core request ∙ sym (ap (λ (r : Option OutstandingRequest). own_in e.core r) is))
-      (unless_makes over base held (held_tag e.core held to holds at) (own_held e.core base.outstanding held holds)))
+      let same : inside base ≡ inside e = ap (λ (own : Option Own). record { below = e.below; own = own }) (own_waits e.core request ∙ sym (ap (λ (r : Option OutstandingRequest). own_in e.core r) is)) in
+      unless_goes e base held same refl (held_tag e.core held to holds at) (own_held e.core base.outstanding held holds) (is_exhausted e.options.max_retransmissions (request_errors e request)) (is_renewed e (Some request))
 
   -- ---- each timer, and each chunk
 

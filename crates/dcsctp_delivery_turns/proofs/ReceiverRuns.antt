@@ -1,5 +1,5 @@
 -- A turn, as what it does to runs of the direction on which the socket receives.
-use Rattle.std.proofs.Common.{◌≡◌, ℕ, Bool, true, false, None, Some, List, [], ◌++◌, refl, sym, ◌⊎◌, ap, subst, inl, inr}
+use Rattle.std.proofs.Common.{◌≡◌, ℕ, Bool, true, false, None, Some, List, [], ◌++◌, refl, sym, ◌∙◌, ◌⊎◌, ap, subst, inl, inr}
 use Rattle.dcsctp_spec_lemmas.specs.types.declared.options.Options.{Options}
 use Rattle.dcsctp_spec_lemmas.specs.spec.endpoint.Endpoint.{Endpoint}
 use Rattle.dcsctp_spec_lemmas.specs.spec.endpoint.Event.{packets_in}
@@ -7,7 +7,7 @@ use Rattle.dcsctp_spec_lemmas.specs.spec.endpoint.Outcome.{Outcome}
 use Rattle.dcsctp_spec_lemmas.specs.spec.endpoint.Turn.{Input}
 use Rattle.dcsctp_spec_lemmas.specs.spec.queues.SendQueue.{empty_queue}
 use Rattle.dcsctp_spec_lemmas.specs.spec.queues.Transfer.{Transfer, Below}
-use Rattle.dcsctp_delivery_turns.specs.Actions.{ledger_of, Inside, inside, Made, Makes, MakesAlso, IsOpening, begun_transfer, came_by, queued_after, read_after, peer_tag, Begun, begun_below, Becomes, goes_on, works_resets, ends, begins, IsCalm}
+use Rattle.dcsctp_delivery_turns.specs.Actions.{ledger_of, Inside, inside, Made, Makes, MakesAlso, IsOpening, begun_transfer, came_by, queued_after, read_after, peer_tag, Begun, begun_below, Becomes, goes_on, works_resets, renews, ends, begins, IsCalm}
 use Rattle.dcsctp_delivery_turns.specs.Sides.{WasSent, receiving, ReceivingSteps}
 use Rattle.dcsctp_spec_lemmas.specs.spec.association.Effect.{link_of, link_in}
 use Rattle.dcsctp_spec_lemmas.specs.types.queues.Messages.{MessageContent}
@@ -18,7 +18,7 @@ use Rattle.dcsctp_delivery_turns.proofs.Idle.{actions_none, read_none, opening_s
 use Rattle.dcsctp_spec_lemmas.specs.spec.Reconfiguration.{RequestedReset}
 use Rattle.dcsctp_spec_lemmas.specs.spec.endpoint.ResetOutcomes.{has_reset}
 use Rattle.dcsctp_delivery_turns.specs.Asking.{own_of, SomeFit}
-use Rattle.dcsctp_delivery_turns.proofs.Fronts.{front_none, resetting, unperformed, front_receives}
+use Rattle.dcsctp_delivery_turns.proofs.Fronts.{renewed_fit, front_none, resetting, unperformed, front_receives}
 use Rattle.dcsctp_delivery_turns.proofs.Beginnings.{nothing_fits, unlinked_fits, worked_fits}
 
 abbrev empty_direction : Options → Direction
@@ -72,6 +72,8 @@ module _ (e : Endpoint) (input : Input) (o : Outcome) (small : OpensSmall e inpu
   idle_becomes none fits (works_resets linked between worked own peer makes) =
       idle_goes linked worked (worked_fits (came_by input) o (inside e) between worked own peer fits) (front_none (came_by input) o.effects (inside e) between worked own peer none) makes
       (λ read. read_none e input read none)
+  idle_becomes none fits (renews calm linked alike unread own number emission kept out is packets tag contents) =
+      idle_stays (inr linked) (ap (λ (i : Inside). i.below.transfer) is ∙ none) (renewed_fit (own_of e) (own_of o.after) own number kept out (ap (λ (i : Inside). i.own) is) fits) (λ read. read_none e input read none)
   idle_becomes none fits (ends gone unread last kept makes is) = idle_stays (inl gone) (ap (λ (b : Below). b.transfer) is) (unlinked_fits o.after.core o.after.outstanding gone) (λ read. read_none e input read none)
   idle_becomes none fits (begins begun opening linked alike unread again makes) = idle_begins (opens begun opening linked unread again makes)
 
@@ -99,5 +101,12 @@ module _ (is_known : Bool) (options : Options) (first size : ℕ) (direction : D
       let front = front_receives is_known (came_by input) o.effects direction transfer (inside e) between worked newest known own peer in
       goes_further linked front.is_reset (λ no. inl (front.none no)) front.some worked front.left front.is (worked_fits (came_by input) o (inside e) between worked own peer fits)
       (steps_go_on options first size (receiving direction transfer direction.read) (resetting is_known direction front.left front.is_reset) run front.steps) makes
+  receiver_becomes (renews calm linked alike unread own number emission kept out is packets tag contents) =
+      let asking : Asking = performed_where is_known false direction.asking in
+      let stays : Run options first size (record (receiving direction transfer direction.read) { asking = asking }) =
+      subst (λ (a : Asking). Run options first size (record (receiving direction transfer direction.read) { asking = a })) (sym (unperformed is_known direction.asking)) run in
+      receiver_goes_on linked transfer (ap (λ (i : Inside). i.below.transfer) is ∙ known) (renewed_fit (own_of e) (own_of o.after) own number kept out (ap (λ (i : Inside). i.own) is) fits) asking
+      (false, λ no. inr calm, λ some. absurd (cc), refl)
+      (subst (λ (l : List MessageContent). Run options first size (record (receiving direction transfer l) { asking = asking })) (sym (unread direction.read)) stays)
   receiver_becomes (ends none unread last kept makes is) = receiver_ends none (ap (λ (b : Below). b.transfer) is) unread
   receiver_becomes (begins begun opening linked alike unread again makes) = receiver_begins (opens e input o small begun opening linked unread again makes)

@@ -37,6 +37,7 @@ events_none theirs own (effects.holds link ∷ happened) = events_none theirs ow
 events_none theirs own (effects.connects link ∷ happened) = events_none theirs own happened
 events_none theirs own (effects.ends ∷ happened) = events_none theirs own happened
 events_none theirs own (effects.begins number ∷ happened) = events_none theirs own happened
+events_none theirs own (effects.gives_up number ∷ happened) = events_none theirs own happened
 events_none theirs own (effects.completes my number ∷ happened) = events_none theirs own happened
 events_none theirs own (effects.fails number ∷ happened) = events_none theirs own happened
 events_none theirs own (effects.accepts number ∷ happened) = events_none theirs own happened

@@ -1,6 +1,6 @@
 -- A turn, as what it does to runs of the direction on which the socket sends.
 use Rattle.dcsctp_delivery_directions.specs.Directions as directions
-use Rattle.std.proofs.Common.{◌≡◌, ◌<◌, ◌^◌, ℕ, Option, None, Some, List, [], ◌++◌, length, refl, sym, ◌∙◌, subst, arith}
+use Rattle.std.proofs.Common.{◌≡◌, ◌<◌, ◌^◌, ℕ, Option, None, Some, List, [], ◌∷◌, ◌++◌, length, refl, sym, ◌∙◌, ap, subst, inr, arith}
 use Rattle.std.specs.List.{AllByRecursion}
 use Rattle.dcsctp_spec_lemmas.specs.types.declared.options.Options.{Options}
 use Rattle.dcsctp_spec_lemmas.specs.spec.endpoint.Endpoint.{Endpoint}
@@ -10,20 +10,22 @@ use Rattle.dcsctp_spec_lemmas.specs.spec.Packet.{Emission}
 use Rattle.dcsctp_spec_lemmas.specs.spec.endpoint.Turn.{Input}
 use Rattle.dcsctp_spec_lemmas.specs.spec.queues.Transfer.{Below}
 use Rattle.dcsctp_delivery_sending.specs.Log.{Fits, Message}
-use Rattle.dcsctp_delivery_turns.specs.Actions.{ledger_of, Inside, inside, Made, MakesAlso, came_by, queued_after, read_after, peer_tag, begun_below, Becomes, goes_on, works_resets, ends, begins}
+use Rattle.dcsctp_delivery_turns.specs.Actions.{ledger_of, Inside, inside, Made, MakesAlso, came_by, queued_after, read_after, peer_tag, begun_below, Becomes, goes_on, works_resets, renews, ends, begins, NoEnd}
 use Rattle.dcsctp_delivery_sending.specs.Queueing.{QueueWaits}
 use Rattle.dcsctp_delivery_turns.specs.Addressed.{AreAddressed}
 use Rattle.dcsctp_spec_lemmas.specs.spec.association.Effect.{link_in}
 use Rattle.dcsctp_spec_lemmas.specs.types.queues.Messages.{MessageContent}
-use Rattle.dcsctp_delivery_turns.specs.Runs.{sender_at, IsBetween, as_it_was, OpensSmall, EndsPerformed, SenderTurns, run_goes_on, run_ends, run_begins}
-use Rattle.dcsctp_delivery_directions.specs.Directions.{Asking, nothing_asked, Direction, Run, IsAwaited}
+use Rattle.dcsctp_delivery_turns.specs.Runs.{sender_at, IsBetween, as_it_was, once_renewed, OpensSmall, EndsPerformed, SenderTurns, run_goes_on, run_ends, run_begins}
+use Rattle.dcsctp_delivery_directions.specs.Directions.{Asking, nothing_asked, asking_renewed, Direction, Run, IsAwaited}
 use Rattle.dcsctp_delivery_turns.proofs.Sides.{steps_go_on, actions_send}
 use Rattle.dcsctp_spec_lemmas.specs.spec.Reconfiguration.{RequestedReset}
+use Rattle.dcsctp_spec_lemmas.specs.spec.association.FlushChanges.{reset_request}
 use Rattle.dcsctp_delivery_turns.specs.Asking.{Own, own_of, AsksFit, AskingGrows}
 use Rattle.dcsctp_delivery_turns.proofs.Numbering.{actions_kind}
-use Rattle.dcsctp_delivery_turns.proofs.Fronts.{sending_by, front_sends}
+use Rattle.dcsctp_delivery_turns.proofs.Fronts.{is_asking, own_renews, sending_by, front_sends}
 use Rattle.dcsctp_delivery_directions.proofs.Directions.{direction_queues}
 use Rattle.dcsctp_delivery_turns.proofs.Addressed.{data_goes_to_peer}
+use Rattle.dcsctp_delivery_turns.proofs.Begun.{grows_not}
 use Rattle.dcsctp_delivery_turns.proofs.Beginnings.{input_more, nothing_fits, begun_queues, begun_kind}
 
 module _ (options : Options) (first size : ℕ) (direction : Direction) (e : Endpoint) (input : Input) (o : Outcome) (run : Run options first size direction) (small : first < 2 ^ 32) (same : direction.below ≡ e.below)
@@ -67,6 +69,21 @@ module _ (options : Options) (first size : ℕ) (direction : Direction) (e : End
       let front = front_sends (came_by input) first direction o.effects (inside e) between worked own peer fits performed in
       goes_further linked worked front.asking front.between front.kind front.fits
       (steps_go_on options first size (sending_by direction (inside e) direction.asking) (sending_by direction worked front.asking) starts front.steps) makes
+  sender_becomes (renews calm linked alike unread own number emission kept out is packets tag contents) =
+      let r = own_renews first own number direction.asking out (is_asking first (own_of e) own direction.asking kept fits) in
+      let asking : Asking = asking_renewed own.next r.newest direction.asking in
+      let sends : Run options first size (sender_at direction direction.queued direction.below direction.acknowledged (direction.sent ++ emission ∷ []) asking) =
+      directions.goes_on direction _ run
+      (directions.renews emission r.newest r.earlier own.next r.is r.one (contents ∙ ap (λ (reset : RequestedReset). reset_request own.next reset ∷ []) (sym r.again))) in
+      let queues : Run options first size (sender_at direction (queued_after e input direction.queued) direction.below direction.acknowledged (direction.sent ++ emission ∷ []) asking) =
+      subst (λ (l : List Message). Run options first size (sender_at direction l direction.below direction.acknowledged (direction.sent ++ emission ∷ []) asking)) (sym (alike direction.queued)) sends in
+      let holds : Run options first size (sender_at direction (queued_after e input direction.queued) o.after.below direction.acknowledged (direction.sent ++ emission ∷ []) asking) =
+      subst (λ (b : Below). Run options first size (sender_at direction (queued_after e input direction.queued) b direction.acknowledged (direction.sent ++ emission ∷ []) asking))
+      (same ∙ ap (λ (i : Inside). i.below) (sym is)) queues in
+      run_goes_on linked (subst (AreAddressed (peer_tag e.core)) (sym packets) (inr (tag, subst NoEnd (sym contents) tt), tt)) (ap (λ (i : Inside). i.below.queue.is_interleaved) is)
+      direction.acknowledged asking asking (once_renewed r.newest r.earlier own.next r.is r.one r.next) (grows_not asking)
+      (subst (λ (k : Option Own). AsksFit first k asking) (sym (ap (λ (i : Inside). i.own) is)) r.fits)
+      (subst (λ (l : List Emission). Run options first size (sender_at direction (queued_after e input direction.queued) o.after.below direction.acknowledged (direction.sent ++ l) asking)) (sym packets) holds)
   sender_becomes (ends none unread last kept makes is) =
       let made = makes direction.queued direction.sent [] first direction.asking fits in
       let after = moved (inside e) direction.asking starts last made in

@@ -207,7 +207,7 @@ flushes_to e draft answers is allowed = answers_to draft.packet.tag first_ask (p
 
 -- ---- a flush leaves the association
 
-asking_link : (core : Core) → link_in (core_asking core) ≡ link_in core
+pub asking_link : (core : Core) → link_in (core_asking core) ≡ link_in core
 asking_link closed = refl
 asking_link (cookie_wait my) = refl
 asking_link (cookie_echoed my held cookie) = refl

@@ -6,7 +6,7 @@ use Rattle.dcsctp_spec_lemmas.specs.spec.Packet.{Content, init, init_ack, cookie
 use Rattle.dcsctp_spec_lemmas.specs.spec.endpoint.Endpoint.{Endpoint, Core, closed, cookie_wait, cookie_echoed, open_in}
 use Rattle.dcsctp_spec_lemmas.specs.spec.endpoint.Outcome.{Outcome}
 use Rattle.dcsctp_spec_lemmas.specs.spec.endpoint.Turn.{Input, arrival, refusal, packet_begins, chunk_input, packet_ends, act_input, user_sets, user_sends, user_resets, user_takes, timer_expires, time_passes, restores, has_data, ContentTurn, ActTurn, Turn}
-use Rattle.dcsctp_spec_lemmas.specs.spec.association.Acts.{Act, connect, t1_expires, shut_down, step_of_shutdown, shutdown_repeats, abort_with, hands_over, flushes, request_again}
+use Rattle.dcsctp_spec_lemmas.specs.spec.association.Acts.{Act, connect, t1_expires, shut_down, step_of_shutdown, shutdown_repeats, abort_with, hands_over, flushes, request_again, request_renewed}
 use Rattle.dcsctp_spec_lemmas.specs.spec.endpoint.TimerOutcomes.{t1_goes_on}
 use Rattle.dcsctp_delivery_turns.specs.Actions.{IsCalm, inside, Becomes, goes_on, came_by, queued_after, read_after, IsCall, peer_tag}
 use Rattle.dcsctp_delivery_turns.specs.Tags.{IsPeerTag}
@@ -52,6 +52,7 @@ act_goes e (abort_with reason) o may turn = subst (Goes None (peer_tag e.core) e
 act_goes e hands_over o may turn = subst (Goes None (peer_tag e.core) e) (sym turn) (hand_over_goes None none_calm (peer_tag e.core) e e.core)
 act_goes e flushes o may turn = goes_on none_calm (turn_link e o turn) (flush_makes None none_calm (peer_tag e.core) e o (own_peer e.core) turn)
 act_goes e (request_again reset) o may turn = absurd may
+act_goes e (request_renewed reset) o may turn = absurd may
 
 pub turns_are_actions : (e : Endpoint) (input : Input) (o : Outcome) → IsCall input → Turn e input o → Becomes (came_by input) (peer_tag e.core) (queued_after e input) (read_after e input) e o
 turns_are_actions e arrival o may turn = subst (Goes None (peer_tag e.core) e) (sym turn) (goes_on none_calm refl (rests None (peer_tag e.core) (inside e)))

@@ -7,17 +7,18 @@ use Rattle.dcsctp_spec_lemmas.specs.spec.Cookie.{cookie_at}
 use Rattle.dcsctp_spec_lemmas.specs.types.declared.association.Held.{Held}
 use Rattle.dcsctp_spec_lemmas.specs.types.declared.ends.Violation.{Violation}
 use Rattle.dcsctp_spec_lemmas.specs.spec.endpoint.Endpoint.{Endpoint, Core, closed, cookie_wait, cookie_echoed, open_in, OutstandingRequest, held_in}
-use Rattle.dcsctp_spec_lemmas.specs.spec.endpoint.Outcome.{Outcome, still, to_peer}
+use Rattle.dcsctp_spec_lemmas.specs.spec.endpoint.Outcome.{Outcome, still, fits, to_peer}
 use Rattle.dcsctp_spec_lemmas.specs.spec.Packet.{Content, init, init_ack, cookie_echo, cookie_ack, re_config, abort, shutdown, shutdown_ack, shutdown_complete, Plain, plain, unknown, heartbeat, heartbeat_ack, unworked}
 use Rattle.dcsctp_spec_lemmas.specs.spec.Reconfiguration.{RequestedReset}
 use Rattle.dcsctp_spec_lemmas.specs.spec.endpoint.Turn.{Input, arrival, refusal, packet_begins, chunk_input, packet_ends, act_input, user_sets, user_sends, user_resets, user_takes, timer_expires, time_passes, restores, has_data, ContentTurn, ActTurn, Turn}
+use Rattle.dcsctp_spec_lemmas.specs.spec.association.Acts as acts
 use Rattle.dcsctp_spec_lemmas.specs.spec.association.Acts.{Act, connect, t1_expires, shut_down, step_of_shutdown, shutdown_repeats, abort_with, hands_over, flushes, request_again}
 use Rattle.dcsctp_spec_lemmas.specs.spec.association.FlushChanges.{reset_request}
 use Rattle.dcsctp_spec_lemmas.specs.spec.queues.Arrivals.{data_arrival, i_data_arrival, skipped_in, messages_skipped_in}
 use Rattle.dcsctp_spec_lemmas.specs.spec.endpoint.HeartbeatOutcomes.{heartbeat_outcome, info_in, counter_of, answered, heartbeat_ack_outcome, interval_expired, beating, heartbeat_emission, interval_outcome, is_exhausted}
 use Rattle.dcsctp_spec_lemmas.specs.spec.endpoint.OwnTimers.{OwnTimer, acknowledgement_delay, retransmission, heartbeat_interval, heartbeat_timeout, reconfiguration, TimerTurn}
 use Rattle.dcsctp_spec_lemmas.specs.spec.endpoint.PlainOutcomes.{PlainTurnBy, violation_at, is_reported, after_unknown, unknown_bytes, unknown_told, error_outcome}
-use Rattle.dcsctp_spec_lemmas.specs.spec.endpoint.ReconfigurationOutcomes.{reset_again, request_emitted, request_unless, request_errors, request_expired, reconfiguration_outcome}
+use Rattle.dcsctp_spec_lemmas.specs.spec.endpoint.ReconfigurationOutcomes.{reset_again, request_emitted, renewed_where, request_renewed, is_renewed, request_repeated, request_unless, request_errors, request_expired, reconfiguration_outcome}
 use Rattle.dcsctp_spec_lemmas.specs.spec.endpoint.ShutdownOutcomes.{t2_goes_on}
 use Rattle.dcsctp_spec_lemmas.specs.spec.endpoint.TimerOutcomes.{t1_goes_on}
 use Rattle.dcsctp_delivery_turns.specs.Actions.{IsCalm, IsCall, came_by}
@@ -66,15 +67,27 @@ request_asks : (e : Endpoint) (held : Held) (number : Option ℕ) (reset : Reque
 request_asks e held None reset = rests e
 request_asks e held (Some number) reset = emitted e [] (to_peer held (reset_request number reset))
 
-unless_asks : (b : Bool) (e : Endpoint) (held : Held) (reset : RequestedReset) → AsksNothing e.below.transfer (request_unless b e held reset)
-unless_asks true e held reset = rests e
-unless_asks false e held reset = request_asks e held held.own_outstanding reset
+renewed_asks : (b : Bool) (e : Endpoint) (held : Held) (number : ℕ) (request : Content) → AsksNothing e.below.transfer (renewed_where b e held number request)
+renewed_asks true e held number request = said e _ tt refl
+renewed_asks false e held number request = rests e
+
+renewing_asks : (e : Endpoint) (held : Held) (number : Option ℕ) (reset : RequestedReset) → AsksNothing e.below.transfer (request_renewed e held number reset)
+renewing_asks e held None reset = rests e
+renewing_asks e held (Some number) reset = (let request : Content = reset_request held.own_next reset in renewed_asks (fits e (to_peer held request)) e held number request)
+
+repeated_asks : (is_new : Bool) (e : Endpoint) (held : Held) (reset : RequestedReset) → AsksNothing e.below.transfer (request_repeated is_new e held reset)
+repeated_asks true e held reset = renewing_asks e held held.own_outstanding reset
+repeated_asks false e held reset = request_asks e held held.own_outstanding reset
+
+unless_asks : (b is_new : Bool) (e : Endpoint) (held : Held) (reset : RequestedReset) → AsksNothing e.below.transfer (request_unless b is_new e held reset)
+unless_asks true is_new e held reset = rests e
+unless_asks false is_new e held reset = repeated_asks is_new e held reset
 
 reconfiguration_asks : (e : Endpoint) (peer : Option Held) (request : Option OutstandingRequest) → AsksNothing e.below.transfer (reconfiguration_outcome e peer request)
 reconfiguration_asks e None request = said e _ tt refl
 reconfiguration_asks e (Some held) None = said e _ tt refl
 reconfiguration_asks e (Some held) (Some request) =
-    unless_asks (is_exhausted e.options.max_retransmissions (request_errors e request)) (request_expired e request) held (reset_again (Some request))
+    unless_asks (is_exhausted e.options.max_retransmissions (request_errors e request)) (is_renewed e (Some request)) (request_expired e request) held (reset_again (Some request))
 
 timer_asks : (e : Endpoint) (timer : OwnTimer) (o : Outcome) → TimerTurn e timer o → AsksNothing e.below.transfer o
 timer_asks e acknowledgement_delay o turn = as_this e.below.transfer o _ turn (delay_asks e e.below.transfer refl)
@@ -121,6 +134,7 @@ act_asks e (abort_with reason) o may turn = as_this e.below.transfer o _ turn (a
 act_asks e hands_over o may turn = as_this e.below.transfer o _ turn (hand_over_asks e e.core)
 act_asks e flushes o may turn = flush_asks e o turn
 act_asks e (request_again reset) o may turn = absurd may
+act_asks e (acts.request_renewed reset) o may turn = absurd may
 
 pub calm_turns : (e : Endpoint) (input : Input) (o : Outcome) → IsCalm (came_by input) → IsCall input → Turn e input o → CalmTurns (came_by input) e o
 calm_turns e arrival o calm may turn = goes_on (as_this e.below.transfer o _ turn (said e _ tt refl))

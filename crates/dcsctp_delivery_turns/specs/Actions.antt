@@ -10,7 +10,7 @@ use Rattle.dcsctp_spec_lemmas.specs.spec.endpoint.Event.{packets_in}
 use Rattle.dcsctp_spec_lemmas.specs.spec.endpoint.Outcome.{Outcome}
 use Rattle.dcsctp_spec_lemmas.specs.spec.Packet.{Content, re_config, init, init_ack, cookie_echo, abort, shutdown_complete, Plain, unworked, plain, Emission}
 use Rattle.dcsctp_spec_lemmas.specs.spec.endpoint.Turn.{Input, chunk_input, act_input, user_sends, user_takes, restores, Turn}
-use Rattle.dcsctp_spec_lemmas.specs.spec.association.Acts.{request_again}
+use Rattle.dcsctp_spec_lemmas.specs.spec.association.Acts.{request_again, request_renewed}
 use Rattle.dcsctp_spec_lemmas.specs.spec.association.Choices.{plain_contents}
 use Rattle.dcsctp_spec_lemmas.specs.spec.association.Effect.{Effect, holds, fails, link_of, link_in}
 use Rattle.dcsctp_spec_lemmas.specs.spec.queues.Acknowledging.{is_sack_valid}
@@ -39,7 +39,7 @@ use Rattle.dcsctp_spec_lemmas.specs.spec.endpoint.BegunResets.{BegunReset}
 use Rattle.dcsctp_spec_lemmas.specs.spec.endpoint.ReconfigurationOutcomes.{reset_again}
 use Rattle.dcsctp_delivery_sending.specs.Places.{Has}
 use Rattle.dcsctp_delivery_directions.specs.Directions.{Asking, asking_with, is_reached}
-use Rattle.dcsctp_delivery_turns.specs.Asking.{Own, own_of, AsksFit, AskingGrows}
+use Rattle.dcsctp_delivery_turns.specs.Asking.{Own, own_of, renewed_own, AsksFit, AskingGrows}
 use Rattle.dcsctp_delivery_turns.specs.Tags.{IsPeerTag}
 
 -- What a socket has queued since it was made, newest first; its queues and trackers; what it has sent in its association, and what its user
@@ -229,12 +229,16 @@ IsOpening (Some (init_ack theirs cookie)) = Unit {0}
 IsOpening (Some (cookie_echo cookie)) = Unit {0}
 IsOpening came = ⊥
 
--- What becomes of the association of a socket in a turn: it goes on, or there is none and none begins; it ends after its last packets,
--- and no own request begins or ends before; or another one begins, and takes its place.
+-- What becomes of the association of a socket in a turn: it goes on, or there is none and none begins; its own request goes on under the
+-- next number, in a packet of its own, and nothing else happens; it ends after its last packets, and no own request begins or ends before;
+-- or another one begins, and takes its place.
 pub data Becomes (came : Option Content) (to : ℕ) (adds : List Message → List Message) (taken : List MessageContent → List MessageContent) (e : Endpoint) (o : Outcome) : Type 0 where
   goes_on : IsCalm came → link_in o.after.core ≡ link_in e.core → MakesAlso came to adds taken (inside e) (packets_in o.events) (inside o.after) → Becomes came to adds taken e o
   works_resets : link_in o.after.core ≡ link_in e.core → (between worked : Inside) → OwnEnds o.effects (inside e) between → PeerResets came o.effects between worked
       → MakesAlso came to adds taken worked (packets_in o.events) (inside o.after) → Becomes came to adds taken e o
+  renews : IsCalm came → link_in o.after.core ≡ link_in e.core → ((queued : List Message) → adds queued ≡ queued) → ((read : List MessageContent) → taken read ≡ read)
+      → (own : Own) (number : ℕ) (emission : Emission) → own_of e ≡ Some own → own.number ≡ Some number → inside o.after ≡ record { below = e.below; own = Some (renewed_own own) } → packets_in o.events ≡ emission ∷ []
+      → emission.packet.tag ≡ to → emission.packet.contents ≡ reset_request own.next own.again ∷ [] → Becomes came to adds taken e o
   ends : link_in o.after.core ≡ None → ((read : List MessageContent) → taken read ≡ read) → (last : Inside) → last.own ≡ own_of e → MakesAlso came to adds taken (inside e) (packets_in o.events) last
       → o.after.below ≡ record last.below { transfer = None } → Becomes came to adds taken e o
   begins : (begun : Begun e o) → IsOpening came → link_in o.after.core ≡ Some (link_of begun.my begun.held) → ((queued : List Message) → adds queued ≡ queued) → ((read : List MessageContent) → taken read ≡ read)
@@ -242,10 +246,11 @@ pub data Becomes (came : Option Content) (to : ℕ) (adds : List Message → Lis
       → Becomes came to adds taken e o
 
 -- The messages of a call fit their fields, as those in memory do; no snapshot is restored; and a request to reset streams is sent again
--- by its timer alone.
+-- by its timer alone, under its number or the next one.
 abbrev pub IsCall : Input → Type 0
 IsCall (user_sends sendings) = AllByRecursion (λ sending. Fits (message_of sending)) sendings
 IsCall (act_input (request_again reset)) = ⊥
+IsCall (act_input (request_renewed reset)) = ⊥
 IsCall (restores state) = ⊥
 IsCall input = Unit {0}
 

@@ -3,6 +3,7 @@ use Rattle.std.specs.Prelude.{◌≡◌, ◌+◌, ◌%◌, ◌^◌, ℕ, Option,
 use Rattle.dcsctp_spec_lemmas.specs.types.declared.association.Held.{Held}
 use Rattle.dcsctp_spec_lemmas.specs.spec.endpoint.Endpoint.{Endpoint, Core, closed, cookie_wait, cookie_echoed, open_in, OutstandingRequest}
 use Rattle.dcsctp_spec_lemmas.specs.spec.Reconfiguration.{RequestedReset}
+use Rattle.dcsctp_spec_lemmas.specs.spec.association.FlushChanges.{next_number}
 use Rattle.dcsctp_spec_lemmas.specs.spec.endpoint.BegunResets.{BegunReset}
 use Rattle.dcsctp_spec_lemmas.specs.spec.endpoint.ReconfigurationOutcomes.{reset_again}
 use Rattle.dcsctp_delivery_directions.specs.Directions.{Asking}
@@ -25,6 +26,10 @@ own_in (open_in phase my held) request = Some (own_with held request)
 
 abbrev pub own_of : Endpoint → Option Own
 own_of e = own_in e.core e.outstanding
+
+-- once the request that has no end goes on under the next number
+abbrev pub renewed_own : Own → Own
+renewed_own own = record own { number = Some own.next; next = next_number own.next }
 
 -- ---- what was begun
 

@@ -18,6 +18,7 @@ use Rattle.dcsctp_delivery_turns.specs.Actions.{peer_tag, came_by, queued_after,
 use Rattle.dcsctp_spec_lemmas.specs.spec.Packet.{Content, re_config}
 use Rattle.dcsctp_spec_lemmas.specs.spec.Reconfiguration.{RequestedReset, ResetParameter}
 use Rattle.dcsctp_spec_lemmas.specs.spec.association.Effect.{Effect}
+use Rattle.dcsctp_spec_lemmas.specs.spec.association.FlushChanges.{next_number}
 use Rattle.dcsctp_spec_lemmas.specs.spec.endpoint.BegunResets.{BegunReset}
 use Rattle.dcsctp_spec_lemmas.specs.spec.endpoint.ResetOutcomes.{has_completed, has_reset, requested_in}
 use Rattle.dcsctp_delivery_receiving.specs.Clear.{IsOwn}
@@ -25,7 +26,7 @@ use Rattle.dcsctp_delivery_turns.specs.Asking.{own_of, AsksFit, SomeFit, AskingG
 use Rattle.dcsctp_delivery_turns.specs.Addressed.{AreAddressed}
 use Rattle.dcsctp_delivery_sending.specs.Queueing.{QueueWaits}
 use Rattle.dcsctp_delivery_turns.specs.Sides.{WasSent, receiving}
-use Rattle.dcsctp_delivery_directions.specs.Directions.{Direction, Asking, nothing_asked, all_ended, Run, IsAwaited}
+use Rattle.dcsctp_delivery_directions.specs.Directions.{Direction, Asking, nothing_asked, asking_renewed, all_ended, Run, IsAwaited}
 
 -- the direction, with this at its sender
 abbrev pub sender_at : Direction → List Message → Below → ℕ → List Emission → Asking → Direction
@@ -45,11 +46,12 @@ new_direction options first size queued below acknowledged sent =
       asking = nothing_asked;
     }
 
--- What was begun, once the own request has ended, or as it was.
+-- What was begun, once the own request has ended or goes on under the next number, or as it was.
 pub data IsBetween (happened : List Effect) (old : Asking) : Asking → Type 0 where
   as_it_was : IsBetween happened old old
   once_performed : has_completed happened ≡ true → IsBetween happened old (all_ended old)
   once_refused : has_refused happened ≡ true → IsBetween happened old (all_ended old)
+  once_renewed : (newest : BegunReset) (earlier : List BegunReset) (number : ℕ) → old.requests ≡ newest ∷ earlier → old.out ≡ 1 → number ≡ next_number newest.number → IsBetween happened old (asking_renewed number newest old)
 
 -- A run goes on by a turn of the sender; or the association ends after its last packets, and there is none; or another one begins, whoever
 -- receives, and whatever that side has done before. All data goes to the peer's tag. Where an association ends or begins, what no longer

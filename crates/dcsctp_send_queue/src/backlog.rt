@@ -149,7 +149,7 @@ impl Backlog {
     pub fn waits_at(&self, now: SocketTime) -> bool
         ensures { result ≡ waits_at now (queue_of self.now) }
     {
-        self.streams.waits_at(now, self.under_way)
+        self.under_way.is_some() || self.streams.waits_at(now)
     }
 
     /// The place of the stream of the message under way.

@@ -65,7 +65,7 @@ impl OutgoingStream {
     ghost use Rattle.dcsctp_api.specs.spec.queues.SendEvents.{expiries};
     ghost use Rattle.dcsctp_api.specs.types.queues.SendStreams.{size_of, unused, is_pausing, front_of, with_message, without_front, paused, resumed, handed_out, begun_anew, raised, committed, rolled_back, turn_of};
     ghost use Rattle.std.specs.Option.{option_copied};
-    ghost use Rattle.dcsctp_api.specs.spec.queues.SendQueue.{HaveBytes, can_go_on, has_live};
+    ghost use Rattle.dcsctp_api.specs.spec.queues.SendQueue.{HaveBytes, has_live};
     ghost use Rattle.dcsctp_api.specs.spec.queues.Readiness.{is_paused};
     ghost use Rattle.std.specs.Prelude.{map, IfOk};
     ghost use Rattle.dcsctp_api.specs.types.SnapshotItems.{queued_part};
@@ -149,16 +149,6 @@ impl OutgoingStream {
         ensures { result ≡ has_live now self.now.messages }
     {
         self.messages.iter().any(|message| !message.is_expired(now))
-    }
-
-    /// Can a message be sent: is it under way, or may it be started?
-    pub fn can_go_on(&self, under_way: Option<UnderWay>) -> bool
-        ensures { result ≡ can_go_on under_way self.now }
-    {
-        match under_way {
-            None => self.turn().is_some(),
-            Some(under_way) => self.turn().is_some() || under_way.stream_id.0 == self.id.0,
-        }
     }
 
     /// The stream's turn; none if it is paused or has no message.

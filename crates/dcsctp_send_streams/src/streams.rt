@@ -36,7 +36,7 @@ impl Streams {
     ghost use Rattle.std.specs.List.{list_any, AllByRecursion};
     ghost use Rattle.std.specs.Prelude.{◌≡◌, ◌-◌, ◌<◌, ◌&&◌, [], length, is_some, map, slice_set, insert, OnOk, OnErr, IfSome, IfNone};
     ghost use Rattle.dcsctp_api.specs.types.queues.SendStreams.{front_of, with_message, without_front, paused, handed_out, begun_anew, raised, counted, served, committed, rolled_back, stream_at, turn_of, turns_of, IsNext, IsAscending};
-    ghost use Rattle.dcsctp_api.specs.spec.queues.SendQueue.{HaveBytes, can_go_on, has_live};
+    ghost use Rattle.dcsctp_api.specs.spec.queues.SendQueue.{HaveBytes, has_live};
     ghost use Rattle.dcsctp_api.specs.spec.queues.Readiness.{has_messages, is_paused};
     ghost use Rattle.dcsctp_send_streams.specs.Ranking.{count_pausing, IsFound};
     ghost use Rattle.dcsctp_api.specs.spec.queues.QueuedParts.{emptied, stream_restored, with_rest};
@@ -134,11 +134,13 @@ impl Streams {
         !self.turns.as_slice().is_empty()
     }
 
-    /// Does a message wait at the moment `now` that can be sent, if this one is under way?
-    pub fn waits_at(&self, now: SocketTime, under_way: Option<UnderWay>) -> bool
-        ensures { result ≡ list_any (λ stream. can_go_on under_way stream && has_live now stream.messages) self.now }
+    /// Does a message wait at the moment `now` that may be begun?
+    pub fn waits_at(&self, now: SocketTime) -> bool
+        ensures { result ≡ list_any (λ stream. is_some (turn_of stream) && has_live now stream.messages) self.now }
     {
-        self.items.iter().any(|stream| stream.can_go_on(under_way) && stream.has_live(now))
+        self.items
+            .iter()
+            .any(|stream| stream.turn().is_some() && stream.has_live(now))
     }
 
     /// Does a message wait on any stream, or is one under way?
@@ -348,6 +350,16 @@ impl Streams {
 
     /// The stream has this turn.
     pub fn serve(&mut self, place: usize, turn: u64)
+        requires { place < length self.old }
+        ensures { self.new ≡ slice_set self.old place (served turn (stream_at self.old place)) }
+    {
+        if self.items[place].last_turn() != turn {
+            self.give_turn(place, turn);
+        }
+    }
+
+    // The same, and the stream's turn comes later.
+    fn give_turn(&mut self, place: usize, turn: u64)
         requires { place < length self.old }
         ensures { self.new ≡ slice_set self.old place (served turn (stream_at self.old place)) }
     {

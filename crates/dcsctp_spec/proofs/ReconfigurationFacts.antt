@@ -10,6 +10,7 @@ use Rattle.dcsctp_spec.specs.Packet.{re_config, Emission}
 use Rattle.dcsctp_spec.specs.Reconfiguration.{outgoing_reset_request}
 use Rattle.dcsctp_spec.specs.endpoint.Endpoint.{Endpoint, cookie_wait, open_in, established, OutstandingRequest, held_in}
 use Rattle.dcsctp_spec.specs.endpoint.Timers.{RunningTimer}
+use Rattle.dcsctp_spec.specs.association.Effect.{begins, gives_up}
 use Rattle.dcsctp_spec.specs.endpoint.Following.{next_chunk}
 use Rattle.dcsctp_spec.specs.endpoint.Outcome.{Outcome, still, quiet}
 use Rattle.dcsctp_spec.specs.endpoint.TimeTurns.{own_timer, deadline, has_come}
@@ -78,6 +79,38 @@ in_progress : (e : Endpoint) → expires (awaiting e 36 1 (Some (request true)) 
     }
 unfolding parameter_bytes parameters_len list_bytes
 in_progress e = refl
+
+-- With the option it goes out under the next number, and its own is given up.
+abbrev by_rfc : Endpoint → Endpoint
+by_rfc e = record e { options = record e.options { follow_rfc = true } }
+
+abbrev renewed : Event Emission
+renewed = packet_of false 9 (re_config (outgoing_reset_request 101 101 (record { last_tsn = 99; streams = 4 ∷ 258 ∷ [] }) ∷ []) ∷ [])
+
+abbrev asking_anew : Held
+asking_anew = record held { own_next = 102; own_outstanding = Some 101 }
+
+in_progress_by_rfc : (e : Endpoint) → expires (by_rfc (awaiting e 36 1 (Some (request true)) (timer 5_000_000_000 500_000_000 0)))
+    ≡ record {
+      words = [];
+      effects = gives_up 100 ∷ begins 101 ∷ [];
+      after = record (sent_one (by_rfc (awaiting e 36 1 (Some (request false)) (timer 6_000_000_000 1_000_000_000 1)))) { core = open_in established mine asking_anew };
+      events = renewed ∷ [];
+      following = next_chunk;
+    }
+unfolding parameter_bytes parameters_len list_bytes
+in_progress_by_rfc e = refl
+
+-- It keeps its number if the packet doesn't fit.
+in_progress_too_long : (e : Endpoint) → expires (by_rfc (awaiting e 35 1 (Some (request true)) (timer 5_000_000_000 500_000_000 0)))
+    ≡ still (by_rfc (awaiting e 35 1 (Some (request false)) (timer 6_000_000_000 1_000_000_000 1)))
+unfolding parameter_bytes parameters_len list_bytes
+in_progress_too_long e = refl
+
+-- Where the peer didn't answer, it goes out under its own number with the option too.
+not_answered_by_rfc : (e : Endpoint) → (expires (by_rfc (awaiting e 36 0 (Some (request false)) (timer 5_000_000_000 500_000_000 0)))).events ≡ packet ∷ []
+unfolding parameter_bytes parameters_len list_bytes
+not_answered_by_rfc e = refl
 
 -- The second error is one too many: nothing goes out.
 too_many : (e : Endpoint) → expires (awaiting e 36 1 (Some (request false)) (timer 5_000_000_000 500_000_000 0))

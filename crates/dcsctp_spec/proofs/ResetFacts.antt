@@ -1,5 +1,5 @@
 -- Outside examples of RE-CONFIG that comes in, computed by the definitions.
-use Rattle.std.proofs.Common.{◌≡◌, ◌^◌, ◌-◌, ℕ, true, false, None, Some, [], ◌∷◌, refl}
+use Rattle.std.proofs.Common.{◌≡◌, ◌^◌, ◌-◌, ℕ, Bool, true, false, None, Some, [], ◌∷◌, refl}
 use Rattle.dcsctp_types.specs.wire.declared.reconfiguration.ReconfigurationResponseResult.TheVariants.{SuccessNothingToDo, SuccessPerformed, Denied, ErrorBadSequenceNumber, InProgress}
 use Rattle.dcsctp_types.specs.wire.Content.{outgoing_ssn_reset_request, forward_tsn_supported, re_config_chunk}
 use Rattle.dcsctp_types.specs.wire.Content as wire
@@ -133,12 +133,27 @@ denied_is_answered c = refl
 in_progress_is_retried : (c : Capabilities) → answered_in (asking c) (after_answer c (reconfiguration_response 3 InProgress)) (reconfiguration_response 3 InProgress ∷ []) ≡ retried
 in_progress_is_retried c = refl
 
--- By the RFC no error counts then.
-clears_errors : (e : Endpoint) → (own_moved retried (record e { options = record e.options { follow_rfc = true }; error_count = 2 })).error_count ≡ 0
+-- With the option each answer clears the count of errors.
+abbrev with_errors : Bool → Endpoint → Endpoint
+with_errors follows e = record e { options = record e.options { follow_rfc = follows }; error_count = 2 }
+
+clears_errors : (e : Endpoint) → (own_moved retried (with_errors true e)).error_count ≡ 0
 clears_errors e = refl
 
-keeps_errors_by_port : (e : Endpoint) → (own_moved retried (record e { options = record e.options { follow_rfc = false }; error_count = 2 })).error_count ≡ 2
+performed_clears_errors : (e : Endpoint) → (own_moved was_performed (with_errors true e)).error_count ≡ 0
+performed_clears_errors e = refl
+
+denied_clears_errors : (e : Endpoint) → (own_moved has_failed (with_errors true e)).error_count ≡ 0
+denied_clears_errors e = refl
+
+keeps_errors_by_port : (e : Endpoint) → (own_moved retried (with_errors false e)).error_count ≡ 2
 keeps_errors_by_port e = refl
+
+performed_keeps_errors_by_port : (e : Endpoint) → (own_moved was_performed (with_errors false e)).error_count ≡ 2
+performed_keeps_errors_by_port e = refl
+
+no_answer_keeps_errors : (e : Endpoint) → (own_moved unanswered (with_errors true e)).error_count ≡ 2
+no_answer_keeps_errors e = refl
 
 of_another_number : (c : Capabilities) → answered_in (asking c) (after_answer c (reconfiguration_response 2 SuccessPerformed)) (reconfiguration_response 2 SuccessPerformed ∷ []) ≡ unanswered
 of_another_number c = refl

@@ -136,11 +136,15 @@ waits_for_no_packet e transfer = refl
 nothing_waits_by_rfc : waits_at 10 (record queue { streams = map pausing queue.streams; under_way = None }) ≡ false
 nothing_waits_by_rfc = refl
 
-no_live_message : waits_at 10 (record queue { streams = map expired_at_9 queue.streams }) ≡ false
+no_live_message : waits_at 10 (record queue { streams = map expired_at_9 queue.streams; under_way = None }) ≡ false
 no_live_message = refl
 
-a_live_message : waits_at 8 (record queue { streams = map expired_at_9 queue.streams }) ≡ true
+a_live_message : waits_at 8 (record queue { streams = map expired_at_9 queue.streams; under_way = None }) ≡ true
 a_live_message = refl
+
+-- The rest of a message that was begun is, whatever its age.
+a_message_under_way : waits_at 10 (record queue { streams = map expired_at_9 queue.streams }) ≡ true
+a_message_under_way = refl
 
 -- Without a peer the association ends.
 ends_in_cookie_wait : (e : Endpoint) → (shut_down_outcome e (cookie_wait mine)).events ≡ events.closed ∷ []

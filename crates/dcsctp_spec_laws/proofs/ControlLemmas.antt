@@ -19,7 +19,7 @@ use Rattle.dcsctp_spec_lemmas.specs.spec.endpoint.HandshakeOutcomes.{pair_from, 
 use Rattle.dcsctp_spec_lemmas.specs.spec.association.Effect.{Effect, draws, unchanged, emitted_alone}
 use Rattle.dcsctp_spec_lemmas.specs.spec.association.Choices.{Choices}
 use Rattle.dcsctp_spec_lemmas.specs.spec.association.HandshakeChanges.{IsCookieOf}
-use Rattle.dcsctp_spec_lemmas.specs.spec.association.Acts.{act_change, connect, t1_expires, shut_down, step_of_shutdown, shutdown_repeats, abort_with, hands_over, flushes, request_again}
+use Rattle.dcsctp_spec_lemmas.specs.spec.association.Acts.{act_change, connect, t1_expires, shut_down, step_of_shutdown, shutdown_repeats, abort_with, hands_over, flushes, request_again, request_renewed}
 use Rattle.dcsctp_spec_lemmas.specs.spec.association.Controlled.{IsControlled, ControlledChunk, ControlledAct}
 use Rattle.dcsctp_spec_lemmas.specs.spec.CookieFits.{FitsPair}
 use Rattle.dcsctp_spec_laws.specs.TurnLaws.{FitsOwn, FitsAnswer, ChunksAreControlled, ActsAreControlled, StandsBefore}
@@ -192,3 +192,4 @@ acts_are_controlled e (abort_with reason) o turn = aborting_controlled e o reaso
 acts_are_controlled e hands_over o turn = hand_over_controlled e o turn
 acts_are_controlled e flushes o turn = flushed_act e o (flush_turn_at e o turn)
 acts_are_controlled e (request_again reset) o turn = turn
+acts_are_controlled e (request_renewed reset) o turn = turn

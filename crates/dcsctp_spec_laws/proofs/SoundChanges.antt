@@ -1,12 +1,13 @@
 -- What each change of an association makes of its tags and its zero checksum method: but for connect and INIT ACK they stay sound.
-use Rattle.std.proofs.Common.{◌≤◌, ℕ, Bool, true, false, [], refl}
+use Rattle.std.proofs.Common.{◌≤◌, ℕ, Bool, true, false, Option, None, Some, [], refl}
+use Rattle.dcsctp_spec_lemmas.specs.types.declared.association.Held.{Held}
 use Rattle.dcsctp_spec_lemmas.specs.types.declared.options.Options.{Options}
 use Rattle.dcsctp_spec_lemmas.specs.spec.Cookie.{cookie_at}
 use Rattle.dcsctp_spec_lemmas.specs.spec.endpoint.Endpoint.{Core, closed, cookie_wait, cookie_echoed, open_in}
 use Rattle.dcsctp_spec_lemmas.specs.spec.Packet.{Content, init, init_ack, cookie_echo, cookie_ack, re_config, abort, shutdown, shutdown_ack, shutdown_complete, plain}
 use Rattle.dcsctp_spec_lemmas.specs.spec.Reconfiguration.{RequestedReset}
-use Rattle.dcsctp_spec_lemmas.specs.spec.Soundness.{IsSoundCore}
-use Rattle.dcsctp_spec_lemmas.specs.spec.association.Acts.{Act, connect, t1_expires, shut_down, step_of_shutdown, shutdown_repeats, abort_with, hands_over, flushes, request_again, act_change, chunk_change, flush_change, request_again_change, violation_change, plain_change}
+use Rattle.dcsctp_spec_lemmas.specs.spec.Soundness.{IsSoundHeld, IsSoundCore}
+use Rattle.dcsctp_spec_lemmas.specs.spec.association.Acts.{Act, connect, t1_expires, shut_down, step_of_shutdown, shutdown_repeats, abort_with, hands_over, flushes, request_again, request_renewed, act_change, chunk_change, flush_change, request_again_change, renewed_by, request_renewed_change, violation_change, plain_change}
 use Rattle.dcsctp_spec_lemmas.specs.spec.association.Choices.{Choices}
 use Rattle.dcsctp_spec_lemmas.specs.spec.association.Effect.{Change}
 use Rattle.dcsctp_spec_lemmas.specs.spec.association.ShutdownChanges.{shutdown_step_change, shutdown_change}
@@ -41,6 +42,17 @@ module _ (p : Options) where
   request_again_sound (cookie_echoed my held cookie) reset fits h = h
   request_again_sound (open_in phase my held) reset fits h = h
 
+  renewed_held_sound : (held : Held) (number : Option ℕ) (reset : RequestedReset) (fits : Bool) → IsSoundHeld p held → IsSoundHeld p (renewed_by held number reset fits).held
+  renewed_held_sound held None reset fits h = h
+  renewed_held_sound held (Some number) reset false h = h
+  renewed_held_sound held (Some number) reset true h = record { tag_is_not_zero = h.tag_is_not_zero; method = h.method }
+
+  request_renewed_sound : (core : Core) (reset : RequestedReset) (fits : Bool) → IsSoundCore p core → IsSoundCore p (request_renewed_change core reset fits).core
+  request_renewed_sound closed reset fits h = h
+  request_renewed_sound (cookie_wait my) reset fits h = h
+  request_renewed_sound (cookie_echoed my held cookie) reset fits h = (h.0, renewed_held_sound held held.own_outstanding reset fits h.1)
+  request_renewed_sound (open_in phase my held) reset fits h = (h.0, renewed_held_sound held held.own_outstanding reset fits h.1)
+
   violation_sound : (core : Core) (choices : Choices) → IsSoundCore p core → IsSoundCore p (violation_change core choices).core
   violation_sound closed choices h = h
   violation_sound (cookie_wait my) choices h = h
@@ -66,6 +78,7 @@ module _ (p : Options) where
   act_sound core hands_over choices other h = hand_over_sound p core h
   act_sound core flushes choices other h = flush_change_sound core choices h
   act_sound core (request_again reset) choices other h = request_again_sound core reset choices.fits h
+  act_sound core (request_renewed reset) choices other h = request_renewed_sound core reset choices.fits h
 
   pub chunk_sound : (core : Core) (header : ℕ) (content : Content) (choices : Choices) → SaysTag content → IsSoundCore p core → IsSoundCore p (chunk_change p core header content choices).core
   chunk_sound core header (init theirs) choices said h = init_sound p core theirs choices h

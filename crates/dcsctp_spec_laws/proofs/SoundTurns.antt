@@ -24,7 +24,7 @@ use Rattle.dcsctp_spec_lemmas.specs.spec.HandoverInputs.{inputs_of_snapshot, inp
 use Rattle.dcsctp_spec_lemmas.specs.spec.Soundness.{UsesOwnMethod, IsSoundCore, IsSound}
 use Rattle.dcsctp_spec_laws.specs.SoundnessLaws.{CallsKeepSoundness}
 use Rattle.dcsctp_spec_lemmas.specs.spec.endpoint.Turn.{Input, arrival, refusal, packet_begins, chunk_input, packet_ends, act_input, user_sets, user_sends, user_resets, user_takes, timer_expires, time_passes, restores, has_data, ContentTurn, ActTurn}
-use Rattle.dcsctp_spec_lemmas.specs.spec.association.Acts.{Act, connect, t1_expires, shut_down, step_of_shutdown, shutdown_repeats, abort_with, hands_over, flushes, request_again}
+use Rattle.dcsctp_spec_lemmas.specs.spec.association.Acts.{Act, connect, t1_expires, shut_down, step_of_shutdown, shutdown_repeats, abort_with, hands_over, flushes, request_again, request_renewed}
 use Rattle.dcsctp_spec_lemmas.specs.types.declared.association.Pair.{Pair}
 use Rattle.dcsctp_spec_lemmas.specs.types.declared.options.Options.{Options}
 use Rattle.dcsctp_spec_lemmas.specs.types.declared.snapshot.HandoverCapabilities.{HandoverCapabilities}
@@ -34,7 +34,9 @@ use Rattle.dcsctp_spec_lemmas.specs.types.declared.word.Word.TheVariants.{U32}
 use Rattle.dcsctp_spec_lemmas.specs.types.declared.word.Word.{Word}
 use Rattle.dcsctp_spec_lemmas.specs.spec.queues.Transfer.{Transfer}
 use Rattle.dcsctp_spec_lemmas.specs.spec.endpoint.HandshakeOutcomes.{pair_from, connect_outcome, awaits_init_ack, init_emission}
-use Rattle.dcsctp_spec_lemmas.specs.spec.endpoint.OwnTimers.{OwnTimer, timer_act, acknowledgement_delay, retransmission, heartbeat_interval, heartbeat_timeout, reconfiguration}
+use Rattle.dcsctp_spec_lemmas.specs.spec.endpoint.OwnTimers.{OwnTimer, repeating_act, timer_act, acknowledgement_delay, retransmission, heartbeat_interval, heartbeat_timeout, reconfiguration}
+use Rattle.dcsctp_spec_lemmas.specs.spec.endpoint.ReconfigurationOutcomes.{reset_again, is_renewed}
+use Rattle.dcsctp_spec_lemmas.specs.spec.Reconfiguration.{RequestedReset}
 use Rattle.dcsctp_spec_lemmas.specs.spec.endpoint.RestoreOutcomes.{capabilities_restored, restored_outcome}
 use Rattle.dcsctp_spec_lemmas.specs.types.Setting.{Setting}
 use Rattle.dcsctp_spec_lemmas.specs.spec.endpoint.SettingOutcomes.{setting_outcome}
@@ -131,14 +133,19 @@ act_turn_sound e (abort_with reason) o turn h = by_act e (abort_with reason) o t
 act_turn_sound e hands_over o turn h = by_act e hands_over o tt (acts_are_controlled e hands_over o turn) h
 act_turn_sound e flushes o turn h = by_act e flushes o tt (acts_are_controlled e flushes o turn) h
 act_turn_sound e (request_again reset) o turn h = by_act e (request_again reset) o tt (acts_are_controlled e (request_again reset) o turn) h
+act_turn_sound e (request_renewed reset) o turn h = by_act e (request_renewed reset) o tt (acts_are_controlled e (request_renewed reset) o turn) h
 
 -- the act of a timer isn't connect
+repeating_is_other : (is_new : Bool) (reset : RequestedReset) → IsOtherAct (repeating_act is_new reset)
+repeating_is_other false reset = tt
+repeating_is_other true reset = tt
+
 timer_is_other : (e : Endpoint) (timer : OwnTimer) → IsOtherAct (timer_act e timer)
 timer_is_other e acknowledgement_delay = tt
 timer_is_other e retransmission = tt
 timer_is_other e heartbeat_interval = tt
 timer_is_other e heartbeat_timeout = tt
-timer_is_other e reconfiguration = tt
+timer_is_other e reconfiguration = repeating_is_other (is_renewed e e.outstanding) (reset_again e.outstanding)
 
 setting_sound : (e : Endpoint) (setting : Setting) → IsSound e → SoundAfter (setting_outcome e setting)
 setting_sound e setting h = controlled_sound e (setting_outcome e setting) e.core refl refl h

@@ -19,9 +19,9 @@ use Rattle.dcsctp_spec.specs.endpoint.Following.{next_chunk}
 use Rattle.dcsctp_spec.specs.endpoint.Outcome.{Outcome, still, behind, then_outcome, noting}
 use Rattle.dcsctp_spec.specs.association.Effect.{Effect, begins, emitted, noted}
 use Rattle.dcsctp_spec.specs.association.Choices.{Filling, plain_contents}
-use Rattle.dcsctp_spec.specs.association.FlushChanges.{further_packets, reset_request, reset_to_begin, Flushed, flushed_with, flush}
+use Rattle.dcsctp_spec.specs.association.FlushChanges.{further_packets, held_asking, reset_request, reset_to_begin, Flushed, flushed_with, flush}
 use Rattle.dcsctp_spec.specs.association.Controlled.{Sign, packet_sent, has_connected, has_ended, own_reset_performed, own_reset_failed, peer_reset_performed, signs_of_events, signs_of_effects, IsControlled}
-use Rattle.dcsctp_spec.specs.endpoint.BegunResets.{BegunReset, streams_within, last_assigned_tsn, begun_where, begun_in, request_contents, begun_effects, held_asking, held_begun, core_asking, after_begun, stream_field}
+use Rattle.dcsctp_spec.specs.endpoint.BegunResets.{BegunReset, streams_within, last_assigned_tsn, begun_where, begun_in, request_contents, begun_effects, held_begun, core_asking, after_begun, stream_field}
 use Rattle.dcsctp_spec.specs.endpoint.FlushOutcomes.{Told, amount_is_low, total_amount_is_low, message_is_sent, message_may_have_expired, message_has_expired, message_ends, told_event, Answer, answer_contents, filled, goes_out, asked, next_draft, flush_of, Ask, first_ask, later_ask, room_in, GivesWhere, AnsweredBelow, Answered, timers_with, Answers, at_limit, at_empty, after_packet, FlushAnswers, packets_allowed}
 
 -- ---- what stays

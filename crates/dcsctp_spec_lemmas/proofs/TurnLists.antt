@@ -4,7 +4,7 @@ use Rattle.dcsctp_spec.specs.types.declared.association.Pair.{Pair}
 use Rattle.dcsctp_spec.specs.types.declared.word.Word.{Word}
 use Rattle.dcsctp_spec.specs.Packet.{Emission}
 use Rattle.dcsctp_spec.specs.endpoint.Endpoint.{Endpoint}
-use Rattle.dcsctp_spec.specs.association.Effect.{Effect, draws, sends, holds, connects, ends, begins, completes, fails, accepts, performs, resumes, drawn_in}
+use Rattle.dcsctp_spec.specs.association.Effect.{Effect, draws, sends, holds, connects, ends, begins, gives_up, completes, fails, accepts, performs, resumes, drawn_in}
 use Rattle.dcsctp_spec.specs.endpoint.Event.{Event}
 use Rattle.dcsctp_spec.specs.endpoint.CallTurns.{Turned, after_all, words_of, effects_of, pairs_of, events_of}
 
@@ -28,6 +28,7 @@ drawn_in-append (holds link ∷ xs) ys = drawn_in-append xs ys
 drawn_in-append (connects link ∷ xs) ys = drawn_in-append xs ys
 drawn_in-append (ends ∷ xs) ys = drawn_in-append xs ys
 drawn_in-append (begins number ∷ xs) ys = drawn_in-append xs ys
+drawn_in-append (gives_up number ∷ xs) ys = drawn_in-append xs ys
 drawn_in-append (completes my number ∷ xs) ys = drawn_in-append xs ys
 drawn_in-append (fails number ∷ xs) ys = drawn_in-append xs ys
 drawn_in-append (accepts number ∷ xs) ys = drawn_in-append xs ys

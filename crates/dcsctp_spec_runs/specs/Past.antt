@@ -1,7 +1,7 @@
 -- What one side has done so far, newest first, and where in it each effect may be.
 use Rattle.std.specs.Prelude.{◌≡◌, ◌≢◌, ℕ, ◌+◌, ◌%◌, ◌^◌, Option, None, Some, List, [], ◌∷◌, ◌⊎◌}
 use Rattle.dcsctp_spec_lemmas.specs.types.declared.association.Pair.{Pair}
-use Rattle.dcsctp_spec_lemmas.specs.spec.association.Effect.{Link, Effect, draws, sends, holds, connects, ends, begins, completes, fails, accepts, performs, resumes}
+use Rattle.dcsctp_spec_lemmas.specs.spec.association.Effect.{Link, Effect, draws, sends, holds, connects, ends, begins, gives_up, completes, fails, accepts, performs, resumes}
 use Rattle.dcsctp_spec_lemmas.specs.spec.association.FlushChanges.{next_number}
 
 -- It is one of these.
@@ -26,6 +26,7 @@ FreshDraw ends earlier = Unit {0}
 FreshDraw (begins number) earlier = Unit {0}
 FreshDraw (completes my number) earlier = Unit {0}
 FreshDraw (fails number) earlier = Unit {0}
+FreshDraw (gives_up number) earlier = Unit {0}
 FreshDraw (accepts number) earlier = Unit {0}
 FreshDraw (performs peer number) earlier = Unit {0}
 FreshDraw (resumes link own last) earlier = Unit {0}
@@ -48,6 +49,7 @@ current (connects link ∷ earlier) = current earlier
 current (begins number ∷ earlier) = current earlier
 current (completes my number ∷ earlier) = current earlier
 current (fails number ∷ earlier) = current earlier
+current (gives_up number ∷ earlier) = current earlier
 current (accepts number ∷ earlier) = current earlier
 current (performs peer number ∷ earlier) = current earlier
 
@@ -63,6 +65,7 @@ unconnected (sends packet ∷ earlier) = unconnected earlier
 unconnected (begins number ∷ earlier) = unconnected earlier
 unconnected (completes my number ∷ earlier) = unconnected earlier
 unconnected (fails number ∷ earlier) = unconnected earlier
+unconnected (gives_up number ∷ earlier) = unconnected earlier
 unconnected (accepts number ∷ earlier) = unconnected earlier
 unconnected (performs peer number ∷ earlier) = unconnected earlier
 
@@ -78,6 +81,7 @@ number_to_begin (sends packet ∷ earlier) = number_to_begin earlier
 number_to_begin (connects link ∷ earlier) = number_to_begin earlier
 number_to_begin (completes my number ∷ earlier) = number_to_begin earlier
 number_to_begin (fails number ∷ earlier) = number_to_begin earlier
+number_to_begin (gives_up number ∷ earlier) = number_to_begin earlier
 number_to_begin (accepts number ∷ earlier) = number_to_begin earlier
 number_to_begin (performs peer number ∷ earlier) = number_to_begin earlier
 
@@ -89,6 +93,7 @@ outstanding (resumes link own last ∷ earlier) = None
 outstanding (begins number ∷ earlier) = Some number
 outstanding (completes my number ∷ earlier) = None
 outstanding (fails number ∷ earlier) = None
+outstanding (gives_up number ∷ earlier) = None
 outstanding (ends ∷ earlier) = None
 outstanding (draws pair ∷ earlier) = outstanding earlier
 outstanding (sends packet ∷ earlier) = outstanding earlier
@@ -108,6 +113,7 @@ requests_begun (sends packet ∷ earlier) = requests_begun earlier
 requests_begun (connects link ∷ earlier) = requests_begun earlier
 requests_begun (completes my number ∷ earlier) = requests_begun earlier
 requests_begun (fails number ∷ earlier) = requests_begun earlier
+requests_begun (gives_up number ∷ earlier) = requests_begun earlier
 requests_begun (accepts number ∷ earlier) = requests_begun earlier
 requests_begun (performs peer number ∷ earlier) = requests_begun earlier
 
@@ -125,6 +131,7 @@ number_to_accept (connects link ∷ earlier) = number_to_accept earlier
 number_to_accept (begins number ∷ earlier) = number_to_accept earlier
 number_to_accept (completes my number ∷ earlier) = number_to_accept earlier
 number_to_accept (fails number ∷ earlier) = number_to_accept earlier
+number_to_accept (gives_up number ∷ earlier) = number_to_accept earlier
 number_to_accept (performs peer number ∷ earlier) = number_to_accept earlier
 
 -- the number of the peer's request that was accepted last and not performed
@@ -141,6 +148,7 @@ number_to_perform (connects link ∷ earlier) = number_to_perform earlier
 number_to_perform (begins number ∷ earlier) = number_to_perform earlier
 number_to_perform (completes my number ∷ earlier) = number_to_perform earlier
 number_to_perform (fails number ∷ earlier) = number_to_perform earlier
+number_to_perform (gives_up number ∷ earlier) = number_to_perform earlier
 
 -- its own pair of an association, if there is one, and its peer's
 abbrev pub my_of : Option Link → Option Pair
@@ -154,14 +162,16 @@ peer_of (Some link) = Some link.peer
 -- ---- the rules of one side
 
 -- In one lifetime an association connects at most once, and as it is then. Its own requests go up by one from its own first TSN,
--- one at a time. Each has at most one end, under its own pair. The peer's accepted requests go up by one from its first TSN. Each
--- is performed at most once, under its pair, and none that wasn't accepted. An association that is restored takes the place of
--- none, and its numbers go on from those of the snapshot.
+-- one at a time: the next one is begun once the one before has ended, or is given up. Each has at most one end, under its own
+-- pair; one that is given up has none. The peer's accepted requests go up by one from its first TSN. Each is performed at most
+-- once, under its pair, and none that wasn't accepted. An association that is restored takes the place of none, and its numbers go
+-- on from those of the snapshot.
 abbrev pub InPlace : Effect → List Effect → Type 0
 InPlace (connects link) earlier = unconnected earlier ≡ Some link
 InPlace (begins number) earlier = (number_to_begin earlier ≡ Some number) × (outstanding earlier ≡ None)
 InPlace (completes my number) earlier = (outstanding earlier ≡ Some number) × (my_of (current earlier) ≡ Some my)
 InPlace (fails number) earlier = outstanding earlier ≡ Some number
+InPlace (gives_up number) earlier = outstanding earlier ≡ Some number
 InPlace (accepts number) earlier = number_to_accept earlier ≡ Some number
 InPlace (performs peer number) earlier = (number_to_perform earlier ≡ Some number) × (peer_of (current earlier) ≡ Some peer)
 InPlace (draws pair) earlier = Unit {0}

@@ -1,5 +1,5 @@
 -- What the user and the timers bring keeps what is true.
-use Rattle.std.proofs.Common.{ℕ, Bool, true, false, Option, None, Some, List, [], sym, ◌∙◌}
+use Rattle.std.proofs.Common.{◌≡◌, ℕ, Bool, true, false, Option, None, Some, List, [], ◌∷◌, refl, sym, ◌∙◌}
 use Rattle.dcsctp_spec_lemmas.specs.types.declared.association.Pair.{Pair}
 use Rattle.dcsctp_spec_lemmas.specs.types.declared.association.Held.{Held}
 use Rattle.dcsctp_spec_lemmas.specs.types.declared.options.Options.{Options}
@@ -7,11 +7,11 @@ use Rattle.dcsctp_spec_lemmas.specs.types.Offer.{Offer, offer_of}
 use Rattle.dcsctp_spec_lemmas.specs.spec.Reconfiguration.{RequestedReset}
 use Rattle.dcsctp_spec_lemmas.specs.spec.endpoint.Endpoint.{Core, closed, cookie_wait, cookie_echoed, open_in, OpenPhase, established, shutdown_pending, shutdown_sent, shutdown_received, shutdown_ack_sent}
 use Rattle.dcsctp_spec_lemmas.specs.spec.endpoint.Following.{next_chunk}
-use Rattle.dcsctp_spec_lemmas.specs.spec.association.Effect.{Effect}
+use Rattle.dcsctp_spec_lemmas.specs.spec.association.Effect.{Effect, begins, gives_up}
 use Rattle.dcsctp_spec_lemmas.specs.spec.association.Choices.{Choices}
 use Rattle.dcsctp_spec_lemmas.specs.spec.association.FlushChanges.{further_packets, flush, reset_request}
 use Rattle.dcsctp_spec_lemmas.specs.spec.endpoint.Cause.{causes_of}
-use Rattle.dcsctp_spec_lemmas.specs.spec.association.Acts.{Act, connect, t1_expires, shut_down, step_of_shutdown, shutdown_repeats, abort_with, flushes, request_again, hands_over, sent_by, hand_over_change_in, hand_over_change, flush_change, request_sent, request_again_change, act_change}
+use Rattle.dcsctp_spec_lemmas.specs.spec.association.Acts.{Act, connect, t1_expires, shut_down, step_of_shutdown, shutdown_repeats, abort_with, flushes, request_again, request_renewed, hands_over, sent_by, hand_over_change_in, hand_over_change, flush_change, request_sent, request_again_change, renewed_by, request_renewed_change, act_change}
 use Rattle.dcsctp_spec_runs.specs.Past.{HasFreshTags}
 use Rattle.dcsctp_spec_runs.specs.World.{after_effects}
 use Rattle.dcsctp_theorem_association.proofs.Facts.{TrueEffects, TruePast, PeerFacts, TrueCore}
@@ -87,6 +87,52 @@ request_kept my_offer their_offer mine theirs (open_in phase my held) reset fits
     stays_kept my_offer their_offer mine theirs (open_in phase my held) (request_sent held held.own_outstanding reset fits) next_chunk h
     (request_true my_offer their_offer mine theirs held held.own_outstanding reset fits) (request_free held held.own_outstanding reset fits)
 
+-- The request under the next number moves the own numbers alone.
+renewed_true : (my_offer their_offer : Offer) (mine theirs : List Effect) (held : Held) (outstanding : Option ℕ) (reset : RequestedReset) (fits : Bool)
+    → TrueEffects my_offer their_offer mine theirs (renewed_by held outstanding reset fits).effects
+renewed_true my_offer their_offer mine theirs held None reset fits = tt
+renewed_true my_offer their_offer mine theirs held (Some number) reset false = tt
+renewed_true my_offer their_offer mine theirs held (Some number) reset true =
+    (tt, (tt, alone_true my_offer their_offer (begins held.own_next ∷ gives_up number ∷ mine) theirs true held.peer.tag (reset_request held.own_next reset) (tt, tt)))
+
+renewed_free : (held : Held) (outstanding : Option ℕ) (reset : RequestedReset) (fits : Bool) → AllEchoFree (renewed_by held outstanding reset fits).effects
+renewed_free held None reset fits = tt
+renewed_free held (Some number) reset false = tt
+renewed_free held (Some number) reset true = (tt, (tt, (tt, tt)))
+
+renewed_peer : (my_offer their_offer : Offer) (mine theirs : List Effect) (my : Pair) (held : Held) (outstanding : Option ℕ) (reset : RequestedReset) (fits : Bool)
+    → PeerFacts my_offer their_offer mine theirs my held → PeerFacts my_offer their_offer mine theirs my (renewed_by held outstanding reset fits).held
+renewed_peer my_offer their_offer mine theirs my held None reset fits h = h
+renewed_peer my_offer their_offer mine theirs my held (Some number) reset false h = h
+renewed_peer my_offer their_offer mine theirs my held (Some number) reset true h =
+    record { my_drawn = h.my_drawn; peer_drawn = h.peer_drawn; capabilities = h.capabilities; shown = h.shown; nothing = h.nothing; performed = h.performed }
+
+renewed_pair : (held : Held) (outstanding : Option ℕ) (reset : RequestedReset) (fits : Bool) → (renewed_by held outstanding reset fits).held.peer ≡ held.peer
+renewed_pair held None reset fits = refl
+renewed_pair held (Some number) reset false = refl
+renewed_pair held (Some number) reset true = refl
+
+renewed_kept : (my_offer their_offer : Offer) (mine theirs : List Effect) (core : Core) (reset : RequestedReset) (fits : Bool)
+    → TrueCore my_offer their_offer mine theirs core → Kept my_offer their_offer mine theirs (request_renewed_change core reset fits)
+renewed_kept my_offer their_offer mine theirs closed reset fits h = unchanged_kept my_offer their_offer mine theirs closed h
+renewed_kept my_offer their_offer mine theirs (cookie_wait my) reset fits h = unchanged_kept my_offer their_offer mine theirs (cookie_wait my) h
+renewed_kept my_offer their_offer mine theirs (cookie_echoed my held bytes) reset fits h =
+    let number : Option ℕ = held.own_outstanding in
+    let effects : List Effect = (renewed_by held number reset fits).effects in
+    record {
+      effects = renewed_true my_offer their_offer mine theirs held number reset fits;
+      core = (
+        peer_grows my_offer their_offer mine theirs (after_effects effects mine) theirs my (renewed_by held number reset fits).held (after_within effects mine) (same theirs)
+            (renewed_peer my_offer their_offer mine theirs my held number reset fits h.0),
+        one_echo_after my.tag bytes effects mine (free_is_only bytes effects (renewed_free held number reset fits)) h.1,
+        record { cookie = h.2.cookie; reads = h.2.reads; maker = h.2.maker ∙ sym (renewed_pair held number reset fits); addressee = h.2.addressee; offer = h.2.offer },
+      );
+    }
+renewed_kept my_offer their_offer mine theirs (open_in phase my held) reset fits h =
+    let number : Option ℕ = held.own_outstanding in
+    open_kept my_offer their_offer mine theirs phase my (renewed_by held number reset fits).held (renewed_by held number reset fits).effects next_chunk
+    (renewed_peer my_offer their_offer mine theirs my held number reset fits h) (renewed_true my_offer their_offer mine theirs held number reset fits)
+
 pub act_kept : (options : Options) (their_offer : Offer) (mine theirs : List Effect) (core : Core) (act : Act) (choices : Choices)
     → TruePast (offer_of options) their_offer mine theirs → TrueCore (offer_of options) their_offer mine theirs core
     → HasFreshTags (after_effects (act_change options core act choices).effects mine)
@@ -100,4 +146,5 @@ act_kept options their_offer mine theirs core shutdown_repeats choices past h fr
 act_kept options their_offer mine theirs core (abort_with reason) choices past h fresh = aborts_kept (offer_of options) their_offer mine theirs core (causes_of reason) choices.fits h
 act_kept options their_offer mine theirs core flushes choices past h fresh = flush_kept (offer_of options) their_offer mine theirs core choices h
 act_kept options their_offer mine theirs core (request_again reset) choices past h fresh = request_kept (offer_of options) their_offer mine theirs core reset choices.fits h
+act_kept options their_offer mine theirs core (request_renewed reset) choices past h fresh = renewed_kept (offer_of options) their_offer mine theirs core reset choices.fits h
 act_kept options their_offer mine theirs core hands_over choices past h fresh = hand_over_kept (offer_of options) their_offer mine theirs core h

@@ -4,7 +4,7 @@ use Rattle.dcsctp_spec_lemmas.specs.types.declared.association.Pair.{Pair}
 use Rattle.dcsctp_spec_lemmas.specs.types.declared.options.Options.{Options}
 use Rattle.dcsctp_spec_lemmas.specs.types.Offer.{Offer, offer_of}
 use Rattle.dcsctp_spec_runs.specs.Laws.{AnswerKeepsAgreement}
-use Rattle.dcsctp_spec_lemmas.specs.spec.association.Effect.{Effect, draws, sends, holds, connects, ends, begins, completes, fails, accepts, performs, resumes, Change}
+use Rattle.dcsctp_spec_lemmas.specs.spec.association.Effect.{Effect, draws, sends, holds, connects, ends, begins, gives_up, completes, fails, accepts, performs, resumes, Change}
 use Rattle.dcsctp_spec_lemmas.specs.spec.association.FlushChanges.{next_number}
 use Rattle.dcsctp_spec_runs.specs.Past.{Has, Each, HasFreshTags, InPlace, current, my_of, outstanding, number_to_begin, requests_begun}
 use Rattle.dcsctp_spec_runs.specs.World.{SideState, after_changes, after_change, Which, at_a, at_b, Move, MoveChanges, Step, World, step_after, world_after, StepChanges, Run, steps_of}
@@ -91,6 +91,7 @@ none_resumed my_offer their_offer (ends ∷ earlier) theirs h = none_resumed my_
 none_resumed my_offer their_offer (begins number ∷ earlier) theirs h = none_resumed my_offer their_offer earlier theirs h.1
 none_resumed my_offer their_offer (completes my number ∷ earlier) theirs h = none_resumed my_offer their_offer earlier theirs h.1
 none_resumed my_offer their_offer (fails number ∷ earlier) theirs h = none_resumed my_offer their_offer earlier theirs h.1
+none_resumed my_offer their_offer (gives_up number ∷ earlier) theirs h = none_resumed my_offer their_offer earlier theirs h.1
 none_resumed my_offer their_offer (accepts number ∷ earlier) theirs h = none_resumed my_offer their_offer earlier theirs h.1
 none_resumed my_offer their_offer (performs peer number ∷ earlier) theirs h = none_resumed my_offer their_offer earlier theirs h.1
 none_resumed my_offer their_offer (resumes link own last ∷ earlier) theirs h = absurd h.0
@@ -114,6 +115,7 @@ next_counted (begins before ∷ earlier) number my rules none n m =
     omega arith
 next_counted (completes own before ∷ earlier) number my rules none n m = next_counted earlier number my rules.1 none n m
 next_counted (fails before ∷ earlier) number my rules none n m = next_counted earlier number my rules.1 none n m
+next_counted (gives_up before ∷ earlier) number my rules none n m = next_counted earlier number my rules.1 none n m
 next_counted (accepts before ∷ earlier) number my rules none n m = next_counted earlier number my rules.1 none n m
 next_counted (performs peer before ∷ earlier) number my rules none n m = next_counted earlier number my rules.1 none n m
 next_counted (resumes link own last ∷ earlier) number my rules none n m = absurd none
@@ -136,6 +138,7 @@ outstanding_counted (begins before ∷ earlier) number my rules none n m =
     record { last = omega arith; some_begun = omega arith }
 outstanding_counted (completes own before ∷ earlier) number my rules none n m = absurd (cc)
 outstanding_counted (fails before ∷ earlier) number my rules none n m = absurd (cc)
+outstanding_counted (gives_up before ∷ earlier) number my rules none n m = absurd (cc)
 outstanding_counted (accepts before ∷ earlier) number my rules none n m = outstanding_counted earlier number my rules.1 none n m
 outstanding_counted (performs peer before ∷ earlier) number my rules none n m = outstanding_counted earlier number my rules.1 none n m
 outstanding_counted (resumes link own last ∷ earlier) number my rules none n m = absurd none
@@ -165,6 +168,7 @@ performed my_offer their_offer (completes my number ∷ earlier) theirs rules h 
     (outstanding_counted earlier number my rules.1 (none_resumed my_offer their_offer earlier theirs h.1) rules.0.0 rules.0.1) few h.0 in
     (found, performed my_offer their_offer earlier theirs rules.1 h.1)
 performed my_offer their_offer (fails number ∷ earlier) theirs rules h = (tt, performed my_offer their_offer earlier theirs rules.1 h.1)
+performed my_offer their_offer (gives_up number ∷ earlier) theirs rules h = (tt, performed my_offer their_offer earlier theirs rules.1 h.1)
 performed my_offer their_offer (accepts number ∷ earlier) theirs rules h = (tt, performed my_offer their_offer earlier theirs rules.1 h.1)
 performed my_offer their_offer (performs peer number ∷ earlier) theirs rules h = (tt, performed my_offer their_offer earlier theirs rules.1 h.1)
 performed my_offer their_offer (resumes link own last ∷ earlier) theirs rules h = (tt, performed my_offer their_offer earlier theirs rules.1 h.1)

@@ -17,7 +17,7 @@ use Rattle.dcsctp_spec_lemmas.specs.spec.association.HandshakeChanges.{introduct
 use Rattle.dcsctp_spec_lemmas.specs.spec.association.CookieEchoChanges.{Resolution, establish_new, restart, simultaneous_init, discard, maintain_existing, invalid_tag, stale, aged, resolve, held_by_cookie, new_association_change, restart_change, maintain_change, resolved_change, read_echo_change}
 use Rattle.dcsctp_spec_lemmas.specs.spec.association.ResetChanges.{re_config_change}
 use Rattle.dcsctp_spec_lemmas.specs.spec.association.ShutdownChanges.{shutdown_step_change_in, shutdown_step_change, shutdown_call_change, abort_call_change, shutdown_again_change, abort_change, shutdown_change, shutdown_ack_change, shutdown_complete_change}
-use Rattle.dcsctp_spec_lemmas.specs.spec.association.Acts.{Act, connect, t1_expires, shut_down, step_of_shutdown, shutdown_repeats, abort_with, hands_over, flushes, request_again, sent_by, flush_change, hand_over_change, request_sent, request_again_change, act_change, violation_change, plain_change, chunk_change}
+use Rattle.dcsctp_spec_lemmas.specs.spec.association.Acts.{Act, connect, t1_expires, shut_down, step_of_shutdown, shutdown_repeats, abort_with, hands_over, flushes, request_again, request_renewed, sent_by, flush_change, hand_over_change, request_sent, request_again_change, renewed_by, request_renewed_change, act_change, violation_change, plain_change, chunk_change}
 use Rattle.dcsctp_theorem_association.specs.OneSide.{parameters_in, AnswersEndRequests}
 use Rattle.dcsctp_theorem_association.proofs.AnswerEnds.{AllAnswer, answer_of, all_answer-append, alone_answers, end_answers-alone, further_answer, flush_answers, reset_answers}
 
@@ -114,6 +114,16 @@ request_again_ends (cookie_echoed my held cookie) reset fits = request_sent_ends
 request_again_ends (open_in phase my held) reset fits = request_sent_ends held held.own_outstanding reset fits
 request_again_ends core reset fits = tt
 
+renewed_ends : (held : Held) (request : Option ℕ) (reset : RequestedReset) (fits : Bool) → EndsNone (renewed_by held request reset fits).effects
+renewed_ends held None reset fits = tt
+renewed_ends held (Some number) reset false = tt
+renewed_ends held (Some number) reset true = (tt, (tt, (tt, tt)))
+
+request_renewed_ends : (core : Core) (reset : RequestedReset) (fits : Bool) → EndsNone (request_renewed_change core reset fits).effects
+request_renewed_ends (cookie_echoed my held cookie) reset fits = renewed_ends held held.own_outstanding reset fits
+request_renewed_ends (open_in phase my held) reset fits = renewed_ends held held.own_outstanding reset fits
+request_renewed_ends core reset fits = tt
+
 -- ---- shutdown
 
 step_ends_in : (phase : OpenPhase) (my : Pair) (held : Held) (tsn : ℕ) (is_acknowledged : Bool) → EndsNone (shutdown_step_change_in phase my held tsn is_acknowledged).effects
@@ -183,6 +193,7 @@ act_ends options core (abort_with reason) choices = aborts_end core (causes_of r
 act_ends options core hands_over choices = hand_over_ends core
 act_ends options core flushes choices = flush_ends core choices
 act_ends options core (request_again reset) choices = request_again_ends core reset choices.fits
+act_ends options core (request_renewed reset) choices = request_renewed_ends core reset choices.fits
 
 violation_ends : (core : Core) (choices : Choices) → EndsNone (violation_change core choices).effects
 violation_ends (cookie_echoed my held cookie) choices = aborts_end (cookie_echoed my held cookie) choices.causes choices.fits

@@ -7,7 +7,7 @@ use Rattle.dcsctp_spec_lemmas.specs.types.declared.association.Held.{Held}
 use Rattle.dcsctp_spec_lemmas.specs.types.Offer.{Offer}
 use Rattle.dcsctp_spec_lemmas.specs.spec.Reconfiguration.{ResetParameter, outgoing_reset_request, incoming_reset_request, reconfiguration_response, other_reset_parameter}
 use Rattle.dcsctp_spec_lemmas.specs.spec.Packet.{Content, init, init_ack, cookie_echo, cookie_ack, re_config, abort, shutdown, shutdown_ack, shutdown_complete, plain}
-use Rattle.dcsctp_spec_lemmas.specs.spec.association.Effect.{Effect, draws, sends, holds, connects, ends, begins, completes, fails, accepts, performs, resumes}
+use Rattle.dcsctp_spec_lemmas.specs.spec.association.Effect.{Effect, draws, sends, holds, connects, ends, begins, gives_up, completes, fails, accepts, performs, resumes}
 use Rattle.dcsctp_spec_runs.specs.Past.{Has}
 use Rattle.dcsctp_spec_runs.specs.World.{after_effects}
 use Rattle.dcsctp_theorem_association.proofs.Facts.{TrueResult, TrueParameter, TrueParameters, TrueFront, TrueContents, TrueEffect, TruePast, TrueEffects, PeerFacts}
@@ -92,6 +92,7 @@ effect_grows my_offer their_offer mine theirs mine' theirs' (holds link) v w h =
 effect_grows my_offer their_offer mine theirs mine' theirs' (connects link) v w h = record { capabilities = h.capabilities; held = w _ h.held }
 effect_grows my_offer their_offer mine theirs mine' theirs' ends v w h = tt
 effect_grows my_offer their_offer mine theirs mine' theirs' (begins number) v w h = tt
+effect_grows my_offer their_offer mine theirs mine' theirs' (gives_up number) v w h = tt
 effect_grows my_offer their_offer mine theirs mine' theirs' (completes my number) v w (inl h) = inl (w _ h)
 effect_grows my_offer their_offer mine theirs mine' theirs' (completes my number) v w (inr h) = inr h
 effect_grows my_offer their_offer mine theirs mine' theirs' (fails number) v w h = tt

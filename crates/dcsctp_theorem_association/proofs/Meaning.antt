@@ -9,7 +9,7 @@ use Rattle.dcsctp_spec_lemmas.specs.spec.endpoint.Following.{Following}
 use Rattle.dcsctp_spec_lemmas.specs.spec.association.Effect.{Link, Effect, draws, holds, connects, ends, begins, completes, performs, resumes, Change, emitted, emitted_alone, link_of, link_in}
 use Rattle.dcsctp_spec_lemmas.specs.spec.association.Choices.{plain_contents, Filling, Choices}
 use Rattle.dcsctp_spec_lemmas.specs.spec.association.FlushChanges.{reset_to_begin, further_packets, chunks_behind, flushed_with, flush_where, flush}
-use Rattle.dcsctp_spec_lemmas.specs.spec.association.Acts.{sent_by}
+use Rattle.dcsctp_spec_lemmas.specs.spec.association.Acts.{sent_by, renewed_by}
 use Rattle.dcsctp_spec_runs.specs.Past.{Has}
 use Rattle.dcsctp_spec_lemmas.specs.spec.association.ResumeChanges.{resume_change}
 use Rattle.dcsctp_theorem_association.specs.OneSide.{IsEstablished, outstanding_in, MayDraw, IsShown, Means}
@@ -173,6 +173,18 @@ pub sent_says : (core : Core) (held : Held) (choices : Choices) → outstanding_
 sent_says core held choices e =
     all_say-append core (further_packets held.peer.tag choices.plain) (flush held.peer.tag held [] choices.filling).effects (further_say core held.peer.tag choices.plain)
     (flush_says core held.peer.tag held [] choices.filling e)
+
+-- A request that goes out under the next number: the association is the same, and that number is outstanding then.
+pub renewed_link : (my : Pair) (held : Held) (number : Option ℕ) (reset : RequestedReset) (fits : Bool) → link_of my (renewed_by held number reset fits).held ≡ link_of my held
+renewed_link my held None reset fits = refl
+renewed_link my held (Some number) reset false = refl
+renewed_link my held (Some number) reset true = refl
+
+pub renewed_says : (core : Core) (held : Held) (number : Option ℕ) (reset : RequestedReset) (fits : Bool) → outstanding_in core ≡ (renewed_by held number reset fits).held.own_outstanding
+    → AllSay core (renewed_by held number reset fits).effects
+renewed_says core held None reset fits e = tt
+renewed_says core held (Some number) reset false e = tt
+renewed_says core held (Some number) reset true e = (tt, (e, (tt, tt)))
 
 -- Established has connected after a flush.
 pub connects_says : (my : Pair) (tag : ℕ) (held : Held) (front : List Content) (filling : Filling)

@@ -18,10 +18,10 @@ use Rattle.dcsctp_spec_lemmas.specs.spec.association.HandshakeChanges.{introduct
 use Rattle.dcsctp_spec_lemmas.specs.spec.association.CookieEchoChanges.{Resolution, establish_new, restart, simultaneous_init, discard, maintain_existing, invalid_tag, stale, aged, resolve, held_by_cookie, new_association_change, restart_change, maintain_change, resolved_change, read_echo_change}
 use Rattle.dcsctp_spec_lemmas.specs.spec.association.ResetChanges.{re_config_change, reset_worked}
 use Rattle.dcsctp_spec_lemmas.specs.spec.association.ShutdownChanges.{shutdown_step_change, shutdown_change}
-use Rattle.dcsctp_spec_lemmas.specs.spec.association.Acts.{Act, connect, t1_expires, shut_down, step_of_shutdown, shutdown_repeats, abort_with, hands_over, flushes, request_again, sent_by, flush_change, request_sent, request_again_change, act_change, violation_change, plain_change, chunk_change, shutdown_chunk_change}
+use Rattle.dcsctp_spec_lemmas.specs.spec.association.Acts.{Act, connect, t1_expires, shut_down, step_of_shutdown, shutdown_repeats, abort_with, hands_over, flushes, request_again, request_renewed, sent_by, flush_change, request_sent, request_again_change, renewed_by, request_renewed_change, act_change, violation_change, plain_change, chunk_change, shutdown_chunk_change}
 use Rattle.dcsctp_spec_runs.specs.World.{acted, worked, resumed}
 use Rattle.dcsctp_theorem_association.specs.OneSide.{Means, EffectsMean}
-use Rattle.dcsctp_theorem_association.proofs.Meaning.{AllSay, all_say-append, Meant, means_by, resume_means, same_meant, drawn_meant, ended_meant, alone_says, end_says-alone, flush_link, flush_says, sent_says, connects_says}
+use Rattle.dcsctp_theorem_association.proofs.Meaning.{AllSay, all_say-append, Meant, means_by, resume_means, same_meant, drawn_meant, ended_meant, alone_says, end_says-alone, flush_link, flush_says, sent_says, renewed_link, renewed_says, connects_says}
 use Rattle.dcsctp_theorem_association.proofs.MeaningResets.{reset_link, reset_says}
 use Rattle.dcsctp_theorem_association.proofs.MeaningShutdown.{step_link, step_says, step_meant, call_meant, aborts_meant, again_meant, abort_meant, shutdown_link, shutdown_says, shutdown_ack_meant, shutdown_complete_meant, hand_over_meant}
 
@@ -159,6 +159,15 @@ request_again_meant (cookie_echoed my held cookie) reset fits = same_meant refl 
 request_again_meant (open_in phase my held) reset fits = same_meant refl (request_says (open_in phase my held) held held.own_outstanding reset fits)
 request_again_meant core reset fits = same_meant refl tt
 
+request_renewed_meant : (core : Core) (reset : RequestedReset) (fits : Bool) → Meant core (request_renewed_change core reset fits)
+request_renewed_meant (cookie_echoed my held cookie) reset fits =
+    let after : Held = (renewed_by held held.own_outstanding reset fits).held in
+    same_meant (some_link (renewed_link my held held.own_outstanding reset fits)) (renewed_says (cookie_echoed my after cookie) held held.own_outstanding reset fits refl)
+request_renewed_meant (open_in phase my held) reset fits =
+    let after : Held = (renewed_by held held.own_outstanding reset fits).held in
+    same_meant (some_link (renewed_link my held held.own_outstanding reset fits)) (renewed_says (open_in phase my after) held held.own_outstanding reset fits refl)
+request_renewed_meant core reset fits = same_meant refl tt
+
 -- ---- every turn
 
 act_meant : (options : Options) (core : Core) (act : Act) (choices : Choices) → Meant core (act_change options core act choices)
@@ -172,6 +181,7 @@ act_meant options core (abort_with reason) choices = aborts_meant core (causes_o
 act_meant options core hands_over choices = hand_over_meant core
 act_meant options core flushes choices = flush_meant core choices
 act_meant options core (request_again reset) choices = request_again_meant core reset choices.fits
+act_meant options core (request_renewed reset) choices = request_renewed_meant core reset choices.fits
 
 violation_meant : (core : Core) (choices : Choices) → Meant core (violation_change core choices)
 violation_meant (cookie_echoed my held cookie) choices = aborts_meant (cookie_echoed my held cookie) choices.causes choices.fits

@@ -16,7 +16,7 @@ use Rattle.dcsctp_spec_lemmas.specs.spec.association.HandshakeChanges.{connect_c
 use Rattle.dcsctp_spec_lemmas.specs.spec.association.CookieEchoChanges.{Resolution, establish_new, restart, simultaneous_init, discard, maintain_existing, invalid_tag, stale, aged, resolve, held_by_cookie, new_association_change, restart_change, maintain_change, resolved_change, read_echo_change}
 use Rattle.dcsctp_spec_lemmas.specs.spec.association.ResetChanges.{re_config_change}
 use Rattle.dcsctp_spec_lemmas.specs.spec.association.ShutdownChanges.{shutdown_step_change_in, shutdown_step_change, shutdown_call_change, abort_call_change, shutdown_again_change, abort_change, shutdown_ack_change, shutdown_complete_change}
-use Rattle.dcsctp_spec_lemmas.specs.spec.association.Acts.{Act, connect, t1_expires, shut_down, step_of_shutdown, shutdown_repeats, abort_with, hands_over, flushes, request_again, flush_change, hand_over_change, request_sent, request_again_change, act_change, then_changes, violation_change, plain_change, chunk_change, shutdown_chunk_change}
+use Rattle.dcsctp_spec_lemmas.specs.spec.association.Acts.{Act, connect, t1_expires, shut_down, step_of_shutdown, shutdown_repeats, abort_with, hands_over, flushes, request_again, request_renewed, flush_change, hand_over_change, request_sent, request_again_change, renewed_by, request_renewed_change, act_change, then_changes, violation_change, plain_change, chunk_change, shutdown_chunk_change}
 use Rattle.dcsctp_spec_runs.specs.World.{acted, worked, resumed}
 use Rattle.dcsctp_theorem_association.specs.OneSide.{ends_in, OneEnd, it_ends, it_stays, EndsOnce}
 use Rattle.dcsctp_theorem_association.proofs.OneSideNoEnds.{no_ends-alone, one_end-alone, no_ends-flush, no_ends-sent, no_ends-reset}
@@ -136,6 +136,16 @@ request_again_ends_once (cookie_echoed my held cookie) reset fits = stays (no_en
 request_again_ends_once (open_in phase my held) reset fits = stays (no_ends-request held held.own_outstanding reset fits)
 request_again_ends_once core reset fits = stays refl
 
+no_ends-renewed : (held : Held) (request : Option ℕ) (reset : RequestedReset) (fits : Bool) → ends_in (renewed_by held request reset fits).effects ≡ 0
+no_ends-renewed held None reset fits = refl
+no_ends-renewed held (Some number) reset false = refl
+no_ends-renewed held (Some number) reset true = refl
+
+request_renewed_ends_once : (core : Core) (reset : RequestedReset) (fits : Bool) → OneEnd core (request_renewed_change core reset fits)
+request_renewed_ends_once (cookie_echoed my held cookie) reset fits = stays_echoed (no_ends-renewed held held.own_outstanding reset fits)
+request_renewed_ends_once (open_in phase my held) reset fits = stays_open (no_ends-renewed held held.own_outstanding reset fits)
+request_renewed_ends_once core reset fits = stays refl
+
 -- ---- shutdown
 
 step_ends_once_in : (core : Core) (phase : OpenPhase) (my : Pair) (held : Held) (tsn : ℕ) (is_acknowledged : Bool) → OneEnd core (shutdown_step_change_in phase my held tsn is_acknowledged)
@@ -194,6 +204,7 @@ act_ends_once options core (abort_with reason) choices = aborts_ends_once core (
 act_ends_once options core hands_over choices = hand_over_ends_once core
 act_ends_once options core flushes choices = flush_ends_once core choices
 act_ends_once options core (request_again reset) choices = request_again_ends_once core reset choices.fits
+act_ends_once options core (request_renewed reset) choices = request_renewed_ends_once core reset choices.fits
 
 violation_ends_once : (core : Core) (choices : Choices) → OneEnd core (violation_change core choices)
 violation_ends_once (cookie_echoed my held cookie) choices = aborts_ends_once (cookie_echoed my held cookie) choices.causes choices.fits

@@ -6,11 +6,11 @@ use Rattle.dcsctp_spec_lemmas.specs.types.declared.capabilities.Capabilities.{Ca
 use Rattle.dcsctp_spec_lemmas.specs.wire.declared.reconfiguration.ReconfigurationResponseResult.TheVariants.{InProgress}
 use Rattle.dcsctp_spec_lemmas.specs.spec.Packet.{Plain, Content, Packet}
 use Rattle.dcsctp_spec_lemmas.specs.spec.Reconfiguration.{RequestedReset}
-use Rattle.dcsctp_spec_lemmas.specs.spec.association.Effect.{Link, Effect, draws, sends, holds, connects, begins, resumes, emitted, link_of}
+use Rattle.dcsctp_spec_lemmas.specs.spec.association.Effect.{Link, Effect, draws, sends, holds, connects, begins, gives_up, resumes, emitted, link_of}
 use Rattle.dcsctp_spec_lemmas.specs.spec.association.Choices.{plain_contents, Filling, Choices}
 use Rattle.dcsctp_spec_lemmas.specs.spec.association.FlushChanges.{Flushed, next_number, reset_to_begin, further_packets, flushed_with, flush_where, flush}
 use Rattle.dcsctp_spec_lemmas.specs.spec.association.HandshakeChanges.{new_held}
-use Rattle.dcsctp_spec_lemmas.specs.spec.association.Acts.{sent_by}
+use Rattle.dcsctp_spec_lemmas.specs.spec.association.Acts.{sent_by, renewed_by}
 use Rattle.dcsctp_spec_lemmas.specs.spec.association.ResumeChanges.{resumed_held}
 use Rattle.dcsctp_spec_runs.specs.Past.{Each, InPlace, current, unconnected, number_to_begin, outstanding, number_to_accept, number_to_perform}
 use Rattle.dcsctp_spec_runs.specs.World.{after_effects}
@@ -91,6 +91,21 @@ stands-begins none s = record {
   in_place = ((s.begins_next, s.is_outstanding ∙ none), s.in_place);
 }
 
+-- the own request is given up: then none is outstanding
+stands-gives_up : {link : Link} {waiting : Option Link} {held : Held} {past : List Effect} (number : ℕ) → held.own_outstanding ≡ Some number → Stands link waiting held past
+    → Stands link waiting (record held { own_outstanding = None }) (gives_up number ∷ past)
+stands-gives_up number some s = record {
+  same_peer = s.same_peer;
+  same_capabilities = s.same_capabilities;
+  is_current = s.is_current;
+  is_waiting = s.is_waiting;
+  begins_next = s.begins_next;
+  is_outstanding = refl;
+  accepts_next = s.accepts_next;
+  performs_last = s.performs_last;
+  in_place = (s.is_outstanding ∙ some, s.in_place);
+}
+
 -- the number after that before the first TSN
 first_number : (first_tsn : ℕ) → first_tsn % 2 ^ 32 ≡ next_number ((first_tsn + (2 ^ 32 - 1)) % 2 ^ 32)
 first_number first_tsn = omega arith
@@ -165,3 +180,11 @@ module _ (link : Link) (waiting : Option Link) where
       let after : Flushed = flush held.peer.tag held [] choices.filling in
       leads-append held held after.held (further_packets held.peer.tag choices.plain) after.effects
       (further_leads held held.peer.tag choices.plain) (flush_leads held.peer.tag held [] choices.filling)
+
+  -- ---- the request under the next number
+
+  pub renewed_leads : (held : Held) (number : Option ℕ) (reset : RequestedReset) (fits : Bool) → held.own_outstanding ≡ number
+      → Leads link waiting held (renewed_by held number reset fits).effects (renewed_by held number reset fits).held
+  renewed_leads held None reset fits e past s = s
+  renewed_leads held (Some number) reset false e past s = s
+  renewed_leads held (Some number) reset true e past s = stands-sends _ (stands-begins refl (stands-gives_up number e s))

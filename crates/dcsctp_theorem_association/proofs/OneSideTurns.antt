@@ -15,11 +15,11 @@ use Rattle.dcsctp_spec_lemmas.specs.spec.association.Choices.{Choices}
 use Rattle.dcsctp_spec_lemmas.specs.spec.association.FlushChanges.{reset_request}
 use Rattle.dcsctp_spec_lemmas.specs.spec.association.ResetChanges.{re_config_change}
 use Rattle.dcsctp_spec_lemmas.specs.spec.association.ShutdownChanges.{shutdown_step_change_in, shutdown_step_change, shutdown_call_change, abort_call_change, shutdown_again_change, abort_change, shutdown_change, shutdown_ack_change, shutdown_complete_change}
-use Rattle.dcsctp_spec_lemmas.specs.spec.association.Acts.{Act, connect, t1_expires, shut_down, step_of_shutdown, shutdown_repeats, abort_with, hands_over, flushes, request_again, flush_change, hand_over_change, request_sent, request_again_change, act_change, then_changes, violation_change, plain_change, chunk_change}
+use Rattle.dcsctp_spec_lemmas.specs.spec.association.Acts.{Act, connect, t1_expires, shut_down, step_of_shutdown, shutdown_repeats, abort_with, hands_over, flushes, request_again, request_renewed, flush_change, hand_over_change, request_sent, request_again_change, request_renewed_change, act_change, then_changes, violation_change, plain_change, chunk_change}
 use Rattle.dcsctp_spec_lemmas.specs.spec.association.ResumeChanges.{resumed_held, resume_change}
 use Rattle.dcsctp_spec_runs.specs.World.{SideState, after_effects, after_change, after_changes, ControlTurn, acted, worked, resumed, ControlTurns, SideRun, side_after}
 use Rattle.dcsctp_theorem_association.specs.OneSide.{EffectsInPlace, Leaves, PastIsState}
-use Rattle.dcsctp_theorem_association.proofs.OneSideLemmas.{Stands, after_effects-append, stands-connects, stands-resumed, sent_leads}
+use Rattle.dcsctp_theorem_association.proofs.OneSideLemmas.{Stands, after_effects-append, stands-connects, stands-resumed, sent_leads, renewed_leads}
 use Rattle.dcsctp_theorem_association.proofs.OneSideResets.{reset_leads}
 use Rattle.dcsctp_theorem_association.proofs.OneSideHandshake.{Good, Keeps, good_in_place, good-sends, good-emitted, good-emitted_alone, good-ends, good-ended_alone, stands_open, stands_echoed, connect_keeps, init_keeps, init_ack_keeps, cookie_ack_keeps, t1_again_keeps, t1_gives_up_keeps, echo_keeps}
 
@@ -45,6 +45,13 @@ request_again_keeps : (core : Core) (reset : RequestedReset) (fits : Bool) → K
 request_again_keeps (cookie_echoed my held cookie) reset fits past good = request_keeps (cookie_echoed my held cookie) held held.own_outstanding reset fits past good
 request_again_keeps (open_in phase my held) reset fits past good = request_keeps (open_in phase my held) held held.own_outstanding reset fits past good
 request_again_keeps core reset fits past good = good
+
+request_renewed_keeps : (core : Core) (reset : RequestedReset) (fits : Bool) → Keeps core (request_renewed_change core reset fits)
+request_renewed_keeps (cookie_echoed my held cookie) reset fits past good =
+    stands_echoed cookie (renewed_leads (link_of my held) (Some (link_of my held)) held held.own_outstanding reset fits refl past good)
+request_renewed_keeps (open_in phase my held) reset fits past good =
+    stands_open phase (renewed_leads (link_of my held) good.0 held held.own_outstanding reset fits refl past good.1)
+request_renewed_keeps core reset fits past good = good
 
 -- ---- shutdown
 
@@ -113,6 +120,7 @@ act_keeps options core (abort_with reason) choices past good = aborts_keeps core
 act_keeps options core hands_over choices past good = hand_over_keeps core past good
 act_keeps options core flushes choices past good = flush_keeps core choices past good
 act_keeps options core (request_again reset) choices past good = request_again_keeps core reset choices.fits past good
+act_keeps options core (request_renewed reset) choices past good = request_renewed_keeps core reset choices.fits past good
 
 -- one change after another
 then_keeps : (core : Core) (first second : Change) (following : Following) → Keeps core first → Keeps first.core second → Keeps core (then_changes first second following)

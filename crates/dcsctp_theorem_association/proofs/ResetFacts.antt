@@ -9,8 +9,8 @@ use Rattle.dcsctp_spec_lemmas.specs.spec.Cookie.{cookie_bytes, cookie_at}
 use Rattle.dcsctp_spec_lemmas.specs.spec.Reconfiguration.{RequestedReset, outgoing_reset_request, reconfiguration_response}
 use Rattle.dcsctp_spec_lemmas.specs.spec.Packet.{Content, init, init_ack, cookie_echo, cookie_ack, re_config}
 use Rattle.dcsctp_spec_lemmas.specs.spec.endpoint.Endpoint.{established, open_in}
-use Rattle.dcsctp_spec_lemmas.specs.spec.association.Effect.{draws, sends, holds, connects, begins, completes, accepts, performs}
-use Rattle.dcsctp_spec_lemmas.specs.spec.association.Acts.{connect, flushes, request_again}
+use Rattle.dcsctp_spec_lemmas.specs.spec.association.Effect.{draws, sends, holds, connects, begins, gives_up, completes, accepts, performs}
+use Rattle.dcsctp_spec_lemmas.specs.spec.association.Acts.{connect, flushes, request_again, request_renewed}
 use Rattle.dcsctp_spec_runs.specs.World.{own_tag_borne, echo_in_front, init_alone, at_a, at_b}
 use Rattle.dcsctp_theorem_association.proofs.Schedules.{pair, introduction, link, held, new, packet, cookie, bytes_of, plain, with_drawn, with_cookie, with_reset, reached, Doing, acts, gets, configured, is_run, GoesOn, IsRun, ◌after◌, end_of, side}
 use Rattle.dcsctp_theorem_association.proofs.ScheduleCounts.{numbers_begun, numbers_completed, numbers_accepted, numbers_performed}
@@ -128,6 +128,62 @@ late_answers_are_a_run a b = is_run (configured a) (configured b) late_answers (
 late_answers_end : (a b : Options) → end_of a b late_answers ≡ end_of a b performed
 unfolding cookie_bytes cookie_at
 late_answers_end a b = refl
+
+-- ---- a reset that is deferred, and sent again under the next number (RFC 6525, section 5.2.7)
+
+-- The next number comes after the data is there; an answer to the first number comes once more.
+abbrev renewed : List Doing
+renewed =
+    gets at_a 7 (answer 101 SuccessPerformed) plain
+    ∷ gets at_a 7 (answer 100 InProgress) plain
+    ∷ gets at_b 9 (request 101) reached
+    ∷ acts at_a (request_renewed wanted) plain
+    ∷ deferred
+
+renewed_goes : (a b : Options) → GoesOn a b renewed
+unfolding cookie_bytes cookie_at
+renewed_goes a b =
+    (inl refl, own_tag_borne refl, tt)
+    after (inr (inr (inr (inl refl))), own_tag_borne refl, tt)
+    after (inl refl, own_tag_borne refl, tt)
+    after tt
+    after (inl refl, own_tag_borne refl, tt)
+    after (inl refl, own_tag_borne refl, tt)
+    after tt
+    after four_packets_go a b
+
+renewed_is_a_run : (a b : Options) → IsRun a b renewed
+renewed_is_a_run a b = is_run (configured a) (configured b) renewed (renewed_goes a b)
+
+-- The next number is outstanding.
+renewed_at_a : (a b : Options) → (end_of a b (acts at_a (request_renewed wanted) plain ∷ deferred)).a.core ≡ open_in established one (held two 102 (Some 101) 199 SuccessNothingToDo)
+unfolding cookie_bytes cookie_at
+renewed_at_a a b = refl
+
+renewed_end : (a b : Options) → end_of a b renewed
+    ≡ record {
+      a = side a (open_in established one (held two 102 None 199 SuccessNothingToDo)) (
+          completes one 101
+          ∷ sends (packet 9 (request 101)) ∷ begins 101 ∷ gives_up 100
+          ∷ sends (packet 9 (request 100)) ∷ begins 100
+          ∷ connects (link one two)
+          ∷ sends (packet 9 (cookie_echo first_cookie)) ∷ holds (link one two)
+          ∷ sends (packet 0 (init (introduction one))) ∷ draws one
+          ∷ []);
+      b = side b (open_in established two (held one 200 None 101 SuccessPerformed)) (
+          sends (packet 7 (answer 101 SuccessPerformed)) ∷ performs one 101 ∷ accepts 101
+          ∷ sends (packet 7 (answer 100 InProgress)) ∷ accepts 100
+          ∷ sends (packet 7 cookie_ack) ∷ connects (link two one) ∷ holds (link two one)
+          ∷ sends (packet 7 (init_ack (introduction two) (Some first_cookie))) ∷ draws two
+          ∷ []);
+    }
+unfolding cookie_bytes cookie_at
+renewed_end a b = refl
+
+-- None is outstanding: there is nothing to renew.
+none_is_renewed : (a b : Options) → end_of a b (acts at_a (request_renewed wanted) plain ∷ renewed) ≡ end_of a b renewed
+unfolding cookie_bytes cookie_at
+none_is_renewed a b = refl
 
 -- ---- numbers that go round 2^32 (RFC 6525, section 4.1)
 

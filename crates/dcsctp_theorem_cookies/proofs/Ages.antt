@@ -18,7 +18,7 @@ use Rattle.dcsctp_spec_lemmas.specs.spec.endpoint.Turn.{Input, chunk_input, Turn
 use Rattle.dcsctp_spec_lemmas.specs.spec.endpoint.CallTurns.{Turned, IsTurn, AlongTurns, events_of}
 use Rattle.dcsctp_spec_lemmas.specs.spec.association.Choices.{Choices}
 use Rattle.dcsctp_spec_lemmas.specs.spec.association.CookieEchoChanges.{Resolution, establish_new, restart, simultaneous_init, discard, maintain_existing, invalid_tag, stale, aged, resolve, maintain_change}
-use Rattle.dcsctp_spec_lemmas.specs.spec.association.Effect.{Link, Effect, draws, sends, holds, connects, ends, begins, completes, fails, accepts, performs, resumes, noted}
+use Rattle.dcsctp_spec_lemmas.specs.spec.association.Effect.{Link, Effect, draws, sends, holds, connects, ends, begins, gives_up, completes, fails, accepts, performs, resumes, noted}
 use Rattle.dcsctp_spec_lemmas.specs.spec.association.Controlled.{IsControlled}
 use Rattle.dcsctp_spec_laws.specs.TurnLaws.{ChunksAreControlled, ActsAreControlled}
 use Rattle.dcsctp_spec_runs.specs.Past.{Has}
@@ -146,7 +146,9 @@ not_noted (connects other ∷ effects) link none (inr has) = not_noted effects l
 not_noted (ends ∷ effects) link none (inl is) = absurd (cc)
 not_noted (ends ∷ effects) link none (inr has) = not_noted effects link none.1 has
 not_noted (begins number ∷ effects) link none (inl is) = absurd (cc)
+not_noted (gives_up number ∷ effects) link none (inl is) = absurd (cc)
 not_noted (begins number ∷ effects) link none (inr has) = not_noted effects link none.1 has
+not_noted (gives_up number ∷ effects) link none (inr has) = not_noted effects link none.1 has
 not_noted (completes my number ∷ effects) link none (inl is) = absurd (cc)
 not_noted (completes my number ∷ effects) link none (inr has) = not_noted effects link none.1 has
 not_noted (fails number ∷ effects) link none (inl is) = absurd (cc)

@@ -14,9 +14,9 @@ use Rattle.dcsctp_spec_lemmas.specs.spec.association.Choices.{Filling, Choices}
 use Rattle.dcsctp_spec_lemmas.specs.spec.association.HandshakeChanges.{introduction_of, answering_introduction, connect_change, sends_init_ack, init_change, echo_change, held_by_init_ack, init_ack_change, cookie_ack_change, t1_again_change, t1_gives_up_change}
 use Rattle.dcsctp_spec_lemmas.specs.spec.association.CookieEchoChanges.{Resolution, establish_new, restart, simultaneous_init, discard, maintain_existing, invalid_tag, stale, aged, resolve, held_by_cookie, new_association_change, restart_change, maintain_change, resolved_change, read_echo_change}
 use Rattle.dcsctp_spec_lemmas.specs.spec.association.ShutdownChanges.{shutdown_step_change_in, shutdown_step_change, shutdown_call_change, abort_call_change, shutdown_again_change, abort_change, shutdown_change, shutdown_ack_change, shutdown_complete_change}
-use Rattle.dcsctp_spec_lemmas.specs.spec.association.Acts.{Act, connect, t1_expires, shut_down, step_of_shutdown, shutdown_repeats, abort_with, hands_over, flushes, request_again, flush_change, hand_over_change, act_change, violation_change, plain_change, shutdown_chunk_change, chunk_change}
+use Rattle.dcsctp_spec_lemmas.specs.spec.association.Acts.{Act, connect, t1_expires, shut_down, step_of_shutdown, shutdown_repeats, abort_with, hands_over, flushes, request_again, request_renewed, flush_change, hand_over_change, act_change, violation_change, plain_change, shutdown_chunk_change, chunk_change}
 use Rattle.dcsctp_theorem_cookies.proofs.CookieRules.{Rules, EffectsKeep, CoreKeeps, ChangeKeeps, TakenKeeps, AnswerKeeps, unchanged_keeps, effects_append, alone_keeps, flush_keeps, sent_keeps}
-use Rattle.dcsctp_theorem_cookies.proofs.ResetsKeep.{re_config_keeps, request_again_keeps}
+use Rattle.dcsctp_theorem_cookies.proofs.ResetsKeep.{re_config_keeps, request_again_keeps, request_renewed_keeps}
 
 module _ (rules : Rules) where
   -- the association ends, after these effects
@@ -190,6 +190,7 @@ module _ (rules : Rules) where
   act_keeps options core hands_over choices h = hand_over_keeps core h
   act_keeps options core flushes choices h = flush_change_keeps core choices h
   act_keeps options core (request_again reset) choices h = request_again_keeps rules core reset choices.fits h
+  act_keeps options core (request_renewed reset) choices h = request_renewed_keeps rules core reset choices.fits h
 
   pub chunk_keeps : (options : Options) (core : Core) (header : ℕ) (content : Content) (choices : Choices) → CoreKeeps rules core → TakenKeeps rules content
       → AnswerKeeps rules content choices → ChangeKeeps rules (chunk_change options core header content choices)

@@ -10,7 +10,7 @@ use Rattle.dcsctp_spec_lemmas.specs.spec.endpoint.Endpoint.{Core, cookie_echoed,
 use Rattle.dcsctp_spec_lemmas.specs.spec.association.Choices.{Choices}
 use Rattle.dcsctp_spec_lemmas.specs.spec.association.FlushChanges.{reset_request, flush}
 use Rattle.dcsctp_spec_lemmas.specs.spec.association.ResetChanges.{Place, again, next, astray, place_of, Answered, worked, repeated, outgoing_by, incoming_by, Informed, informed_where, is_outstanding, WorkedParameters, work_parameters, work_chunk, answers_emitted, reset_sent, reset_worked, re_config_change}
-use Rattle.dcsctp_spec_lemmas.specs.spec.association.Acts.{request_sent, request_again_change}
+use Rattle.dcsctp_spec_lemmas.specs.spec.association.Acts.{request_sent, request_again_change, renewed_by, request_renewed_change}
 use Rattle.dcsctp_theorem_cookies.proofs.CookieRules.{Rules, EffectsKeep, CoreKeeps, ChangeKeeps, unchanged_keeps, effects_append, alone_keeps, flush_keeps}
 
 module _ (rules : Rules) where
@@ -89,3 +89,13 @@ module _ (rules : Rules) where
   request_again_keeps (cookie_echoed my held bytes) reset fits h = record { effects = request_keeps held held.own_outstanding reset fits; core = h }
   request_again_keeps (open_in phase my held) reset fits h = record { effects = request_keeps held held.own_outstanding reset fits; core = h }
   request_again_keeps core reset fits h = unchanged_keeps rules core h
+
+  renewed_keeps : (held : Held) (number : Option ℕ) (reset : RequestedReset) (fits : Bool) → EffectsKeep rules (renewed_by held number reset fits).effects
+  renewed_keeps held None reset fits = tt
+  renewed_keeps held (Some number) reset false = tt
+  renewed_keeps held (Some number) reset true = (tt, (tt, alone_keeps rules true held.peer.tag (reset_request held.own_next reset) tt))
+
+  pub request_renewed_keeps : (core : Core) (reset : RequestedReset) (fits : Bool) → CoreKeeps rules core → ChangeKeeps rules (request_renewed_change core reset fits)
+  request_renewed_keeps (cookie_echoed my held bytes) reset fits h = record { effects = renewed_keeps held held.own_outstanding reset fits; core = h }
+  request_renewed_keeps (open_in phase my held) reset fits h = record { effects = renewed_keeps held held.own_outstanding reset fits; core = h }
+  request_renewed_keeps core reset fits h = unchanged_keeps rules core h

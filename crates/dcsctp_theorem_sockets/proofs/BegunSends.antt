@@ -97,7 +97,7 @@ begun_sends first_ask held room last_tsn queue fits tsn_fits small =
 asking_held : (held : Held) → FitsHeld held → FitsHeld (record held { own_next = (held.own_next + 1) % 2 ^ 32; own_outstanding = Some held.own_next })
 asking_held held fits = record { peer = fits.peer; own_next = omega arith; own_outstanding = fits.own_next; peer_last = fits.peer_last }
 
-asking_fits : (core : Core) → FitsCore core → FitsCore (core_asking core)
+pub asking_fits : (core : Core) → FitsCore core → FitsCore (core_asking core)
 asking_fits closed own = own
 asking_fits (cookie_wait my) own = own
 asking_fits (cookie_echoed my held cookie) own = (own.0, asking_held held own.1, own.2)
@@ -107,7 +107,7 @@ pub begun_fits : (begun : Option BegunReset) (e : Endpoint) → FitsCore e.core 
 begun_fits None e own = own
 begun_fits (Some begun) e own = asking_fits e.core own
 
-asking_runs : (core : Core) (t1 : Option RunningTimer) → T1Runs core t1 → T1Runs (core_asking core) t1
+pub asking_runs : (core : Core) (t1 : Option RunningTimer) → T1Runs core t1 → T1Runs (core_asking core) t1
 asking_runs closed t1 runs = runs
 asking_runs (cookie_wait my) t1 runs = runs
 asking_runs (cookie_echoed my held cookie) t1 runs = runs

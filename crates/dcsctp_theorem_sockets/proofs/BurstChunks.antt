@@ -9,11 +9,11 @@ use Rattle.dcsctp_spec_lemmas.specs.types.declared.ends.AbortReason.TheVariants 
 use Rattle.dcsctp_spec_lemmas.specs.types.declared.kinds.ErrorKind.TheVariants.{ProtocolViolation}
 use Rattle.dcsctp_spec_lemmas.specs.spec.endpoint.Cause.{Cause}
 use Rattle.dcsctp_spec_lemmas.specs.spec.endpoint.Event.{Event, error}
-use Rattle.dcsctp_spec_lemmas.specs.spec.Packet.{Plain, plain, unknown, heartbeat, heartbeat_ack, unworked, re_config, Emission}
+use Rattle.dcsctp_spec_lemmas.specs.spec.Packet.{Plain, plain, unknown, heartbeat, heartbeat_ack, unworked, Content, re_config, Emission}
 use Rattle.dcsctp_spec_lemmas.specs.spec.Reconfiguration.{RequestedReset, ResetParameter}
 use Rattle.dcsctp_spec_lemmas.specs.spec.queues.Arrivals.{data_arrival, i_data_arrival, skipped_in, messages_skipped_in}
 use Rattle.dcsctp_spec_lemmas.specs.spec.endpoint.Endpoint.{Endpoint, Core, closed, cookie_wait, cookie_echoed, open_in, OutstandingRequest, held_in}
-use Rattle.dcsctp_spec_lemmas.specs.spec.endpoint.Outcome.{Outcome, still, to_peer}
+use Rattle.dcsctp_spec_lemmas.specs.spec.endpoint.Outcome.{Outcome, still, fits, to_peer}
 use Rattle.dcsctp_spec_lemmas.specs.spec.association.Effect.{Effect}
 use Rattle.dcsctp_spec_lemmas.specs.spec.association.FlushChanges.{reset_request}
 use Rattle.dcsctp_spec_lemmas.specs.spec.association.ResetChanges.{WorkedParameters}
@@ -21,7 +21,7 @@ use Rattle.dcsctp_spec_lemmas.specs.spec.endpoint.FlushOutcomes.{Answer, draft_t
 use Rattle.dcsctp_spec_lemmas.specs.spec.endpoint.HeartbeatOutcomes.{heartbeat_outcome, info_in, counter_of, answered, heartbeat_ack_outcome, interval_expired, beating, heartbeat_emission, beat, interval_outcome, is_exhausted}
 use Rattle.dcsctp_spec_lemmas.specs.spec.endpoint.OwnTimers.{OwnTimer, acknowledgement_delay, retransmission, heartbeat_interval, heartbeat_timeout, reconfiguration, TimerTurn}
 use Rattle.dcsctp_spec_lemmas.specs.spec.endpoint.PlainOutcomes.{PlainTurn, PlainTurnBy, violation_by, violation_at, is_reported, after_unknown, unknown_bytes, unknown_told, error_outcome}
-use Rattle.dcsctp_spec_lemmas.specs.spec.endpoint.ReconfigurationOutcomes.{reset_again, request_emitted, request_unless, request_errors, request_expired, reconfiguration_outcome}
+use Rattle.dcsctp_spec_lemmas.specs.spec.endpoint.ReconfigurationOutcomes.{reset_again, request_emitted, renewed_where, request_renewed, request_unless, is_renewed, request_errors, request_expired, reconfiguration_outcome}
 use Rattle.dcsctp_spec_lemmas.specs.spec.endpoint.ResetOutcomes.{requested_in, is_reached, worked_in, OwnAnswer, answered_in, reset_events, told_of, reset_refusal_text, resets_worked, responses_outcome, core_with, responses_by, ResponseAnswers, WorksResets, ResetTurn}
 use Rattle.dcsctp_spec_laws.proofs.ResetLemmas.{AreResets, nothing, acceptance, performance, completion, failure, chunk_brings}
 use Rattle.dcsctp_theorem_sockets.specs.Bursts.{packets_of_plain, packets_of_timer}
@@ -76,15 +76,24 @@ request_few : (e : Endpoint) (held : Held) (number : Option ℕ) (reset : Reques
 request_few e held None reset = none 1
 request_few e held (Some number) reset = emits_few e [] (to_peer held (reset_request number reset))
 
-unless_few : (b : Bool) (e : Endpoint) (held : Held) (reset : RequestedReset) → Few 1 (request_unless b e held reset)
-unless_few true e held reset = none 1
-unless_few false e held reset = request_few e held held.own_outstanding reset
+renewed_few : (b : Bool) (e : Endpoint) (held : Held) (number : ℕ) (request : Content) → Few 1 (renewed_where b e held number request)
+renewed_few true e held number request = one 0
+renewed_few false e held number request = none 1
+
+anew_few : (e : Endpoint) (held : Held) (number : Option ℕ) (reset : RequestedReset) → Few 1 (request_renewed e held number reset)
+anew_few e held None reset = none 1
+anew_few e held (Some number) reset = renewed_few (fits e (to_peer held (reset_request held.own_next reset))) e held number (reset_request held.own_next reset)
+
+unless_few : (b is_new : Bool) (e : Endpoint) (held : Held) (reset : RequestedReset) → Few 1 (request_unless b is_new e held reset)
+unless_few true is_new e held reset = none 1
+unless_few false false e held reset = request_few e held held.own_outstanding reset
+unless_few false true e held reset = anew_few e held held.own_outstanding reset
 
 reconfiguration_few : (e : Endpoint) (peer : Option Held) (request : Option OutstandingRequest) → Few 1 (reconfiguration_outcome e peer request)
 reconfiguration_few e None request = none 1
 reconfiguration_few e (Some held) None = none 1
 reconfiguration_few e (Some held) (Some request) =
-    unless_few (is_exhausted e.options.max_retransmissions (request_errors e request)) (request_expired e request) held (reset_again (Some request))
+    unless_few (is_exhausted e.options.max_retransmissions (request_errors e request)) (is_renewed e (Some request)) (request_expired e request) held (reset_again (Some request))
 
 -- ---- each timer
 

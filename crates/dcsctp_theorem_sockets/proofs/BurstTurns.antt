@@ -14,7 +14,7 @@ use Rattle.dcsctp_spec_lemmas.specs.spec.endpoint.Outcome.{Outcome}
 use Rattle.dcsctp_spec_lemmas.specs.spec.association.Controlled.{signs_of_events, signs_of_effects}
 use Rattle.dcsctp_spec_lemmas.specs.spec.endpoint.CallTurns.{Turned, IsTurn}
 use Rattle.dcsctp_spec_lemmas.specs.spec.endpoint.Turn.{Input, arrival, refusal, packet_begins, chunk_input, packet_ends, act_input, user_sets, user_sends, user_resets, user_takes, timer_expires, time_passes, restores, has_data, ContentTurn, ActTurn}
-use Rattle.dcsctp_spec_lemmas.specs.spec.association.Acts.{Act, connect, t1_expires, shut_down, step_of_shutdown, shutdown_repeats, abort_with, hands_over, flushes, request_again, request_sent, request_again_change}
+use Rattle.dcsctp_spec_lemmas.specs.spec.association.Acts.{Act, connect, t1_expires, shut_down, step_of_shutdown, shutdown_repeats, abort_with, hands_over, flushes, request_again, request_renewed, request_sent, request_again_change, renewed_by, request_renewed_change}
 use Rattle.dcsctp_spec_lemmas.specs.spec.endpoint.TimerOutcomes.{t1_goes_on}
 use Rattle.dcsctp_spec_runs.proofs.RunsAlong.{run_along}
 use Rattle.dcsctp_spec_laws.proofs.ControlLemmas.{acts_are_controlled}
@@ -88,6 +88,24 @@ again_few e reset o turn =
     let few = again_signs e.core reset turn.0.fits in
     omega (arith, signs, same, few)
 
+renewed_signs : (held : Held) (number : Option ℕ) (reset : RequestedReset) (fits : Bool) → length (signs_of_effects (renewed_by held number reset fits).effects) ≤ 1
+renewed_signs held None reset fits = none 1
+renewed_signs held (Some number) reset true = one 0
+renewed_signs held (Some number) reset false = none 1
+
+anew_signs : (core : Core) (reset : RequestedReset) (fits : Bool) → length (signs_of_effects (request_renewed_change core reset fits).effects) ≤ 1
+anew_signs machine.closed reset fits = none 1
+anew_signs (cookie_wait my) reset fits = none 1
+anew_signs (cookie_echoed my held cookie) reset fits = renewed_signs held held.own_outstanding reset fits
+anew_signs (open_in phase my held) reset fits = renewed_signs held held.own_outstanding reset fits
+
+anew_few : (e : Endpoint) (reset : RequestedReset) (o : Outcome) → ActTurn e (request_renewed reset) o → Few 1 o
+anew_few e reset o turn =
+    let signs = are_signs o.events in
+    let same = ap length turn.1.signs in
+    let few = anew_signs e.core reset turn.0.fits in
+    omega (arith, signs, same, few)
+
 -- ---- an act
 
 act_counts : (e : Endpoint) (act : Act) (o : Outcome) → ActTurn e act o → count o.events ≤ packets_of_act e.core act (allowed_after o)
@@ -102,6 +120,7 @@ act_counts e (abort_with reason) o turn = subst (Few 1) (sym turn) (aborting_few
 act_counts e hands_over o turn = hand_over_few e o turn
 act_counts e flushes o turn = flush_turn_is_burst e o turn
 act_counts e (request_again reset) o turn = again_few e reset o turn
+act_counts e (request_renewed reset) o turn = anew_few e reset o turn
 
 -- ---- every turn
 

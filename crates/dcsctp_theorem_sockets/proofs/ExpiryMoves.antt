@@ -14,7 +14,9 @@ use Rattle.dcsctp_spec_lemmas.specs.spec.endpoint.Turn.{Input, ActTurn, act_inpu
 use Rattle.dcsctp_spec_lemmas.specs.spec.endpoint.TimeTurns.{Timer, t1_timer, own_timer, t2_timer, deadline, has_come, has_restart, t2_input, expiry_input, inputs_behind, after_expiries, ExpiryThen, ExpiryTurns}
 use Rattle.dcsctp_spec_lemmas.specs.spec.endpoint.CallTurns.{Turned, IsTurn, Turns}
 use Rattle.dcsctp_spec_lemmas.specs.spec.endpoint.HeartbeatOutcomes.{is_exhausted, interval_expired, beating, heartbeat_emission, interval_outcome}
-use Rattle.dcsctp_spec_lemmas.specs.spec.endpoint.OwnTimers.{OwnTimer, acknowledgement_delay, retransmission, heartbeat_interval, heartbeat_timeout, reconfiguration, TimerTurn, timer_act}
+use Rattle.dcsctp_spec_lemmas.specs.spec.endpoint.OwnTimers.{OwnTimer, acknowledgement_delay, retransmission, heartbeat_interval, heartbeat_timeout, reconfiguration, TimerTurn, repeating_act, timer_act}
+use Rattle.dcsctp_spec_lemmas.specs.spec.endpoint.ReconfigurationOutcomes.{reset_again, is_renewed}
+use Rattle.dcsctp_spec_lemmas.specs.spec.Reconfiguration.{RequestedReset}
 use Rattle.dcsctp_spec_lemmas.specs.spec.association.Effect.{Effect, Change}
 use Rattle.dcsctp_spec_lemmas.specs.spec.association.Acts.{flushes, shutdown_repeats, abort_with, t1_expires, act_change}
 use Rattle.dcsctp_spec_runs.specs.Fitting.{FitsHeld, FitsCore, FitsEndpoint, Sendable, TurnFits}
@@ -60,12 +62,16 @@ timer_fits e reconfiguration o turn h = subst TurnFits (sym turn) (reconfigurati
 
 -- ---- one expiry, and what follows it
 
+repeats_by_none : (is_new : Bool) (reset : RequestedReset) → TakesNoOptions (repeating_act is_new reset)
+repeats_by_none false reset p q core choices = refl
+repeats_by_none true reset p q core choices = refl
+
 no_options : (e : Endpoint) (timer : OwnTimer) → TakesNoOptions (timer_act e timer)
 no_options e acknowledgement_delay p q core choices = refl
 no_options e retransmission p q core choices = refl
 no_options e heartbeat_interval p q core choices = refl
 no_options e heartbeat_timeout p q core choices = refl
-no_options e reconfiguration p q core choices = refl
+no_options e reconfiguration p q core choices = repeats_by_none (is_renewed e e.outstanding) (reset_again e.outstanding) p q core choices
 
 -- what may come behind so many turns, from wherever the side stands then
 abbrev MovesBehind : Options → List Turned → List Effect → List Turned → Type 0

@@ -11,7 +11,7 @@ use Rattle.dcsctp_spec_lemmas.specs.spec.endpoint.Outcome.{Outcome}
 use Rattle.dcsctp_spec_lemmas.specs.types.Settings.{SameOptions}
 use Rattle.dcsctp_spec_lemmas.specs.spec.endpoint.CallTurns.{Turned, after_all, effects_of, events_of, pairs_of}
 use Rattle.dcsctp_spec_lemmas.specs.spec.association.Controlled.{IsControlled}
-use Rattle.dcsctp_spec_lemmas.specs.spec.association.Effect.{Link, Effect, draws, sends, holds, connects, ends, begins, completes, fails, accepts, performs, resumes, drawn_in, noted, Change, unchanged, link_in}
+use Rattle.dcsctp_spec_lemmas.specs.spec.association.Effect.{Link, Effect, draws, sends, holds, connects, ends, begins, gives_up, completes, fails, accepts, performs, resumes, drawn_in, noted, Change, unchanged, link_in}
 use Rattle.dcsctp_spec_runs.specs.Laws.{AllControlled}
 use Rattle.dcsctp_spec_runs.specs.Past.{Has, HasFreshTags}
 use Rattle.dcsctp_spec_runs.specs.World.{SideState, after_effects, after_change, after_changes, ControlTurn, ControlTurns}
@@ -82,6 +82,7 @@ drawn_noted (holds link ∷ effects) = drawn_noted effects
 drawn_noted (connects link ∷ effects) = drawn_noted effects
 drawn_noted (ends ∷ effects) = drawn_noted effects
 drawn_noted (begins number ∷ effects) = drawn_noted effects
+drawn_noted (gives_up number ∷ effects) = drawn_noted effects
 drawn_noted (completes my number ∷ effects) = drawn_noted effects
 drawn_noted (fails number ∷ effects) = drawn_noted effects
 drawn_noted (accepts number ∷ effects) = drawn_noted effects
@@ -96,6 +97,7 @@ noted_after (holds link ∷ effects) past = noted_after effects (holds link ∷ 
 noted_after (connects link ∷ effects) past = noted_after effects (connects link ∷ past)
 noted_after (ends ∷ effects) past = noted_after effects (ends ∷ past)
 noted_after (begins number ∷ effects) past = noted_after effects (begins number ∷ past)
+noted_after (gives_up number ∷ effects) past = noted_after effects (gives_up number ∷ past)
 noted_after (completes my number ∷ effects) past = noted_after effects (completes my number ∷ past)
 noted_after (fails number ∷ effects) past = noted_after effects (fails number ∷ past)
 noted_after (accepts number ∷ effects) past = noted_after effects (accepts number ∷ past)

@@ -2,7 +2,7 @@
 use Rattle.std.proofs.Common.{◌≡◌, ◌≢◌, List, [], ◌∷◌, ◌++◌, ◌⊎◌, inl, inr, sym, subst, append_assoc}
 use Rattle.std.specs.List.{AllByRecursion}
 use Rattle.dcsctp_spec_lemmas.specs.types.declared.association.Pair.{Pair}
-use Rattle.dcsctp_spec_lemmas.specs.spec.association.Effect.{drawn_in, Effect, draws, sends, holds, connects, ends, begins, completes, fails, accepts, performs, resumes}
+use Rattle.dcsctp_spec_lemmas.specs.spec.association.Effect.{drawn_in, Effect, draws, sends, holds, connects, ends, begins, gives_up, completes, fails, accepts, performs, resumes}
 use Rattle.dcsctp_spec_runs.specs.Past.{Has, HasFreshTags}
 use Rattle.dcsctp_spec_runs.specs.World.{after_effects}
 use Rattle.dcsctp_theorem_sockets.specs.Agreement.{HasDistinctTags}
@@ -34,7 +34,9 @@ drawn_pair pair (connects link ∷ effects) (inr h) = drawn_pair pair effects h
 drawn_pair pair (ends ∷ effects) (inl is) = absurd (cc)
 drawn_pair pair (ends ∷ effects) (inr h) = drawn_pair pair effects h
 drawn_pair pair (begins number ∷ effects) (inl is) = absurd (cc)
+drawn_pair pair (gives_up number ∷ effects) (inl is) = absurd (cc)
 drawn_pair pair (begins number ∷ effects) (inr h) = drawn_pair pair effects h
+drawn_pair pair (gives_up number ∷ effects) (inr h) = drawn_pair pair effects h
 drawn_pair pair (completes my number ∷ effects) (inl is) = absurd (cc)
 drawn_pair pair (completes my number ∷ effects) (inr h) = drawn_pair pair effects h
 drawn_pair pair (fails number ∷ effects) (inl is) = absurd (cc)
@@ -88,6 +90,7 @@ stays_fresh (holds link ∷ effects) past known fresh knows distinct = stays_fre
 stays_fresh (connects link ∷ effects) past known fresh knows distinct = stays_fresh effects (connects link ∷ past) known (tt, fresh) (λ other h. elim h [ inl is ↦ absurd (cc) | inr before ↦ knows other before ]) distinct
 stays_fresh (ends ∷ effects) past known fresh knows distinct = stays_fresh effects (ends ∷ past) known (tt, fresh) (λ other h. elim h [ inl is ↦ absurd (cc) | inr before ↦ knows other before ]) distinct
 stays_fresh (begins number ∷ effects) past known fresh knows distinct = stays_fresh effects (begins number ∷ past) known (tt, fresh) (λ other h. elim h [ inl is ↦ absurd (cc) | inr before ↦ knows other before ]) distinct
+stays_fresh (gives_up number ∷ effects) past known fresh knows distinct = stays_fresh effects (gives_up number ∷ past) known (tt, fresh) (λ other h. elim h [ inl is ↦ absurd (cc) | inr before ↦ knows other before ]) distinct
 stays_fresh (completes my number ∷ effects) past known fresh knows distinct = stays_fresh effects (completes my number ∷ past) known (tt, fresh) (λ other h. elim h [ inl is ↦ absurd (cc) | inr before ↦ knows other before ]) distinct
 stays_fresh (fails number ∷ effects) past known fresh knows distinct = stays_fresh effects (fails number ∷ past) known (tt, fresh) (λ other h. elim h [ inl is ↦ absurd (cc) | inr before ↦ knows other before ]) distinct
 stays_fresh (accepts number ∷ effects) past known fresh knows distinct = stays_fresh effects (accepts number ∷ past) known (tt, fresh) (λ other h. elim h [ inl is ↦ absurd (cc) | inr before ↦ knows other before ]) distinct

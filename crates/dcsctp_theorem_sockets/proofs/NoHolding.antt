@@ -11,7 +11,7 @@ use Rattle.dcsctp_spec_lemmas.specs.spec.association.Effect.{Effect, holds, emit
 use Rattle.dcsctp_spec_lemmas.specs.spec.association.Choices.{plain_contents, Filling, Choices}
 use Rattle.dcsctp_spec_lemmas.specs.spec.association.FlushChanges.{Flushed, reset_request, reset_to_begin, further_packets, chunks_behind, flushed_with, flush_where, flush}
 use Rattle.dcsctp_spec_lemmas.specs.spec.association.ResetChanges.{Place, again, next, astray, place_of, Answered, worked, repeated, outgoing_by, incoming_by, Informed, informed_where, is_outstanding, WorkedParameters, work_parameters, work_chunk, answers_emitted, reset_sent, reset_worked}
-use Rattle.dcsctp_spec_lemmas.specs.spec.association.Acts.{sent_by, request_sent}
+use Rattle.dcsctp_spec_lemmas.specs.spec.association.Acts.{sent_by, request_sent, renewed_by}
 
 -- It isn't that an association is there from here on.
 abbrev pub IsNoHolding : Effect → Type 0
@@ -62,6 +62,11 @@ none-sent held choices =
 pub none-request : (held : Held) (request : Option ℕ) (reset : RequestedReset) (fits : Bool) → HoldsNone (request_sent held request reset fits)
 none-request held None reset fits = tt
 none-request held (Some number) reset fits = none-alone fits held.peer.tag (reset_request number reset)
+
+pub none-renewed : (held : Held) (request : Option ℕ) (reset : RequestedReset) (fits : Bool) → HoldsNone (renewed_by held request reset fits).effects
+none-renewed held None reset fits = tt
+none-renewed held (Some number) reset false = tt
+none-renewed held (Some number) reset true = (tt, (tt, (tt, tt)))
 
 -- ---- RE-CONFIG
 

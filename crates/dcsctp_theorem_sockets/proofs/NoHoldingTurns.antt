@@ -11,8 +11,8 @@ use Rattle.dcsctp_spec_lemmas.specs.spec.association.Effect.{Effect, ends, Chang
 use Rattle.dcsctp_spec_lemmas.specs.spec.association.Choices.{Filling, Choices}
 use Rattle.dcsctp_spec_lemmas.specs.spec.association.HandshakeChanges.{init_change_where_open, echo_change}
 use Rattle.dcsctp_spec_lemmas.specs.spec.association.ShutdownChanges.{shutdown_step_change_in, shutdown_call_change_in, shutdown_again_change_in, shutdown_change_in, shutdown_ack_change_in, shutdown_complete_change_in}
-use Rattle.dcsctp_spec_lemmas.specs.spec.association.Acts.{Act, connect, t1_expires, shut_down, step_of_shutdown, shutdown_repeats, abort_with, hands_over, flushes, request_again, hand_over_change_in, flush_change, act_change, plain_change, shutdown_chunk_change}
-use Rattle.dcsctp_theorem_sockets.proofs.NoHolding.{HoldsNone, none-append, none-alone, none-flush, none-sent, none-request}
+use Rattle.dcsctp_spec_lemmas.specs.spec.association.Acts.{Act, connect, t1_expires, shut_down, step_of_shutdown, shutdown_repeats, abort_with, hands_over, flushes, request_again, request_renewed, hand_over_change_in, flush_change, act_change, plain_change, shutdown_chunk_change}
+use Rattle.dcsctp_theorem_sockets.proofs.NoHolding.{HoldsNone, none-append, none-alone, none-flush, none-sent, none-request, none-renewed}
 
 pub ended_none : (effects : List Effect) → HoldsNone effects → HoldsNone (effects ++ ends ∷ [])
 ended_none effects none = none-append effects (ends ∷ []) none (tt, tt)
@@ -53,6 +53,7 @@ echoed_act_none options my held cookie (abort_with reason) choices = aborts_none
 echoed_act_none options my held cookie hands_over choices = tt
 echoed_act_none options my held cookie flushes choices = none-sent held choices
 echoed_act_none options my held cookie (request_again reset) choices = none-request held held.own_outstanding reset choices.fits
+echoed_act_none options my held cookie (request_renewed reset) choices = none-renewed held held.own_outstanding reset choices.fits
 
 open_act_none : (options : Options) (phase : OpenPhase) (my : Pair) (held : Held) (act : Act) (choices : Choices) → HoldsNone (act_change options (open_in phase my held) act choices).effects
 open_act_none options phase my held connect choices = tt
@@ -65,6 +66,7 @@ open_act_none options phase my held (abort_with reason) choices = aborts_none he
 open_act_none options phase my held hands_over choices = hand_over_none phase my held
 open_act_none options phase my held flushes choices = none-sent held choices
 open_act_none options phase my held (request_again reset) choices = none-request held held.own_outstanding reset choices.fits
+open_act_none options phase my held (request_renewed reset) choices = none-renewed held held.own_outstanding reset choices.fits
 
 pub init_none : (options : Options) (core : Core) (theirs : Introduction) (phase : OpenPhase) (held : Held) (choices : Choices) → HoldsNone (init_change_where_open options core theirs phase held choices).effects
 init_none options core theirs shutdown_ack_sent held choices = (tt, tt)

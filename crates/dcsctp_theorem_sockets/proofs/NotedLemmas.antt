@@ -1,7 +1,7 @@
 -- What the noted past leaves, without its packets, is what the whole past leaves.
 use Rattle.std.proofs.Common.{◌≡◌, ℕ, ◌+◌, ◌-◌, ◌^◌, ◌≤◌, List, [], ◌∷◌, inl, inr, refl, subst, ap, ◌∙◌}
 use Rattle.dcsctp_spec_lemmas.specs.types.declared.association.Pair.{Pair}
-use Rattle.dcsctp_spec_lemmas.specs.spec.association.Effect.{Effect, draws, sends, holds, connects, ends, begins, completes, fails, accepts, performs, resumes, noted}
+use Rattle.dcsctp_spec_lemmas.specs.spec.association.Effect.{Effect, draws, sends, holds, connects, ends, begins, gives_up, completes, fails, accepts, performs, resumes, noted}
 use Rattle.dcsctp_spec_runs.specs.Past.{Has, Each, InPlace, current, unconnected, number_to_begin, outstanding, requests_begun, number_to_accept, number_to_perform, my_of, peer_of}
 use Rattle.dcsctp_theorem_association.specs.Agreement.{FindsPerformed}
 
@@ -17,6 +17,7 @@ current-noted (ends ∷ past) = refl
 current-noted (begins number ∷ past) = current-noted past
 current-noted (completes my number ∷ past) = current-noted past
 current-noted (fails number ∷ past) = current-noted past
+current-noted (gives_up number ∷ past) = current-noted past
 current-noted (accepts number ∷ past) = current-noted past
 current-noted (performs peer number ∷ past) = current-noted past
 current-noted (resumes link own last ∷ past) = refl
@@ -31,6 +32,7 @@ unconnected-noted (ends ∷ past) = refl
 unconnected-noted (begins number ∷ past) = unconnected-noted past
 unconnected-noted (completes my number ∷ past) = unconnected-noted past
 unconnected-noted (fails number ∷ past) = unconnected-noted past
+unconnected-noted (gives_up number ∷ past) = unconnected-noted past
 unconnected-noted (accepts number ∷ past) = unconnected-noted past
 unconnected-noted (performs peer number ∷ past) = unconnected-noted past
 unconnected-noted (resumes link own last ∷ past) = refl
@@ -45,6 +47,7 @@ number_to_begin-noted (ends ∷ past) = refl
 number_to_begin-noted (begins number ∷ past) = refl
 number_to_begin-noted (completes my number ∷ past) = number_to_begin-noted past
 number_to_begin-noted (fails number ∷ past) = number_to_begin-noted past
+number_to_begin-noted (gives_up number ∷ past) = number_to_begin-noted past
 number_to_begin-noted (accepts number ∷ past) = number_to_begin-noted past
 number_to_begin-noted (performs peer number ∷ past) = number_to_begin-noted past
 number_to_begin-noted (resumes link own last ∷ past) = refl
@@ -59,6 +62,7 @@ outstanding-noted (ends ∷ past) = refl
 outstanding-noted (begins number ∷ past) = refl
 outstanding-noted (completes my number ∷ past) = refl
 outstanding-noted (fails number ∷ past) = refl
+outstanding-noted (gives_up number ∷ past) = refl
 outstanding-noted (accepts number ∷ past) = outstanding-noted past
 outstanding-noted (performs peer number ∷ past) = outstanding-noted past
 outstanding-noted (resumes link own last ∷ past) = refl
@@ -73,6 +77,7 @@ number_to_accept-noted (ends ∷ past) = refl
 number_to_accept-noted (begins number ∷ past) = number_to_accept-noted past
 number_to_accept-noted (completes my number ∷ past) = number_to_accept-noted past
 number_to_accept-noted (fails number ∷ past) = number_to_accept-noted past
+number_to_accept-noted (gives_up number ∷ past) = number_to_accept-noted past
 number_to_accept-noted (accepts number ∷ past) = refl
 number_to_accept-noted (performs peer number ∷ past) = number_to_accept-noted past
 number_to_accept-noted (resumes link own last ∷ past) = refl
@@ -87,6 +92,7 @@ number_to_perform-noted (ends ∷ past) = refl
 number_to_perform-noted (begins number ∷ past) = number_to_perform-noted past
 number_to_perform-noted (completes my number ∷ past) = number_to_perform-noted past
 number_to_perform-noted (fails number ∷ past) = number_to_perform-noted past
+number_to_perform-noted (gives_up number ∷ past) = number_to_perform-noted past
 number_to_perform-noted (accepts number ∷ past) = refl
 number_to_perform-noted (performs peer number ∷ past) = refl
 number_to_perform-noted (resumes link own last ∷ past) = refl
@@ -101,6 +107,7 @@ requests_begun-noted (ends ∷ past) = refl
 requests_begun-noted (begins number ∷ past) = ap (λ (n : ℕ). n + 1) (requests_begun-noted past)
 requests_begun-noted (completes my number ∷ past) = requests_begun-noted past
 requests_begun-noted (fails number ∷ past) = requests_begun-noted past
+requests_begun-noted (gives_up number ∷ past) = requests_begun-noted past
 requests_begun-noted (accepts number ∷ past) = requests_begun-noted past
 requests_begun-noted (performs peer number ∷ past) = requests_begun-noted past
 requests_begun-noted (resumes link own last ∷ past) = refl
@@ -117,6 +124,7 @@ in_place-noted (ends ∷ past) each = (tt, in_place-noted past each.1)
 in_place-noted (begins number ∷ past) each = ((number_to_begin-noted past ∙ each.0.0, outstanding-noted past ∙ each.0.1), in_place-noted past each.1)
 in_place-noted (completes my number ∷ past) each = ((outstanding-noted past ∙ each.0.0, ap my_of (current-noted past) ∙ each.0.1), in_place-noted past each.1)
 in_place-noted (fails number ∷ past) each = (outstanding-noted past ∙ each.0, in_place-noted past each.1)
+in_place-noted (gives_up number ∷ past) each = (outstanding-noted past ∙ each.0, in_place-noted past each.1)
 in_place-noted (accepts number ∷ past) each = (number_to_accept-noted past ∙ each.0, in_place-noted past each.1)
 in_place-noted (performs peer number ∷ past) each = ((number_to_perform-noted past ∙ each.0.0, ap peer_of (current-noted past) ∙ each.0.1), in_place-noted past each.1)
 in_place-noted (resumes link own last ∷ past) each = (current-noted past ∙ each.0, in_place-noted past each.1)
@@ -140,7 +148,9 @@ performs_noted my number (begins other ∷ past) (inr has) = inr (performs_noted
 performs_noted my number (completes mine other ∷ past) (inl is) = inl is
 performs_noted my number (completes mine other ∷ past) (inr has) = inr (performs_noted my number past has)
 performs_noted my number (fails other ∷ past) (inl is) = inl is
+performs_noted my number (gives_up other ∷ past) (inl is) = inl is
 performs_noted my number (fails other ∷ past) (inr has) = inr (performs_noted my number past has)
+performs_noted my number (gives_up other ∷ past) (inr has) = inr (performs_noted my number past has)
 performs_noted my number (accepts other ∷ past) (inl is) = inl is
 performs_noted my number (accepts other ∷ past) (inr has) = inr (performs_noted my number past has)
 performs_noted my number (performs peer other ∷ past) (inl is) = inl is
@@ -159,6 +169,7 @@ performed-noted theirs (begins number ∷ mine) each = (tt, performed-noted thei
 performed-noted theirs (completes my number ∷ mine) each =
     ((λ few. performs_noted my number theirs (each.0 (subst (λ (n : ℕ). n ≤ 2 ^ 32 - 1) (requests_begun-noted mine) few))), performed-noted theirs mine each.1)
 performed-noted theirs (fails number ∷ mine) each = (tt, performed-noted theirs mine each.1)
+performed-noted theirs (gives_up number ∷ mine) each = (tt, performed-noted theirs mine each.1)
 performed-noted theirs (accepts number ∷ mine) each = (tt, performed-noted theirs mine each.1)
 performed-noted theirs (performs peer number ∷ mine) each = (tt, performed-noted theirs mine each.1)
 performed-noted theirs (resumes link own last ∷ mine) each = (tt, performed-noted theirs mine each.1)

@@ -2,7 +2,7 @@
 use Rattle.std.proofs.Common.{◌≡◌, List, [], ◌∷◌, inl, refl, sym, subst, ◌∙◌}
 use Rattle.dcsctp_spec_lemmas.specs.types.declared.options.Options.{Options}
 use Rattle.dcsctp_spec_lemmas.specs.spec.endpoint.Endpoint.{Endpoint, Core, closed, cookie_wait, cookie_echoed, open_in, fresh_endpoint}
-use Rattle.dcsctp_spec_lemmas.specs.spec.association.Effect.{Effect, draws, sends, holds, connects, ends, begins, completes, fails, accepts, performs, resumes, noted, Change, link_in}
+use Rattle.dcsctp_spec_lemmas.specs.spec.association.Effect.{Effect, draws, sends, holds, connects, ends, begins, gives_up, completes, fails, accepts, performs, resumes, noted, Change, link_in}
 use Rattle.dcsctp_spec_lemmas.specs.spec.endpoint.CallTurns.{Turned}
 use Rattle.dcsctp_spec_runs.specs.Past.{Has, Each, current}
 use Rattle.dcsctp_spec_runs.specs.World.{SideState, after_effects, after_changes, ControlTurns, SideRun, side_after}
@@ -33,6 +33,7 @@ none_is_anew (sends packet ∷ effects) past none each = none_is_anew effects (s
 none_is_anew (connects link ∷ effects) past none each = none_is_anew effects (connects link ∷ past) none.1 (tt, each)
 none_is_anew (ends ∷ effects) past none each = none_is_anew effects (ends ∷ past) none.1 (tt, each)
 none_is_anew (begins number ∷ effects) past none each = none_is_anew effects (begins number ∷ past) none.1 (tt, each)
+none_is_anew (gives_up number ∷ effects) past none each = none_is_anew effects (gives_up number ∷ past) none.1 (tt, each)
 none_is_anew (completes my number ∷ effects) past none each = none_is_anew effects (completes my number ∷ past) none.1 (tt, each)
 none_is_anew (fails number ∷ effects) past none each = none_is_anew effects (fails number ∷ past) none.1 (tt, each)
 none_is_anew (accepts number ∷ effects) past none each = none_is_anew effects (accepts number ∷ past) none.1 (tt, each)
@@ -77,6 +78,7 @@ anew-noted (holds link ∷ past) each = (λ same. each.0 (sym (current-noted pas
 anew-noted (connects link ∷ past) each = (tt, anew-noted past each.1)
 anew-noted (ends ∷ past) each = (tt, anew-noted past each.1)
 anew-noted (begins number ∷ past) each = (tt, anew-noted past each.1)
+anew-noted (gives_up number ∷ past) each = (tt, anew-noted past each.1)
 anew-noted (completes my number ∷ past) each = (tt, anew-noted past each.1)
 anew-noted (fails number ∷ past) each = (tt, anew-noted past each.1)
 anew-noted (accepts number ∷ past) each = (tt, anew-noted past each.1)

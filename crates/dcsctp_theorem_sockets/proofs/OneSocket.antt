@@ -12,7 +12,7 @@ use Rattle.dcsctp_spec_lemmas.specs.spec.endpoint.OwnTimers.{timer_act}
 use Rattle.dcsctp_spec_laws.proofs.HeartbeatLemmas.{timer_controlled}
 use Rattle.dcsctp_spec_lemmas.specs.spec.endpoint.Turn.{Input, arrival, refusal, packet_begins, chunk_input, packet_ends, act_input, user_sets, user_sends, user_resets, user_takes, timer_expires, time_passes, restores, has_data}
 use Rattle.dcsctp_spec_lemmas.specs.spec.endpoint.HandshakeOutcomes.{pair_from, renewed_pair, renewed_outcome, init_ack_emission, init_outcome}
-use Rattle.dcsctp_spec_lemmas.specs.spec.association.Effect.{Effect, draws, sends, holds, connects, ends, begins, completes, fails, accepts, performs, resumes, noted, Change}
+use Rattle.dcsctp_spec_lemmas.specs.spec.association.Effect.{Effect, draws, sends, holds, connects, ends, begins, gives_up, completes, fails, accepts, performs, resumes, noted, Change}
 use Rattle.dcsctp_spec_lemmas.specs.spec.association.Acts.{Act, shutdown_repeats, flushes}
 use Rattle.dcsctp_spec_lemmas.specs.spec.association.Controlled.{ControlledChunk, ControlledAct}
 use Rattle.dcsctp_spec_lemmas.specs.spec.endpoint.CallTurns.{Turned, IsTurn, AlongTurns}
@@ -49,7 +49,9 @@ noted_happened effect (connects link ∷ effects) (inr has) = inr (noted_happene
 noted_happened effect (ends ∷ effects) (inl is) = inl is
 noted_happened effect (ends ∷ effects) (inr has) = inr (noted_happened effect effects has)
 noted_happened effect (begins number ∷ effects) (inl is) = inl is
+noted_happened effect (gives_up number ∷ effects) (inl is) = inl is
 noted_happened effect (begins number ∷ effects) (inr has) = inr (noted_happened effect effects has)
+noted_happened effect (gives_up number ∷ effects) (inr has) = inr (noted_happened effect effects has)
 noted_happened effect (completes my number ∷ effects) (inl is) = inl is
 noted_happened effect (completes my number ∷ effects) (inr has) = inr (noted_happened effect effects has)
 noted_happened effect (fails number ∷ effects) (inl is) = inl is

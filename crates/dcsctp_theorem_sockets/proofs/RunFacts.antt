@@ -19,7 +19,7 @@ use Rattle.dcsctp_spec_lemmas.specs.spec.endpoint.Outcome.{Outcome, still}
 use Rattle.dcsctp_spec_lemmas.specs.spec.endpoint.Following.{Following, next_chunk}
 use Rattle.dcsctp_spec_lemmas.specs.spec.endpoint.Turn.{Input, arrival, packet_begins, chunk_input, packet_ends, act_input, has_data, BeginTurn, ContentTurn, arrival_outcome}
 use Rattle.dcsctp_spec_lemmas.specs.spec.endpoint.CallTurns.{Turned, turned, Turns, AfterChunk, ChunkTurns, WholeTurns, AdmittedTurns, HandleInput, readable}
-use Rattle.dcsctp_spec_lemmas.specs.spec.association.Effect.{Link, link_of, Effect, draws, holds, connects, begins, completes, accepts, performs}
+use Rattle.dcsctp_spec_lemmas.specs.spec.association.Effect.{Link, link_of, Effect, draws, holds, connects, begins, gives_up, completes, accepts, performs}
 use Rattle.dcsctp_spec_lemmas.specs.spec.association.Acts.{connect}
 use Rattle.dcsctp_spec_lemmas.specs.spec.Admission.{Admission, all_chunks, admits}
 use Rattle.dcsctp_spec_runs.specs.Past.{Each, InPlace}
@@ -68,6 +68,21 @@ left_out e link each = let same : Some 2 ≡ Some 3 = each.0.0 in absurd (cc)
 -- and so is one that begins while another is outstanding.
 while_outstanding : (e : Endpoint) (link : Link) → Each InPlace (noted_past (connected_with (record link { my = mine }) e ++ noted_by e (act_input connect) (begins 2 ∷ []) ∷ [])) → ⊥
 while_outstanding e link each = let same : Some 1 ≡ None = each.0.1 in absurd (cc)
+
+-- The next number takes the place of one that is given up,
+given_up : (e : Endpoint) (link : Link) → Each InPlace (noted_past (connected_with (record link { my = mine }) e
+    ++ noted_by e (act_input connect) (gives_up 1 ∷ begins 2 ∷ []) ∷ noted_by e (answered 2) (completes mine 2 ∷ []) ∷ []))
+given_up e link = ((refl, refl), ((refl, refl), (refl, ((refl, refl), (refl, (tt, (tt, tt)))))))
+
+-- which has no end then.
+ended_given_up : (e : Endpoint) (link : Link) → Each InPlace (noted_past (connected_with (record link { my = mine }) e
+    ++ noted_by e (act_input connect) (gives_up 1 ∷ begins 2 ∷ []) ∷ noted_by e (answered 1) (completes mine 1 ∷ []) ∷ [])) → ⊥
+ended_given_up e link each = let same : Some 2 ≡ Some 1 = each.0.0 in absurd (cc)
+
+-- One that has ended isn't given up.
+given_up_late : (e : Endpoint) (link : Link) → Each InPlace (noted_past (connected_with (record link { my = mine }) e
+    ++ noted_by e (answered 1) (completes mine 1 ∷ []) ∷ noted_by e (act_input connect) (gives_up 1 ∷ begins 2 ∷ []) ∷ [])) → ⊥
+given_up_late e link each = let same : None ≡ Some 1 = each.1.0 in absurd (cc)
 
 -- The peer's request 5 is accepted and performed,
 one_performance : (e : Endpoint) (link : Link)

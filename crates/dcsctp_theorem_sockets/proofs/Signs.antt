@@ -2,7 +2,7 @@
 use Rattle.std.proofs.Common.{◌≡◌, List, [], ◌∷◌, ◌⊎◌, inl, inr, refl, subst}
 use Rattle.dcsctp_spec_lemmas.specs.spec.endpoint.Event.{Event, sent, connected, closed, connection_restarted, aborted, error, buffered_amount_low, total_buffered_amount_low, streams_reset_failed, streams_reset_performed, incoming_stream_reset, lifecycle_message_fully_sent, lifecycle_message_maybe_expired, lifecycle_message_expired, lifecycle_message_delivered, lifecycle_end}
 use Rattle.dcsctp_spec_lemmas.specs.spec.Packet.{Packet, Emission}
-use Rattle.dcsctp_spec_lemmas.specs.spec.association.Effect.{Link, Effect, draws, sends, holds, connects, ends, begins, completes, fails, accepts, performs, resumes}
+use Rattle.dcsctp_spec_lemmas.specs.spec.association.Effect.{Link, Effect, draws, sends, holds, connects, ends, begins, gives_up, completes, fails, accepts, performs, resumes}
 use Rattle.dcsctp_spec_lemmas.specs.spec.association.Controlled.{Sign, packet_sent, has_connected, has_ended, own_reset_performed, own_reset_failed, peer_reset_performed, signs_of_events, signs_of_effects}
 use Rattle.dcsctp_spec_runs.specs.Past.{Has}
 use Rattle.dcsctp_spec_runs.specs.World.{after_effects}
@@ -68,6 +68,7 @@ shown_is_effect packet (connects link ∷ effects) (inr shown) = inr (shown_is_e
 shown_is_effect packet (ends ∷ effects) (inl is) = absurd (cc)
 shown_is_effect packet (ends ∷ effects) (inr shown) = inr (shown_is_effect packet effects shown)
 shown_is_effect packet (begins number ∷ effects) shown = inr (shown_is_effect packet effects shown)
+shown_is_effect packet (gives_up number ∷ effects) shown = inr (shown_is_effect packet effects shown)
 shown_is_effect packet (completes my number ∷ effects) (inl is) = absurd (cc)
 shown_is_effect packet (completes my number ∷ effects) (inr shown) = inr (shown_is_effect packet effects shown)
 shown_is_effect packet (fails number ∷ effects) (inl is) = absurd (cc)
@@ -123,6 +124,7 @@ shown_connects (connects link ∷ effects) shown = (link, inl refl)
 shown_connects (ends ∷ effects) (inl is) = absurd (cc)
 shown_connects (ends ∷ effects) (inr shown) = behind ends effects (shown_connects effects shown)
 shown_connects (begins number ∷ effects) shown = behind (begins number) effects (shown_connects effects shown)
+shown_connects (gives_up number ∷ effects) shown = behind (gives_up number) effects (shown_connects effects shown)
 shown_connects (completes my number ∷ effects) (inl is) = absurd (cc)
 shown_connects (completes my number ∷ effects) (inr shown) = behind (completes my number) effects (shown_connects effects shown)
 shown_connects (fails number ∷ effects) (inl is) = absurd (cc)

@@ -12,7 +12,7 @@ use Rattle.dcsctp_spec_lemmas.specs.spec.endpoint.Endpoint.{Endpoint, fresh_endp
 use Rattle.dcsctp_spec_lemmas.specs.spec.endpoint.Outcome.{Outcome, contents_len}
 use Rattle.dcsctp_spec_lemmas.specs.spec.endpoint.Turn.{Input, arrival, refusal, packet_begins, chunk_input, packet_ends, act_input, user_sets, user_sends, user_resets, user_takes, timer_expires, time_passes, restores, has_data, ContentTurn, ActTurn}
 use Rattle.dcsctp_spec_lemmas.specs.spec.endpoint.TimerOutcomes.{t1_goes_on}
-use Rattle.dcsctp_spec_lemmas.specs.spec.association.Acts.{Act, connect, t1_expires, shut_down, step_of_shutdown, shutdown_repeats, abort_with, hands_over, flushes, request_again}
+use Rattle.dcsctp_spec_lemmas.specs.spec.association.Acts.{Act, connect, t1_expires, shut_down, step_of_shutdown, shutdown_repeats, abort_with, hands_over, flushes, request_again, request_renewed}
 use Rattle.dcsctp_spec_lemmas.specs.spec.endpoint.CallTurns.{Turned, IsTurn, AlongTurns, events_of}
 use Rattle.dcsctp_spec_runs.specs.Sockets.{of_side, turns_after}
 use Rattle.dcsctp_spec_runs.proofs.RunsAlong.{run_along_where}
@@ -52,6 +52,7 @@ act_sizes limit e (abort_with reason) o may turn h = subst (TurnSizes limit) (sy
 act_sizes limit e hands_over o may turn h = hand_over_sizes limit e o turn h
 act_sizes limit e flushes o may turn h = flush_turn_sizes limit e o turn h
 act_sizes limit e (request_again reset) o may turn h = absurd may
+act_sizes limit e (request_renewed reset) o may turn h = absurd may
 
 abbrev KeepsSize : ℕ → Endpoint → Turned → Type 0
 KeepsSize limit e t = AtLimit limit e → TurnSizes limit t.outcome

@@ -37,7 +37,7 @@ short_append limit (event ∷ events) more each others = short_append limit even
 
 -- ---- one packet, if it fits
 
-packet_sizes : (b : Bool) (limit : ℕ) (e : Endpoint) (words : List Word) (emission : Emission) → fits e emission ≡ b → AtLimit limit e → TurnSizes limit (cond b (sends e words [] emission) (quiet e words []))
+pub packet_sizes : (b : Bool) (limit : ℕ) (e : Endpoint) (words : List Word) (emission : Emission) → fits e emission ≡ b → AtLimit limit e → TurnSizes limit (cond b (sends e words [] emission) (quiet e words []))
 packet_sizes true limit e words emission is h =
     let within : 12 + contents_len emission.packet.contents ≤ packet_size_limit e.options = grind (arith, nat_tests, is) in
     (h, (omega (arith, within, h.0), tt))

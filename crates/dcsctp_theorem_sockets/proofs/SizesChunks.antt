@@ -1,5 +1,5 @@
 -- Chunks that speak of no association, RE-CONFIG, and timers send no packet that is longer than a limit.
-use Rattle.std.proofs.Common.{◌==◌, ◌≡◌, ◌≤◌, ◌+◌, ◌-◌, ℕ, Bool, true, false, cond, Option, None, Some, List, [], ◌∷◌, ◌++◌, length, take, sym, subst, arith, length-append}
+use Rattle.std.proofs.Common.{◌==◌, ◌≡◌, ◌≤◌, ◌+◌, ◌-◌, ℕ, Bool, true, false, cond, Option, None, Some, List, [], ◌∷◌, ◌++◌, length, take, refl, sym, subst, arith, length-append}
 use Rattle.std.proofs.lemmas.List.{length-take, length-replicate}
 use Rattle.dcsctp_spec_lemmas.specs.wire.Content.{ParameterContent, data_chunk, sack_chunk, error_chunk, i_data_chunk, forward_tsn_chunk, i_forward_tsn_chunk, unrecognized_chunk_type}
 use Rattle.dcsctp_spec_lemmas.specs.wire.Format.{padding_of}
@@ -12,11 +12,11 @@ use Rattle.dcsctp_spec_lemmas.specs.types.declared.options.Options.{Options}
 use Rattle.dcsctp_spec_lemmas.specs.spec.endpoint.Cause.{Cause}
 use Rattle.dcsctp_spec_lemmas.specs.types.Settings.{packet_size_limit}
 use Rattle.dcsctp_spec_lemmas.specs.spec.endpoint.Event.{Event}
-use Rattle.dcsctp_spec_lemmas.specs.spec.Packet.{Plain, plain, unknown, heartbeat, heartbeat_ack, unworked, error_of, chunk_out, re_config, Emission}
+use Rattle.dcsctp_spec_lemmas.specs.spec.Packet.{Plain, plain, unknown, heartbeat, heartbeat_ack, unworked, error_of, chunk_out, Content, re_config, Emission}
 use Rattle.dcsctp_spec_lemmas.specs.spec.Reconfiguration.{RequestedReset, ResetParameter}
 use Rattle.dcsctp_spec_lemmas.specs.spec.queues.Arrivals.{data_arrival, i_data_arrival, skipped_in, messages_skipped_in}
 use Rattle.dcsctp_spec_lemmas.specs.spec.endpoint.Endpoint.{Endpoint, Core, closed, cookie_wait, cookie_echoed, open_in, OutstandingRequest, held_in}
-use Rattle.dcsctp_spec_lemmas.specs.spec.endpoint.Outcome.{Outcome, contents_len, still, to_peer}
+use Rattle.dcsctp_spec_lemmas.specs.spec.endpoint.Outcome.{Outcome, contents_len, still, fits, to_peer}
 use Rattle.dcsctp_spec_lemmas.specs.spec.association.Effect.{Effect}
 use Rattle.dcsctp_spec_lemmas.specs.spec.association.FlushChanges.{reset_request}
 use Rattle.dcsctp_spec_lemmas.specs.spec.association.ResetChanges.{WorkedParameters}
@@ -24,10 +24,10 @@ use Rattle.dcsctp_spec_lemmas.specs.spec.endpoint.FlushOutcomes.{Answer, draft_t
 use Rattle.dcsctp_spec_lemmas.specs.spec.endpoint.HeartbeatOutcomes.{heartbeat_outcome, info_in, counter_of, answered, heartbeat_ack_outcome, interval_expired, beating, heartbeat_emission, beat, interval_outcome, is_exhausted}
 use Rattle.dcsctp_spec_lemmas.specs.spec.endpoint.OwnTimers.{OwnTimer, acknowledgement_delay, retransmission, heartbeat_interval, heartbeat_timeout, reconfiguration, TimerTurn}
 use Rattle.dcsctp_spec_lemmas.specs.spec.endpoint.PlainOutcomes.{PlainTurn, PlainTurnBy, violation_at, is_reported, after_unknown, unknown_bytes, unknown_error, unknown_told, error_outcome}
-use Rattle.dcsctp_spec_lemmas.specs.spec.endpoint.ReconfigurationOutcomes.{reset_again, request_emitted, request_unless, request_errors, request_expired, reconfiguration_outcome}
+use Rattle.dcsctp_spec_lemmas.specs.spec.endpoint.ReconfigurationOutcomes.{reset_again, request_emitted, renewed_where, request_renewed, request_unless, is_renewed, request_errors, request_expired, reconfiguration_outcome}
 use Rattle.dcsctp_spec_lemmas.specs.spec.endpoint.ResetOutcomes.{requested_in, is_reached, worked_in, OwnAnswer, answered_in, reset_events, told_of, resets_worked, responses_outcome, responses_by, ResponseAnswers, WorksResets, ResetTurn}
 use Rattle.dcsctp_spec_laws.proofs.ResetLemmas.{AreResets, nothing, acceptance, performance, completion, failure, chunk_brings, worked_keeps}
-use Rattle.dcsctp_theorem_sockets.proofs.Sizes.{AtLimit, AllShort, TurnSizes, short_append, emits_sizes, flush_sizes}
+use Rattle.dcsctp_theorem_sockets.proofs.Sizes.{AtLimit, AllShort, TurnSizes, short_append, packet_sizes, emits_sizes, flush_sizes}
 use Rattle.dcsctp_theorem_sockets.proofs.SizesData.{data_sizes, forward_sizes, sack_sizes, delay_sizes, loss_sizes}
 use Rattle.dcsctp_theorem_sockets.proofs.SizesTurns.{aborting_sizes}
 
@@ -99,15 +99,26 @@ request_sizes : (limit : ℕ) (e : Endpoint) (held : Held) (number : Option ℕ)
 request_sizes limit e held None reset h = (h, tt)
 request_sizes limit e held (Some number) reset h = emits_sizes limit e [] (to_peer held (reset_request number reset)) h
 
-unless_sizes : (b : Bool) (limit : ℕ) (e : Endpoint) (held : Held) (reset : RequestedReset) → AtLimit limit e → TurnSizes limit (request_unless b e held reset)
-unless_sizes true limit e held reset h = (h, tt)
-unless_sizes false limit e held reset h = request_sizes limit e held held.own_outstanding reset h
+renewed_sizes : (b : Bool) (limit : ℕ) (e : Endpoint) (held : Held) (number : ℕ) (request : Content) → fits e (to_peer held request) ≡ b → AtLimit limit e
+    → TurnSizes limit (renewed_where b e held number request)
+renewed_sizes true limit e held number request is h = packet_sizes true limit e [] (to_peer held request) is h
+renewed_sizes false limit e held number request is h = (h, tt)
+
+anew_sizes : (limit : ℕ) (e : Endpoint) (held : Held) (number : Option ℕ) (reset : RequestedReset) → AtLimit limit e → TurnSizes limit (request_renewed e held number reset)
+anew_sizes limit e held None reset h = (h, tt)
+anew_sizes limit e held (Some number) reset h =
+    renewed_sizes (fits e (to_peer held (reset_request held.own_next reset))) limit e held number (reset_request held.own_next reset) refl h
+
+unless_sizes : (b is_new : Bool) (limit : ℕ) (e : Endpoint) (held : Held) (reset : RequestedReset) → AtLimit limit e → TurnSizes limit (request_unless b is_new e held reset)
+unless_sizes true is_new limit e held reset h = (h, tt)
+unless_sizes false false limit e held reset h = request_sizes limit e held held.own_outstanding reset h
+unless_sizes false true limit e held reset h = anew_sizes limit e held held.own_outstanding reset h
 
 reconfiguration_sizes : (limit : ℕ) (e : Endpoint) (peer : Option Held) (request : Option OutstandingRequest) → AtLimit limit e → TurnSizes limit (reconfiguration_outcome e peer request)
 reconfiguration_sizes limit e None request h = (h, tt)
 reconfiguration_sizes limit e (Some held) None h = (h, tt)
 reconfiguration_sizes limit e (Some held) (Some request) h =
-    unless_sizes (is_exhausted e.options.max_retransmissions (request_errors e request)) limit (request_expired e request) held (reset_again (Some request)) h
+    unless_sizes (is_exhausted e.options.max_retransmissions (request_errors e request)) (is_renewed e (Some request)) limit (request_expired e request) held (reset_again (Some request)) h
 
 -- ---- each timer
 

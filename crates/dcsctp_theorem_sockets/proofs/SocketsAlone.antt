@@ -12,7 +12,7 @@ use Rattle.dcsctp_spec_laws.proofs.HeartbeatLemmas.{timer_controlled}
 use Rattle.dcsctp_spec_lemmas.specs.spec.endpoint.Turn.{Input, arrival, refusal, packet_begins, chunk_input, packet_ends, act_input, user_sets, user_sends, user_resets, user_takes, timer_expires, time_passes, restores, has_data}
 use Rattle.dcsctp_spec_lemmas.specs.spec.association.Effect.{Effect, noted, Change}
 use Rattle.dcsctp_spec_lemmas.specs.spec.association.Choices.{Choices}
-use Rattle.dcsctp_spec_lemmas.specs.spec.association.Acts.{Act, connect, t1_expires, shut_down, step_of_shutdown, shutdown_repeats, abort_with, hands_over, flushes, request_again, act_change, chunk_change}
+use Rattle.dcsctp_spec_lemmas.specs.spec.association.Acts.{Act, connect, t1_expires, shut_down, step_of_shutdown, shutdown_repeats, abort_with, hands_over, flushes, request_again, request_renewed, act_change, chunk_change}
 use Rattle.dcsctp_spec_lemmas.specs.spec.association.Controlled.{IsControlled, ControlledChunk, ControlledAct}
 use Rattle.dcsctp_spec_lemmas.specs.spec.endpoint.CallTurns.{Turned, IsTurn, AlongTurns, after_all, effects_of}
 use Rattle.dcsctp_spec_laws.specs.TurnLaws.{ChunksAreControlled, ActsAreControlled}
@@ -106,6 +106,7 @@ longest_acts p n core (abort_with reason) choices = refl
 longest_acts p n core hands_over choices = refl
 longest_acts p n core flushes choices = refl
 longest_acts p n core (request_again reset) choices = refl
+longest_acts p n core (request_renewed reset) choices = refl
 
 longest_turns : (p : Options) (n : ℕ) (core : Core) (change : Change) → ControlTurn (record p { max_message_size = n }) core change → ControlTurn p core change
 longest_turns p n core change (acted act choices is) = acted act choices (is ∙ longest_acts p n core act choices)

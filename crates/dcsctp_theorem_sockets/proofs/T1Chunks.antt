@@ -2,7 +2,7 @@
 use Rattle.std.proofs.Common.{◌==◌, ℕ, Bool, true, false, cond, Option, None, Some, List, [], sym, subst}
 use Rattle.dcsctp_spec_lemmas.specs.types.declared.ends.Violation.{Violation}
 use Rattle.dcsctp_spec_lemmas.specs.types.declared.ends.AbortReason.TheVariants as reasons
-use Rattle.dcsctp_spec_lemmas.specs.spec.Packet.{Plain, plain, unknown, heartbeat, heartbeat_ack, unworked, Emission}
+use Rattle.dcsctp_spec_lemmas.specs.spec.Packet.{Plain, plain, unknown, heartbeat, heartbeat_ack, unworked, Content, Emission}
 use Rattle.dcsctp_spec_lemmas.specs.spec.endpoint.Endpoint.{Endpoint, Core, closed, cookie_wait, cookie_echoed, open_in, OutstandingRequest, held_in}
 use Rattle.dcsctp_spec_lemmas.specs.spec.endpoint.Outcome.{Outcome, still, quiet, sends, fits, to_peer}
 use Rattle.dcsctp_spec_lemmas.specs.types.declared.association.Held.{Held}
@@ -10,11 +10,12 @@ use Rattle.dcsctp_spec_lemmas.specs.spec.endpoint.Cause.{Cause}
 use Rattle.dcsctp_spec_lemmas.specs.wire.Content.{ParameterContent, data_chunk, sack_chunk, error_chunk, i_data_chunk, forward_tsn_chunk, i_forward_tsn_chunk}
 use Rattle.dcsctp_spec_lemmas.specs.spec.endpoint.HeartbeatOutcomes.{heartbeat_outcome, info_in, counter_of, answered, heartbeat_ack_outcome, interval_expired, beating, heartbeat_emission, beat, interval_outcome, is_exhausted}
 use Rattle.dcsctp_spec_lemmas.specs.spec.endpoint.OwnTimers.{OwnTimer, acknowledgement_delay, retransmission, heartbeat_interval, heartbeat_timeout, reconfiguration, TimerTurn}
-use Rattle.dcsctp_spec_lemmas.specs.spec.endpoint.ReconfigurationOutcomes.{reset_again, request_emitted, request_unless, request_errors, request_expired, reconfiguration_outcome}
+use Rattle.dcsctp_spec_lemmas.specs.spec.endpoint.ReconfigurationOutcomes.{reset_again, request_emitted, renewed_where, request_renewed, request_unless, is_renewed, request_errors, request_expired, reconfiguration_outcome}
 use Rattle.dcsctp_spec_lemmas.specs.spec.Reconfiguration.{RequestedReset}
 use Rattle.dcsctp_spec_lemmas.specs.spec.association.FlushChanges.{reset_request}
 use Rattle.dcsctp_spec_lemmas.specs.spec.endpoint.PlainOutcomes.{PlainTurn, PlainTurnBy, violation_at, is_reported, after_unknown, unknown_bytes, unknown_told, error_outcome}
 use Rattle.dcsctp_spec_lemmas.specs.spec.queues.Arrivals.{data_arrival, i_data_arrival, skipped_in, messages_skipped_in}
+use Rattle.dcsctp_theorem_sockets.proofs.BegunSends.{asking_runs}
 use Rattle.dcsctp_theorem_sockets.proofs.T1Data.{data_up, forward_up, sack_up, delay_up, loss_up}
 use Rattle.dcsctp_theorem_sockets.proofs.T1Turns.{Up, UpAfter, aborting_up}
 
@@ -69,15 +70,24 @@ request_up : (e : Endpoint) (held : Held) (number : Option ℕ) (reset : Request
 request_up e held None reset h = h
 request_up e held (Some number) reset h = sent_up (fits e (to_peer held (reset_request number reset))) e (to_peer held (reset_request number reset)) h
 
-unless_up : (b : Bool) (e : Endpoint) (held : Held) (reset : RequestedReset) → Up e → UpAfter (request_unless b e held reset)
-unless_up true e held reset h = h
-unless_up false e held reset h = request_up e held held.own_outstanding reset h
+renewed_up : (b : Bool) (e : Endpoint) (held : Held) (number : ℕ) (request : Content) → Up e → UpAfter (renewed_where b e held number request)
+renewed_up true e held number request h = asking_runs e.core e.timers.t1 h
+renewed_up false e held number request h = h
+
+anew_up : (e : Endpoint) (held : Held) (number : Option ℕ) (reset : RequestedReset) → Up e → UpAfter (request_renewed e held number reset)
+anew_up e held None reset h = h
+anew_up e held (Some number) reset h = renewed_up (fits e (to_peer held (reset_request held.own_next reset))) e held number (reset_request held.own_next reset) h
+
+unless_up : (b is_new : Bool) (e : Endpoint) (held : Held) (reset : RequestedReset) → Up e → UpAfter (request_unless b is_new e held reset)
+unless_up true is_new e held reset h = h
+unless_up false false e held reset h = request_up e held held.own_outstanding reset h
+unless_up false true e held reset h = anew_up e held held.own_outstanding reset h
 
 reconfiguration_up : (e : Endpoint) (peer : Option Held) (request : Option OutstandingRequest) → Up e → UpAfter (reconfiguration_outcome e peer request)
 reconfiguration_up e None request h = h
 reconfiguration_up e (Some held) None h = h
 reconfiguration_up e (Some held) (Some request) h =
-    unless_up (is_exhausted e.options.max_retransmissions (request_errors e request)) (request_expired e request) held (reset_again (Some request)) h
+    unless_up (is_exhausted e.options.max_retransmissions (request_errors e request)) (is_renewed e (Some request)) (request_expired e request) held (reset_again (Some request)) h
 
 -- ---- each timer
 

@@ -7,7 +7,7 @@ use Rattle.dcsctp_spec_lemmas.specs.spec.endpoint.Timers.{going_on}
 use Rattle.dcsctp_spec_lemmas.specs.spec.endpoint.Outcome.{Outcome}
 use Rattle.dcsctp_spec_lemmas.specs.spec.endpoint.Turn.{Input, arrival, refusal, packet_begins, chunk_input, packet_ends, act_input, user_sets, user_sends, user_resets, user_takes, timer_expires, time_passes, restores, has_data, ContentTurn, ActTurn}
 use Rattle.dcsctp_spec_lemmas.specs.spec.endpoint.TimerOutcomes.{t1_goes_on}
-use Rattle.dcsctp_spec_lemmas.specs.spec.association.Acts.{Act, connect, t1_expires, shut_down, step_of_shutdown, shutdown_repeats, abort_with, hands_over, flushes, request_again}
+use Rattle.dcsctp_spec_lemmas.specs.spec.association.Acts.{Act, connect, t1_expires, shut_down, step_of_shutdown, shutdown_repeats, abort_with, hands_over, flushes, request_again, request_renewed}
 use Rattle.dcsctp_spec_lemmas.specs.spec.endpoint.CallTurns.{Turned, IsTurn, AlongTurns, after_all}
 use Rattle.dcsctp_spec_runs.specs.Sockets.{of_side, turns_after}
 use Rattle.dcsctp_spec_laws.proofs.AlongLemmas.{MayCome}
@@ -28,6 +28,7 @@ use Rattle.dcsctp_theorem_sockets.proofs.T1Data.{flush_turn_up, end_up, take_up,
 -- an act that a call or a timer brings
 abbrev pub IsMade : Act → Type 0
 IsMade (request_again reset) = ⊥
+IsMade (request_renewed reset) = ⊥
 IsMade act = Unit {0}
 
 abbrev pub MayBe : Input → Type 0
@@ -86,6 +87,7 @@ act_up e (abort_with reason) o may turn h = subst UpAfter (sym turn) (aborting_u
 act_up e hands_over o may turn h = hand_over_up e o turn h
 act_up e flushes o may turn h = flush_turn_up e o turn h
 act_up e (request_again reset) o may turn h = absurd may
+act_up e (request_renewed reset) o may turn h = absurd may
 
 turn_up : (e : Endpoint) (input : Input) (t : Turned) → MayBe input → IsTurn e input t → KeepsUp e t
 turn_up e arrival t may turn h = subst UpAfter (sym turn.comes) h

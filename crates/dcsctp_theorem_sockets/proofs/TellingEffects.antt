@@ -7,7 +7,7 @@ use Rattle.dcsctp_spec_lemmas.specs.spec.endpoint.Event.{Event, sent, connected,
 use Rattle.dcsctp_spec_lemmas.specs.spec.Packet.{Emission}
 use Rattle.dcsctp_spec_lemmas.specs.spec.endpoint.Endpoint.{Endpoint, Core, cookie_wait, cookie_echoed, open_in, fresh_endpoint}
 use Rattle.dcsctp_spec_lemmas.specs.spec.endpoint.Endpoint as machine
-use Rattle.dcsctp_spec_lemmas.specs.spec.association.Effect.{Effect, draws, sends, holds, connects, ends, begins, completes, fails, accepts, performs, resumes, noted}
+use Rattle.dcsctp_spec_lemmas.specs.spec.association.Effect.{Effect, draws, sends, holds, connects, ends, begins, gives_up, completes, fails, accepts, performs, resumes, noted}
 use Rattle.dcsctp_spec_lemmas.specs.spec.association.Controlled.{Sign, packet_sent, has_connected, has_ended, own_reset_performed, own_reset_failed, peer_reset_performed, signs_of_events, signs_of_effects}
 use Rattle.dcsctp_spec_lemmas.specs.spec.endpoint.CallTurns.{Turned, after_all}
 use Rattle.dcsctp_spec_runs.specs.World.{side_after}
@@ -58,6 +58,7 @@ noted_without (holds link ∷ effects) = noted_without effects
 noted_without (connects link ∷ effects) = ap (λ (signs : List Sign). has_connected ∷ signs) (noted_without effects)
 noted_without (ends ∷ effects) = ap (λ (signs : List Sign). has_ended ∷ signs) (noted_without effects)
 noted_without (begins number ∷ effects) = noted_without effects
+noted_without (gives_up number ∷ effects) = noted_without effects
 noted_without (completes my number ∷ effects) = ap (λ (signs : List Sign). own_reset_performed ∷ signs) (noted_without effects)
 noted_without (fails number ∷ effects) = ap (λ (signs : List Sign). own_reset_failed ∷ signs) (noted_without effects)
 noted_without (accepts number ∷ effects) = noted_without effects

@@ -31,6 +31,13 @@ impl OutgoingStream {
         }
     }
 
+    /// The turn in which one of its messages was begun last.
+    pub fn last_turn(&self) -> u64
+        ensures { result ≡ self.now.last_turn }
+    {
+        self.last_turn
+    }
+
     /// It has this turn.
     pub fn serve(&mut self, turn: u64)
         ensures { self.new ≡ served turn self.old }

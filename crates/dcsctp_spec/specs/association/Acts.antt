@@ -1,5 +1,5 @@
 -- Every turn of the association: what the user and the timers bring, and each chunk.
-use Rattle.std.specs.Prelude.{◌≡◌, ℕ, Bool, true, false, Option, None, Some, List, [], ◌++◌}
+use Rattle.std.specs.Prelude.{◌≡◌, ℕ, Bool, true, false, Option, None, Some, List, [], ◌∷◌, ◌++◌}
 use Rattle.dcsctp_types.specs.declared.association.Pair.{Pair}
 use Rattle.dcsctp_types.specs.declared.association.Held.{Held}
 use Rattle.dcsctp_types.specs.declared.options.Options.{Options}
@@ -9,9 +9,9 @@ use Rattle.dcsctp_spec.specs.Reconfiguration.{RequestedReset}
 use Rattle.dcsctp_spec.specs.Packet.{Content, init, init_ack, cookie_echo, cookie_ack, re_config, abort, shutdown, shutdown_ack, shutdown_complete, plain}
 use Rattle.dcsctp_spec.specs.endpoint.Endpoint.{Core, closed, cookie_wait, cookie_echoed, open_in, OpenPhase, established}
 use Rattle.dcsctp_spec.specs.endpoint.Following.{Following, next_chunk}
-use Rattle.dcsctp_spec.specs.association.Effect.{Effect, Change, unchanged, ended, emitted_alone}
+use Rattle.dcsctp_spec.specs.association.Effect.{Effect, begins, gives_up, Change, unchanged, ended, emitted, emitted_alone}
 use Rattle.dcsctp_spec.specs.association.Choices.{Choices}
-use Rattle.dcsctp_spec.specs.association.FlushChanges.{Flushed, further_packets, flush, reset_request}
+use Rattle.dcsctp_spec.specs.association.FlushChanges.{Flushed, further_packets, flush, held_asking, reset_request}
 use Rattle.dcsctp_spec.specs.association.HandshakeChanges.{IsCookieOf, answering_pair, connect_change, init_change, init_ack_change, cookie_ack_change, t1_again_change, t1_gives_up_change}
 use Rattle.dcsctp_spec.specs.association.CookieEchoChanges.{cookie_echo_change}
 use Rattle.dcsctp_spec.specs.association.ResetChanges.{re_config_change}
@@ -40,6 +40,9 @@ pub data Act : Type 0 where
   -- The outstanding request is sent again. Here at any time, with any last TSN and streams; a socket does it when its timer
   -- expires, with those that it had.
   request_again : RequestedReset → Act
+  -- The outstanding request is sent again under the next number, which takes its place. Here at any time, with any last TSN and
+  -- streams; a socket does it where its timer expires, the peer has answered that it is in progress, and the RFCs' rules apply.
+  request_renewed : RequestedReset → Act
 
 -- packets that don't concern the association, and then a flush
 abbrev pub sent_by : Held → Choices → Flushed
@@ -77,6 +80,25 @@ request_again_change (open_in phase my held) reset fits =
     record { core = open_in phase my held; effects = request_sent held held.own_outstanding reset fits; following = next_chunk }
 request_again_change core reset fits = unchanged core
 
+-- Its number is given up, and the next one is begun (RFC 6525, section 5.2.7).
+abbrev pub renewed_by : Held → Option ℕ → RequestedReset → Bool → Flushed
+renewed_by held None reset fits = record { held = held; effects = [] }
+renewed_by held (Some number) reset false = record { held = held; effects = [] }
+renewed_by held (Some number) reset true =
+    record {
+      held = held_asking held;
+      effects = gives_up number ∷ begins held.own_next ∷ emitted held.peer.tag (reset_request held.own_next reset ∷ []);
+    }
+
+abbrev pub request_renewed_change : Core → RequestedReset → Bool → Change
+request_renewed_change (cookie_echoed my held cookie) reset fits =
+    let after : Flushed = renewed_by held held.own_outstanding reset fits in
+    record { core = cookie_echoed my after.held cookie; effects = after.effects; following = next_chunk }
+request_renewed_change (open_in phase my held) reset fits =
+    let after : Flushed = renewed_by held held.own_outstanding reset fits in
+    record { core = open_in phase my after.held; effects = after.effects; following = next_chunk }
+request_renewed_change core reset fits = unchanged core
+
 abbrev pub act_change : Options → Core → Act → Choices → Change
 act_change options core connect choices = connect_change options core choices
 act_change options core (t1_expires true) choices = t1_again_change options core choices
@@ -88,6 +110,7 @@ act_change options core (abort_with reason) choices = abort_call_change core (ca
 act_change options core hands_over choices = hand_over_change core
 act_change options core flushes choices = flush_change core choices
 act_change options core (request_again reset) choices = request_again_change core reset choices.fits
+act_change options core (request_renewed reset) choices = request_renewed_change core reset choices.fits
 
 -- ---- chunks
 

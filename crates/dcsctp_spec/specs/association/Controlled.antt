@@ -8,7 +8,7 @@ use Rattle.dcsctp_spec.specs.Packet.{Content, Packet, Emission}
 use Rattle.dcsctp_spec.specs.endpoint.Event.{Event, sent, connected, closed, aborted, streams_reset_failed, streams_reset_performed, incoming_stream_reset}
 use Rattle.dcsctp_spec.specs.endpoint.Endpoint.{Endpoint}
 use Rattle.dcsctp_spec.specs.endpoint.Outcome.{Outcome}
-use Rattle.dcsctp_spec.specs.association.Effect.{Effect, draws, sends, holds, connects, ends, begins, completes, fails, accepts, performs, resumes, noted, Change}
+use Rattle.dcsctp_spec.specs.association.Effect.{Effect, draws, sends, holds, connects, ends, begins, gives_up, completes, fails, accepts, performs, resumes, noted, Change}
 use Rattle.dcsctp_spec.specs.association.Choices.{Choices}
 use Rattle.dcsctp_spec.specs.association.Acts.{Act, act_change, ChunkChange}
 
@@ -43,6 +43,7 @@ signs_of_effects (performs peer number ∷ effects) = peer_reset_performed ∷ s
 signs_of_effects (draws pair ∷ effects) = signs_of_effects effects
 signs_of_effects (holds link ∷ effects) = signs_of_effects effects
 signs_of_effects (begins number ∷ effects) = signs_of_effects effects
+signs_of_effects (gives_up number ∷ effects) = signs_of_effects effects
 signs_of_effects (accepts number ∷ effects) = signs_of_effects effects
 signs_of_effects (resumes link own last ∷ effects) = signs_of_effects effects
 

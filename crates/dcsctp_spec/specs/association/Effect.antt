@@ -26,6 +26,8 @@ pub data Effect : Type 0 where
   ends : Effect
   -- Its own request to reset streams was begun, by its number.
   begins : ℕ → Effect
+  -- Its own request of this number is given up: the next one takes its place. It has no end event.
+  gives_up : ℕ → Effect
   -- OnStreamsResetPerformed: its own request of this number has ended, under this own pair.
   completes : Pair → ℕ → Effect
   -- OnStreamsResetFailed: its own request of this number has ended.
@@ -47,6 +49,7 @@ drawn_in (holds link ∷ effects) = drawn_in effects
 drawn_in (connects link ∷ effects) = drawn_in effects
 drawn_in (ends ∷ effects) = drawn_in effects
 drawn_in (begins number ∷ effects) = drawn_in effects
+drawn_in (gives_up number ∷ effects) = drawn_in effects
 drawn_in (completes my number ∷ effects) = drawn_in effects
 drawn_in (fails number ∷ effects) = drawn_in effects
 drawn_in (accepts number ∷ effects) = drawn_in effects
@@ -62,6 +65,7 @@ noted (holds link ∷ effects) = holds link ∷ noted effects
 noted (connects link ∷ effects) = connects link ∷ noted effects
 noted (ends ∷ effects) = ends ∷ noted effects
 noted (begins number ∷ effects) = begins number ∷ noted effects
+noted (gives_up number ∷ effects) = gives_up number ∷ noted effects
 noted (completes my number ∷ effects) = completes my number ∷ noted effects
 noted (fails number ∷ effects) = fails number ∷ noted effects
 noted (accepts number ∷ effects) = accepts number ∷ noted effects

@@ -16,6 +16,10 @@ next_number number = (number + 1) % 2 ^ 32
 abbrev pub reset_request : ℕ → RequestedReset → Content
 reset_request number reset = re_config (outgoing_reset_request number number reset ∷ [])
 
+-- The request of the next number is outstanding.
+abbrev pub held_asking : Held → Held
+held_asking held = record held { own_next = next_number held.own_next; own_outstanding = Some held.own_next }
+
 -- the reset that is begun: none while one is outstanding
 abbrev pub reset_to_begin : Option ℕ → Option RequestedReset → Option RequestedReset
 reset_to_begin None reset = reset
@@ -44,7 +48,7 @@ abbrev pub flushed_with : ℕ → Held → List Content → Filling → Option R
 flushed_with tag held front filling None = record { held = held; effects = flush_packets tag held.own_next front filling None }
 flushed_with tag held front filling (Some reset) =
     record {
-      held = record held { own_next = next_number held.own_next; own_outstanding = Some held.own_next };
+      held = held_asking held;
       effects = begins held.own_next ∷ flush_packets tag held.own_next front filling (Some reset);
     }
 

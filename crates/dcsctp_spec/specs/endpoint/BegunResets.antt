@@ -13,7 +13,7 @@ use Rattle.dcsctp_spec.specs.queues.Retransmission.{RetransmissionState}
 use Rattle.dcsctp_spec.specs.endpoint.Endpoint.{Endpoint, Core, cookie_echoed, open_in}
 use Rattle.dcsctp_spec.specs.endpoint.Timers.{TimerSettings, started}
 use Rattle.dcsctp_spec.specs.association.Effect.{Effect, begins}
-use Rattle.dcsctp_spec.specs.association.FlushChanges.{next_number, reset_request}
+use Rattle.dcsctp_spec.specs.association.FlushChanges.{held_asking, reset_request}
 
 -- the number of a request that is begun, and what it wants
 pub record BegunReset : Type 0 where
@@ -79,10 +79,6 @@ reconfiguration_settings rto = record { duration = rto; terms = record { backoff
 abbrev pub rto_of : Option Transfer → ℕ
 rto_of None = 0
 rto_of (Some transfer) = transfer.timeout.rto
-
--- The next number is that of the request.
-abbrev pub held_asking : Held → Held
-held_asking held = record held { own_next = next_number held.own_next; own_outstanding = Some held.own_next }
 
 abbrev pub held_begun : Option BegunReset → Held → Held
 held_begun None held = held

@@ -1,11 +1,13 @@
--- The reconfiguration timer: its own request to reset streams that hasn't ended is sent again (RFC 6525, section 5.1.1).
-use Rattle.std.specs.Prelude.{ℕ, ◌%◌, ◌^◌, Bool, true, false, Option, None, Some, [], map, if◌then◌else◌}
+-- The reconfiguration timer: its own request to reset streams that hasn't ended is sent again (RFC 6525, sections 5.1.1 and 5.2.7).
+use Rattle.std.specs.Prelude.{ℕ, ◌%◌, ◌^◌, Bool, true, false, ◌&&◌, Option, None, Some, [], ◌∷◌, map, if◌then◌else◌}
 use Rattle.dcsctp_types.specs.declared.association.Held.{Held}
 use Rattle.dcsctp_spec.specs.Reconfiguration.{RequestedReset}
 use Rattle.dcsctp_spec.specs.endpoint.Endpoint.{Endpoint, OutstandingRequest}
-use Rattle.dcsctp_spec.specs.endpoint.Outcome.{Outcome, still, emits, to_peer}
+use Rattle.dcsctp_spec.specs.endpoint.Outcome.{Outcome, still, noting, fits, sends, emits, to_peer}
+use Rattle.dcsctp_spec.specs.Packet.{Content}
+use Rattle.dcsctp_spec.specs.association.Effect.{begins, gives_up}
 use Rattle.dcsctp_spec.specs.association.FlushChanges.{reset_request}
-use Rattle.dcsctp_spec.specs.endpoint.BegunResets.{stream_field}
+use Rattle.dcsctp_spec.specs.endpoint.BegunResets.{stream_field, core_asking}
 use Rattle.dcsctp_spec.specs.endpoint.HeartbeatOutcomes.{error_counted, is_exhausted, expired_of}
 
 -- ---- what is sent again
@@ -20,10 +22,32 @@ abbrev pub request_emitted : Endpoint → Held → Option ℕ → RequestedReset
 request_emitted e held None reset = still e
 request_emitted e held (Some number) reset = emits e [] (to_peer held (reset_request number reset))
 
+-- The next number takes the place of its number, if the packet fits; else nothing happens.
+abbrev pub renewed_where : Bool → Endpoint → Held → ℕ → Content → Outcome
+renewed_where false e held number request = still e
+renewed_where true e held number request =
+    noting (gives_up number ∷ begins held.own_next ∷ []) (sends (record e { core = core_asking e.core }) [] [] (to_peer held request))
+
+abbrev pub request_renewed : Endpoint → Held → Option ℕ → RequestedReset → Outcome
+request_renewed e held None reset = still e
+request_renewed e held (Some number) reset =
+    let request : Content = reset_request held.own_next reset in
+    renewed_where (fits e (to_peer held request)) e held number request
+
+-- By the RFCs a request that the peer has answered as in progress is sent under the next number: a peer that repeats its answer
+-- to a number that it knows may then perform it (RFC 6525, section 5.2.7).
+abbrev pub is_renewed : Endpoint → Option OutstandingRequest → Bool
+is_renewed e None = false
+is_renewed e (Some request) = e.options.follow_rfc && request.waits_for_retry
+
+abbrev pub request_repeated : Bool → Endpoint → Held → RequestedReset → Outcome
+request_repeated false e held reset = request_emitted e held held.own_outstanding reset
+request_repeated true e held reset = request_renewed e held held.own_outstanding reset
+
 -- If the association is to be aborted, the peer isn't asked again.
-abbrev pub request_unless : Bool → Endpoint → Held → RequestedReset → Outcome
-request_unless true e held reset = still e
-request_unless false e held reset = request_emitted e held held.own_outstanding reset
+abbrev pub request_unless : Bool → Bool → Endpoint → Held → RequestedReset → Outcome
+request_unless true is_new e held reset = still e
+request_unless false is_new e held reset = request_repeated is_new e held reset
 
 -- ---- what is kept of it
 
@@ -48,4 +72,4 @@ reconfiguration_outcome e None request = still (reconfiguration_expired e)
 reconfiguration_outcome e (Some held) None = still (reconfiguration_expired e)
 reconfiguration_outcome e (Some held) (Some request) =
     let after : Endpoint = request_expired e request in
-    request_unless (is_exhausted after.options.max_retransmissions after.error_count) after held (reset_again (Some request))
+    request_unless (is_exhausted after.options.max_retransmissions after.error_count) (is_renewed e (Some request)) after held (reset_again (Some request))

@@ -128,20 +128,29 @@ own_streams (Some request) = request.streams
 abbrev pub waiting : OutstandingRequest → OutstandingRequest
 waiting request = record request { waits_for_retry = true }
 
+-- With the option an answer of the peer to its own request shows that it is there, so no error counts (RFC 9260, section 8.1,
+-- says so of SACK and HEARTBEAT ACK).
+abbrev pub errors_heeded : Endpoint → ℕ
+errors_heeded e = if e.options.follow_rfc then 0 else e.error_count
+
 -- Its own request has ended, and this waits to be sent.
 abbrev pub own_ended : SendQueueState → Endpoint → Endpoint
 own_ended queue e =
-    record e { outstanding = None; timers = record e.timers { reconfiguration = None }; below = record e.below { queue = queue } }
+    record e {
+      outstanding = None;
+      timers = record e.timers { reconfiguration = None };
+      below = record e.below { queue = queue };
+      error_count = errors_heeded e;
+    }
 
--- The endpoint once its own request got this answer. By the RFC an answer shows that the peer is there, so no error counts (RFC
--- 9260, section 8.1).
+-- the endpoint once its own request got this answer
 abbrev pub own_moved : OwnAnswer → Endpoint → Endpoint
 own_moved unanswered e = e
 own_moved retried e =
     record e {
       outstanding = option_map waiting e.outstanding;
       timers = record e.timers { reconfiguration = started e.moment (reconfiguration_settings (rto_of e.below.transfer)) };
-      error_count = if e.options.follow_rfc then 0 else e.error_count;
+      error_count = errors_heeded e;
     }
 own_moved was_performed e = own_ended (queue_committed e.below.queue) e
 own_moved has_failed e = own_ended (queue_rolled_back e.below.queue) e

@@ -21,7 +21,7 @@ use Rattle.dcsctp_spec.specs.endpoint.SettingOutcomes.{setting_outcome}
 use Rattle.dcsctp_spec.specs.endpoint.HeardShutdown.{ShutdownTurn}
 use Rattle.dcsctp_spec.specs.endpoint.ShutdownOutcomes.{step_outcome, shut_down_outcome, shutdown_ack_outcome, shutdown_complete_outcome, t2_again_outcome, shutdown_repeated}
 use Rattle.dcsctp_spec.specs.endpoint.TimerOutcomes.{T1AgainTurn, t1_gives_up_outcome}
-use Rattle.dcsctp_spec.specs.association.Acts.{Act, connect, t1_expires, shut_down, step_of_shutdown, shutdown_repeats, abort_with, hands_over, flushes, request_again}
+use Rattle.dcsctp_spec.specs.association.Acts.{Act, connect, t1_expires, shut_down, step_of_shutdown, shutdown_repeats, abort_with, hands_over, flushes, request_again, request_renewed}
 use Rattle.dcsctp_spec.specs.association.Controlled.{ControlledAct}
 
 pub data Input : Type 0 where
@@ -102,6 +102,7 @@ ActTurn e (abort_with reason) o = o ≡ aborting_outcome e e.core reason
 ActTurn e hands_over o = o ≡ hand_over_outcome e e.core
 ActTurn e flushes o = FlushTurn e o
 ActTurn e (request_again reset) o = ControlledAct e (request_again reset) o
+ActTurn e (request_renewed reset) o = ControlledAct e (request_renewed reset) o
 
 -- The clock is set to this moment, and nothing else happens.
 abbrev pub clock_at : ℕ → Endpoint → Endpoint

@@ -142,18 +142,13 @@ may_send (Some under_way) streams = true
 abbrev pub has_data : SendQueueState → Bool
 has_data queue = may_send queue.under_way queue.streams
 
--- Can a message of the stream be sent: is it under way, or may it be started?
-abbrev pub can_go_on : Option UnderWay → Stream → Bool
-can_go_on None stream = is_some (turn_of stream)
-can_go_on (Some under_way) stream = is_some (turn_of stream) || under_way.stream_id.0 == stream.id
-
 -- Is there a message at this moment whose lifetime isn't over?
 abbrev pub has_live : ℕ → List Waiting → Bool
 has_live now messages = list_any (λ message. not (is_expired now message)) messages
 
--- Does a message wait at this moment that can be sent?
+-- Does a message wait at this moment that can be sent? The rest of one under way is sent even if its lifetime is over.
 abbrev pub waits_at : ℕ → SendQueueState → Bool
-waits_at now queue = list_any (λ stream. can_go_on queue.under_way stream && has_live now stream.messages) queue.streams
+waits_at now queue = is_some queue.under_way || list_any (λ stream. is_some (turn_of stream) && has_live now stream.messages) queue.streams
 
 -- ---- which numbers count
 

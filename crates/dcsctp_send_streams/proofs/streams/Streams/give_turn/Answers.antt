@@ -2,7 +2,7 @@ use Rattle.std.proofs.Common.{◌<◌, length, refl}
 use Rattle.dcsctp_send_streams.proofs.BytesLemmas.{bytes_set}
 use Rattle.dcsctp_send_streams.proofs.CountLemmas.{counted_same}
 use Rattle.dcsctp_send_streams.proofs.StreamLemmas.{holds_read, ranked_read}
-use Rattle.dcsctp_send_streams.proofs.streams.Streams.serve.Goals as goal
+use Rattle.dcsctp_send_streams.proofs.streams.Streams.give_turn.Goals as goal
 
 pub move_turn-requires : goal.move_turn-requires
 move_turn-requires c =
