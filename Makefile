@@ -1,24 +1,28 @@
 # The C library. docs/C.md says how to use it.
 #
-#     make            builds out/libdcsctp.a: rt proves crates/dcsctp_c and all below it
+#     make            builds out/libdcsctp.a and .so.0: rt proves crates/dcsctp_c and all below it
 #     make check      checks it, by what is installed here: valgrind, sanitizers, cargo, cmake
-#     make install    copies it to PREFIX (/usr/local) below DESTDIR
+#     make install    copies it to PREFIX (/usr/local) and LIBDIR (PREFIX/lib), below DESTDIR
+#     make uninstall  removes what install has copied
 #     make clean
 #
 # ARCHIVE=FILE takes an archive that rt has built, and KIT=FOLDER the kit's folder.
 
 PREFIX ?= /usr/local
+LIBDIR ?= $(PREFIX)/lib
 OUT ?= out
 CC ?= cc
 CXX ?= c++
 OBJCOPY ?= objcopy
 NM ?= nm
+READELF ?= readelf
 CFLAGS ?= -O2 -g
 KIT ?= $(shell dirname "$$(dirname "$$(readlink -f "$$(command -v rt)")")")
 
 BUILT = crates/dcsctp_c/out/libdcsctp_c.a
 ARCHIVE ?= $(BUILT)
 LIBRARY = $(OUT)/libdcsctp.a
+SHARED = $(OUT)/libdcsctp.so.0
 PACKAGE = $(OUT)/dcsctp.pc $(OUT)/dcsctpConfig.cmake $(OUT)/dcsctpConfigVersion.cmake
 VERSION := $(shell awk '/define DCSCTP_VERSION_/ { v = v s $$3; s = "." } END { print v }' \
     include/dcsctp.h)
@@ -28,9 +32,9 @@ EXAMPLES = two_sockets file_transfer
 WARNINGS = -Wall -Wextra -Wshadow -pedantic -Werror
 COMPILE = $(CC) -std=c11 $(WARNINGS) $(CFLAGS) -Iinclude
 
-all: $(LIBRARY) $(PACKAGE)
+all: $(LIBRARY) $(SHARED) $(PACKAGE)
 
-# ---- The archive ------------------------------------------------------------------------------
+# ---- The library ------------------------------------------------------------------------------
 
 $(BUILT): $(shell find crates -name out -prune -o -name '*.rt' -print)
 	cd crates/dcsctp_c && rt lib
@@ -47,19 +51,32 @@ $(LIBRARY): $(ARCHIVE) Makefile
 	$(AR) rcD $@ $(OUT)/dcsctp.o
 	$(AR) sD $@
 
-# (always anew, since PREFIX may be another one)
+# The same object. It needs what the archive needs, and nothing of the compiler's.
+$(SHARED): $(LIBRARY) packaging/exports.map
+	$(CC) -shared -nostartfiles -Wl,-soname,$(notdir $@) -Wl,--version-script=packaging/exports.map \
+	    -Wl,-z,defs,-z,now,-z,noexecstack,-z,text,--fatal-warnings \
+	    -Wl,--whole-archive $< -Wl,--no-whole-archive -o $@
+
+# (always anew, since PREFIX and LIBDIR may be others)
+TO_PREFIX = $(shell realpath -ms --relative-to=$(LIBDIR)/pkgconfig $(or $(PREFIX),/))
 $(OUT)/%: packaging/%.in include/dcsctp.h FORCE
 	@mkdir -p $(OUT)
-	@sed -e 's|@PREFIX@|$(PREFIX)|' -e 's|@VERSION@|$(VERSION)|' $< >$@
+	@sed -e 's|@VERSION@|$(VERSION)|' -e 's|@TO_PREFIX@|$(TO_PREFIX)|' $< >$@
 
+INCLUDE_TO = $(DESTDIR)$(PREFIX)/include
+LIB_TO = $(DESTDIR)$(LIBDIR)
 install: all
-	install -d $(DESTDIR)$(PREFIX)/include $(DESTDIR)$(PREFIX)/lib/pkgconfig \
-	    $(DESTDIR)$(PREFIX)/lib/cmake/dcsctp
-	install -m 644 include/dcsctp.h $(DESTDIR)$(PREFIX)/include/
-	install -m 644 $(LIBRARY) $(DESTDIR)$(PREFIX)/lib/
-	install -m 644 $(OUT)/dcsctp.pc $(DESTDIR)$(PREFIX)/lib/pkgconfig/
-	install -m 644 $(OUT)/dcsctpConfig.cmake $(OUT)/dcsctpConfigVersion.cmake \
-	    $(DESTDIR)$(PREFIX)/lib/cmake/dcsctp/
+	install -d $(INCLUDE_TO) $(LIB_TO)/pkgconfig $(LIB_TO)/cmake/dcsctp
+	install -m 644 include/dcsctp.h $(INCLUDE_TO)/
+	install -m 644 $(LIBRARY) $(LIB_TO)/
+	install -m 755 $(SHARED) $(LIB_TO)/
+	ln -sf $(notdir $(SHARED)) $(LIB_TO)/libdcsctp.so
+	install -m 644 $(OUT)/dcsctp.pc $(LIB_TO)/pkgconfig/
+	install -m 644 $(OUT)/dcsctpConfig.cmake $(OUT)/dcsctpConfigVersion.cmake $(LIB_TO)/cmake/dcsctp/
+
+uninstall:
+	rm -f $(INCLUDE_TO)/dcsctp.h $(LIB_TO)/pkgconfig/dcsctp.pc $(addprefix $(LIB_TO)/libdcsctp,.a .so .so.0)
+	rm -rf $(LIB_TO)/cmake/dcsctp
 
 clean:
 	rm -rf $(OUT)
@@ -97,18 +114,25 @@ check-header:
 	else echo "check: no C++ compiler, so the header isn't checked in C++"; fi
 	! grep -n '.\{101\}' include/dcsctp.h
 
-# What is exported is what is declared, and nothing is needed but these functions of the C library. It
-# fits into a shared library, too.
+# What is exported is what is declared, and nothing is needed but these functions of the C library. In the
+# shared library each call has the version of the series.
 NEEDED = _GLOBAL_OFFSET_TABLE_|malloc|realloc|free|memcpy|memmove|memset
-check-symbols: $(LIBRARY)
+SERIES = DCSCTP_$(basename $(VERSION))
+check-symbols: $(LIBRARY) $(SHARED)
 	$(NM) -g --defined-only $(LIBRARY) | awk 'NF == 3 { print $$3 }' | sort >$(OUT)/exported
 	grep -o '^[a-z0-9_]* dcsctp_[a-z_]*(' include/dcsctp.h | sed 's/.* //; s/(//' | sort \
 	    >$(OUT)/declared
 	diff $(OUT)/declared $(OUT)/exported
 	$(NM) -u $(LIBRARY) | awk 'NF == 2 { print $$2 }' | sort -u >$(OUT)/needed
 	! grep -vxE '$(NEEDED)' $(OUT)/needed
-	$(CC) -shared -Wl,--whole-archive $(LIBRARY) -Wl,--no-whole-archive -Wl,-z,defs \
-	    -Wl,--fatal-warnings -o $(OUT)/all.so
+	$(READELF) -W --dyn-syms $(SHARED) | awk '$$4 == "FUNC" && $$7 != "UND" { print $$8 }' | sort \
+	    >$(OUT)/exported
+	sed 's/$$/@@$(SERIES)/' $(OUT)/declared | diff - $(OUT)/exported
+	$(READELF) -W --dyn-syms $(SHARED) | awk 'NR > 3 && $$7 == "UND" && NF > 7 { print $$8 }' | \
+	    sed 's/@.*//' >$(OUT)/needed
+	! grep -vxE '$(NEEDED)' $(OUT)/needed
+	$(READELF) -d $(SHARED) | sed -n 's/.*(\(NEEDED\|SONAME\)).*\[\(.*\)\]/\2/p' | sort | tr '\n' ' ' | \
+	    grep -qx 'libc.so.6 $(notdir $(SHARED)) '
 
 check-tests: $(TESTS:%=$(OUT)/tests/%)
 	for it in $^; do $$it || exit 1; done
@@ -126,23 +150,17 @@ check-examples: $(EXAMPLES:%=$(OUT)/examples/%)
 	timeout 120 $(OUT)/examples/file_transfer 2>/dev/null
 	timeout 120 $(OUT)/examples/file_transfer --loss 20 2>/dev/null
 
-# A caller finds what was installed, by pkg-config and by CMake.
+# A caller finds both libraries where they were installed, also in a folder of the machine's kind. What was
+# installed can be removed.
 STAGE = $(abspath $(OUT)/stage)
+STAGED = DESTDIR=$(STAGE) LIBDIR=$(PREFIX)/lib/x86_64-linux-gnu
+FOUND = CC='$(CC)' bash scripts/try-installed.sh
 check-install: all
 	rm -rf $(STAGE)
-	$(MAKE) -s install DESTDIR=$(STAGE)
-	@if command -v pkg-config >/dev/null; then set -e; echo "check: pkg-config"; \
-	export PKG_CONFIG_LIBDIR=$(STAGE)$(PREFIX)/lib/pkgconfig PKG_CONFIG_SYSROOT_DIR=$(STAGE); \
-	pkg-config --exact-version $(VERSION) dcsctp; \
-	$(CC) examples/c/two_sockets.c $$(pkg-config --cflags --libs dcsctp) -o $(STAGE)/by_pkg_config; \
-	$(STAGE)/by_pkg_config | diff examples/c/two_sockets.stdout -; \
-	else echo "check: no pkg-config, so dcsctp.pc isn't tried"; fi
-	@if command -v cmake >/dev/null; then set -e; echo "check: cmake"; \
-	cmake -S tests/c/cmake -B $(STAGE)/cmake -DCMAKE_PREFIX_PATH=$(STAGE)$(PREFIX) \
-	    -DWANTED=$(VERSION) >/dev/null; \
-	cmake --build $(STAGE)/cmake >/dev/null; \
-	$(STAGE)/cmake/by_cmake | diff examples/c/two_sockets.stdout -; \
-	else echo "check: no cmake, so dcsctpConfig.cmake isn't tried"; fi
+	$(MAKE) -s install $(STAGED)
+	$(FOUND) $(VERSION) $(STAGE)$(PREFIX) lib/x86_64-linux-gnu
+	$(MAKE) -s uninstall $(STAGED)
+	find $(STAGE) -not -type d | diff /dev/null -
 
 # Leaks count. A child ends by _exit, so what can still be reached there doesn't.
 VALGRIND = valgrind -q --leak-check=full --errors-for-leak-kinds=definite,possible \
@@ -174,5 +192,5 @@ check-rust: $(LIBRARY)
 	timeout 120 cargo run --offline --quiet --release -- --loss 20 2>/dev/null; \
 	else echo "check: no cargo, so the Rust example isn't tried"; fi
 
-.PHONY: FORCE all install clean check check-header check-symbols check-tests check-examples \
-    check-install check-valgrind check-sanitizers check-rust
+.PHONY: FORCE all install uninstall clean check check-header check-symbols check-tests \
+    check-examples check-install check-valgrind check-sanitizers check-rust

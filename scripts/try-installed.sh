@@ -1,0 +1,54 @@
+#!/usr/bin/env bash
+# Links the first example against both libraries where they are installed, and runs it: by the folders' names, by
+# pkg-config and by CMake, where these are there.
+#
+#     scripts/try-installed.sh VERSION PREFIX LIB          LIB: a folder of PREFIX
+set -euo pipefail
+shopt -s inherit_errexit
+version=$1 prefix=$2 lib=$3
+cd "$(dirname "$0")/.."
+read -ra compile <<<"${CC:-cc}"
+program=examples/c/two_sockets.c
+folder=$(mktemp -d)
+trap 'rm -rf "$folder"' EXIT
+
+# run PROGRAM: it prints what it has to.
+run() {
+    "$folder/$1" | diff examples/c/two_sockets.stdout -
+}
+
+# run_shared PROGRAM: it takes the shared library from the folder, and prints what it has to.
+run_shared() {
+    readelf -d "$folder/$1" | grep -qF "[libdcsctp.so.0]" || { echo "try-installed: $1 has the archive" >&2; exit 1; }
+    LD_LIBRARY_PATH=$prefix/$lib run "$1"
+}
+
+"${compile[@]}" $program "-I$prefix/include" "$prefix/$lib/libdcsctp.a" -o "$folder/by_archive"
+run by_archive
+"${compile[@]}" $program "-I$prefix/include" "-L$prefix/$lib" -ldcsctp -o "$folder/by_shared"
+run_shared by_shared
+
+if command -v pkg-config >/dev/null; then
+    echo "check: pkg-config"
+    export PKG_CONFIG_LIBDIR=$prefix/$lib/pkgconfig
+    [ "$(pkg-config --modversion dcsctp)" = "$version" ]
+    read -ra flags < <(pkg-config --cflags dcsctp)
+    read -ra libs < <(pkg-config --libs dcsctp)
+    "${compile[@]}" $program "${flags[@]}" "${libs[@]}" -o "$folder/by_pkg_config"
+    run_shared by_pkg_config
+    "${compile[@]}" $program "${flags[@]}" "$(pkg-config --variable=archive dcsctp)" -o "$folder/by_its_archive"
+    run by_its_archive
+else
+    echo "check: no pkg-config, so dcsctp.pc isn't tried"
+fi
+
+if command -v cmake >/dev/null; then
+    echo "check: cmake"
+    cmake -S tests/c/cmake -B "$folder/cmake" "-DCMAKE_PREFIX_PATH=$prefix" \
+        -DCMAKE_LIBRARY_ARCHITECTURE=x86_64-linux-gnu "-DWANTED=$version" >/dev/null
+    cmake --build "$folder/cmake" >/dev/null
+    run cmake/by_cmake
+    run_shared cmake/by_cmake_shared
+else
+    echo "check: no cmake, so dcsctpConfig.cmake isn't tried"
+fi
