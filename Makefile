@@ -1,16 +1,17 @@
 # The C library. docs/C.md says how to use it.
 #
 #     make            builds out/libdcsctp.a and .so.0: rt proves crates/dcsctp_c and all below it
+#     make unproved   builds out/unproved/libdcsctp-unproved.a and .so.0, without proofs
 #     make check      checks it, by what is installed here: valgrind, sanitizers, cargo, cmake
 #     make install    copies it to PREFIX (/usr/local) and LIBDIR (PREFIX/lib), below DESTDIR
 #     make uninstall  removes what install has copied
 #     make clean
 #
-# ARCHIVE=FILE takes an archive that rt has built, and KIT=FOLDER the kit's folder.
+# check and install are of what was built last. ARCHIVE=FILE takes an archive that rt has built, and
+# KIT=FOLDER the kit's folder.
 
 PREFIX ?= /usr/local
 LIBDIR ?= $(PREFIX)/lib
-OUT ?= out
 CC ?= cc
 CXX ?= c++
 OBJCOPY ?= objcopy
@@ -20,11 +21,25 @@ CFLAGS ?= -O2 -g
 KIT ?= $(shell dirname "$$(dirname "$$(readlink -f "$$(command -v rt)")")")
 
 BUILT = crates/dcsctp_c/out/libdcsctp_c.a
-ARCHIVE ?= $(BUILT)
-LIBRARY = $(OUT)/libdcsctp.a
-SHARED = $(OUT)/libdcsctp.so.0
-PACKAGE = $(OUT)/dcsctp.pc $(OUT)/dcsctpConfig.cmake $(OUT)/dcsctpConfigVersion.cmake
-VERSION := $(shell awk '/define DCSCTP_VERSION_/ { v = v s $$3; s = "." } END { print v }' \
+UNPROVED = out/unproved/libdcsctp_c-unproved.a
+ifndef ARCHIVE
+ifneq ($(filter unproved,$(MAKECMDGOALS)),)
+ARCHIVE := $(UNPROVED)
+else ifneq ($(filter check% install,$(MAKECMDGOALS)),)
+ARCHIVE := $(shell ls -t $(BUILT) $(UNPROVED) 2>/dev/null | head -1)
+endif
+endif
+ARCHIVE := $(or $(ARCHIVE),$(BUILT))
+export ARCHIVE
+
+# What isn't proved has another name, in another folder.
+MARK := $(findstring -unproved,$(notdir $(ARCHIVE)))
+NAME = dcsctp$(MARK)
+OUT ?= out$(MARK:-%=/%)
+LIBRARY = $(OUT)/lib$(NAME).a
+SHARED = $(OUT)/lib$(NAME).so.0
+PACKAGE = $(OUT)/$(NAME).pc $(OUT)/$(NAME)Config.cmake $(OUT)/$(NAME)ConfigVersion.cmake
+VERSION := $(shell awk '/define DCSCTP_VERSION_[MP]/ { v = v s $$3; s = "." } END { print v }' \
     include/dcsctp.h)
 
 TESTS = names calls options events ends handover refusals random threads
@@ -32,23 +47,27 @@ EXAMPLES = two_sockets file_transfer
 WARNINGS = -Wall -Wextra -Wshadow -pedantic -Werror
 COMPILE = $(CC) -std=c11 $(WARNINGS) $(CFLAGS) -Iinclude
 
-all: $(LIBRARY) $(SHARED) $(PACKAGE)
+all unproved: $(LIBRARY) $(SHARED) $(PACKAGE)
 
 # ---- The library ------------------------------------------------------------------------------
 
-$(BUILT): $(shell find crates -name out -prune -o -name '*.rt' -print)
+SOURCES := $(shell find crates -name out -prune -o -name '*.rt' -print)
+$(BUILT): $(SOURCES)
 	cd crates/dcsctp_c && rt lib
 	touch $@
+
+$(UNPROVED): $(SOURCES) crates.txt scripts/unproved.sh
+	KIT=$(KIT) bash scripts/unproved.sh $@
 
 # One object: what rt built, the kit's three functions over malloc, and what libgcc has of 128 bits.
 # Only dcsctp_* can be seen from outside.
 $(LIBRARY): $(ARCHIVE) Makefile
 	@mkdir -p $(OUT)
-	$(LD) -r -o $(OUT)/dcsctp.o --whole-archive $(ARCHIVE) --no-whole-archive \
+	$(LD) -r -o $(OUT)/$(NAME).o --whole-archive $(ARCHIVE) --no-whole-archive \
 	    $(KIT)/c/liblibc_c.a "$$($(CC) -print-libgcc-file-name)"
-	$(OBJCOPY) --strip-debug --wildcard --keep-global-symbol='dcsctp_*' $(OUT)/dcsctp.o
+	$(OBJCOPY) --strip-debug --wildcard --keep-global-symbol='dcsctp_*' $(OUT)/$(NAME).o
 	rm -f $@
-	$(AR) rcD $@ $(OUT)/dcsctp.o
+	$(AR) rcD $@ $(OUT)/$(NAME).o
 	$(AR) sD $@
 
 # The same object. It needs what the archive needs, and nothing of the compiler's.
@@ -58,25 +77,29 @@ $(SHARED): $(LIBRARY) packaging/exports.map
 	    -Wl,--whole-archive $< -Wl,--no-whole-archive -o $@
 
 # (always anew, since PREFIX and LIBDIR may be others)
+PROVED = $(if $(MARK),built without proofs,proved in Rattle)
 TO_PREFIX = $(shell realpath -ms --relative-to=$(LIBDIR)/pkgconfig $(or $(PREFIX),/))
-$(OUT)/%: packaging/%.in include/dcsctp.h FORCE
+$(OUT)/$(NAME)%: packaging/dcsctp%.in include/dcsctp.h FORCE
 	@mkdir -p $(OUT)
-	@sed -e 's|@VERSION@|$(VERSION)|' -e 's|@TO_PREFIX@|$(TO_PREFIX)|' $< >$@
+	@sed -e 's|@NAME@|$(NAME)|' -e 's|@VERSION@|$(VERSION)|' -e 's|@MARK@|$(MARK)|' \
+	    -e 's|@PROVED@|$(PROVED)|' -e 's|@TO_PREFIX@|$(TO_PREFIX)|' $< >$@
 
 INCLUDE_TO = $(DESTDIR)$(PREFIX)/include
 LIB_TO = $(DESTDIR)$(LIBDIR)
 install: all
-	install -d $(INCLUDE_TO) $(LIB_TO)/pkgconfig $(LIB_TO)/cmake/dcsctp
+	install -d $(INCLUDE_TO) $(LIB_TO)/pkgconfig $(LIB_TO)/cmake/$(NAME)
 	install -m 644 include/dcsctp.h $(INCLUDE_TO)/
 	install -m 644 $(LIBRARY) $(LIB_TO)/
 	install -m 755 $(SHARED) $(LIB_TO)/
-	ln -sf $(notdir $(SHARED)) $(LIB_TO)/libdcsctp.so
-	install -m 644 $(OUT)/dcsctp.pc $(LIB_TO)/pkgconfig/
-	install -m 644 $(OUT)/dcsctpConfig.cmake $(OUT)/dcsctpConfigVersion.cmake $(LIB_TO)/cmake/dcsctp/
+	ln -sf $(notdir $(SHARED)) $(LIB_TO)/lib$(NAME).so
+	install -m 644 $(OUT)/$(NAME).pc $(LIB_TO)/pkgconfig/
+	install -m 644 $(OUT)/$(NAME)Config.cmake $(OUT)/$(NAME)ConfigVersion.cmake $(LIB_TO)/cmake/$(NAME)/
 
+NAMES = dcsctp dcsctp-unproved
 uninstall:
-	rm -f $(INCLUDE_TO)/dcsctp.h $(LIB_TO)/pkgconfig/dcsctp.pc $(addprefix $(LIB_TO)/libdcsctp,.a .so .so.0)
-	rm -rf $(LIB_TO)/cmake/dcsctp
+	rm -f $(INCLUDE_TO)/dcsctp.h $(NAMES:%=$(LIB_TO)/pkgconfig/%.pc) \
+	    $(foreach it,.a .so .so.0,$(NAMES:%=$(LIB_TO)/lib%$(it)))
+	rm -rf $(NAMES:%=$(LIB_TO)/cmake/%)
 
 clean:
 	rm -rf $(OUT)
@@ -88,8 +111,8 @@ WRAP = -Wl,--wrap=malloc,--wrap=realloc,--wrap=free
 
 $(OUT)/tests/%: tests/c/%.c $(wildcard tests/c/*.h) include/dcsctp.h $(LIBRARY)
 	@mkdir -p $(OUT)/tests
-	$(COMPILE) $< $(LIBRARY) $(if $(filter refusals random costs,$*),$(WRAP)) \
-	    -pthread -o $@
+	$(COMPILE) $(if $(MARK),-DUNPROVED) $< $(LIBRARY) \
+	    $(if $(filter refusals random costs,$*),$(WRAP)) -pthread -o $@
 
 $(OUT)/examples/%: examples/c/%.c include/dcsctp.h $(LIBRARY)
 	@mkdir -p $(OUT)/examples
@@ -158,7 +181,7 @@ FOUND = CC='$(CC)' bash scripts/try-installed.sh
 check-install: all
 	rm -rf $(STAGE)
 	$(MAKE) -s install $(STAGED)
-	$(FOUND) $(VERSION) $(STAGE)$(PREFIX) lib/x86_64-linux-gnu
+	$(FOUND) $(NAME) $(VERSION) $(STAGE)$(PREFIX) lib/x86_64-linux-gnu
 	$(MAKE) -s uninstall $(STAGED)
 	find $(STAGE) -not -type d | diff /dev/null -
 
@@ -186,11 +209,12 @@ check-sanitizers: $(LIBRARY)
 
 check-rust: $(LIBRARY)
 	@if command -v cargo >/dev/null; then set -e; cd examples/rust; echo "check: cargo"; \
-	export DCSCTP_LIB_DIR=$(abspath $(OUT)) CARGO_TARGET_DIR=$(abspath $(OUT)/cargo); \
+	export DCSCTP_LIB_DIR=$(abspath $(OUT)) DCSCTP_LIB_NAME=$(NAME) \
+	    CARGO_TARGET_DIR=$(abspath $(OUT)/cargo); \
 	cargo test --offline --quiet >/dev/null; \
 	timeout 120 cargo run --offline --quiet --release 2>/dev/null; \
 	timeout 120 cargo run --offline --quiet --release -- --loss 20 2>/dev/null; \
 	else echo "check: no cargo, so the Rust example isn't tried"; fi
 
-.PHONY: FORCE all install uninstall clean check check-header check-symbols check-tests \
+.PHONY: FORCE all unproved install uninstall clean check check-header check-symbols check-tests \
     check-examples check-install check-valgrind check-sanitizers check-rust

@@ -122,7 +122,9 @@ extern "C" {
 #define DCSCTP_VERSION \
     (DCSCTP_VERSION_MAJOR * 65536u + DCSCTP_VERSION_MINOR * 256u + DCSCTP_VERSION_PATCH)
 
-/* The version of the library: DCSCTP_VERSION, unless it was built with another header. */
+/* The version of the library: DCSCTP_VERSION, unless it was built with another header. A library
+ * that was built without proofs, to try or to change it, adds DCSCTP_VERSION_UNPROVED. */
+#define DCSCTP_VERSION_UNPROVED 0x80000000u
 uint32_t dcsctp_version(void);
 
 /* ---- Results -------------------------------------------------------------------------------- */

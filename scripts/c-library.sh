@@ -1,8 +1,8 @@
 #!/usr/bin/env bash
-# Builds out/libdcsctp.a, and checks the C library by `make check`, where there is a C compiler. The archive of
+# Builds the C library, and checks it by `make check`, where there is a C compiler. The archive of
 # crates/dcsctp_c is built over the libraries that `rt ci` has left in crates/*/out/rlib; `rt lib` would prove each of
 # them again. `rt ci` proves dcsctp_c too, but leaves no archive, so it is proved twice. ARCHIVE names one that
-# is there, and KIT the folder of the kit.
+# is there, and KIT the folder of the kit. The library without proofs is built and tried, too.
 set -euo pipefail
 shopt -s inherit_errexit
 cd "$(dirname "$0")/.."
@@ -54,6 +54,9 @@ archive=${ARCHIVE:-crates/$crate/out/lib$crate.a}
 if command -v "${CC:-cc}" >/dev/null; then
     make -s "ARCHIVE=$archive" "KIT=$kit" check
     echo "c-library: make check passed"
+    make -s "ARCHIVE=out/unproved/lib$crate-unproved.a" "KIT=$kit" \
+        check-symbols check-tests check-examples check-install
+    echo "c-library: the library without proofs passed the tests"
 else
     echo "c-library: no C compiler, so make check isn't run"
 fi

@@ -2,10 +2,10 @@
 # Links the first example against both libraries where they are installed, and runs it: by the folders' names, by
 # pkg-config and by CMake, where these are there.
 #
-#     scripts/try-installed.sh VERSION PREFIX LIB          LIB: a folder of PREFIX
+#     scripts/try-installed.sh NAME VERSION PREFIX LIB     NAME: dcsctp or dcsctp-unproved; LIB: a folder of PREFIX
 set -euo pipefail
 shopt -s inherit_errexit
-version=$1 prefix=$2 lib=$3
+name=$1 version=$2 prefix=$3 lib=$4
 cd "$(dirname "$0")/.."
 read -ra compile <<<"${CC:-cc}"
 program=examples/c/two_sockets.c
@@ -19,36 +19,36 @@ run() {
 
 # run_shared PROGRAM: it takes the shared library from the folder, and prints what it has to.
 run_shared() {
-    readelf -d "$folder/$1" | grep -qF "[libdcsctp.so.0]" || { echo "try-installed: $1 has the archive" >&2; exit 1; }
+    readelf -d "$folder/$1" | grep -qF "[lib$name.so.0]" || { echo "try-installed: $1 has the archive" >&2; exit 1; }
     LD_LIBRARY_PATH=$prefix/$lib run "$1"
 }
 
-"${compile[@]}" $program "-I$prefix/include" "$prefix/$lib/libdcsctp.a" -o "$folder/by_archive"
+"${compile[@]}" $program "-I$prefix/include" "$prefix/$lib/lib$name.a" -o "$folder/by_archive"
 run by_archive
-"${compile[@]}" $program "-I$prefix/include" "-L$prefix/$lib" -ldcsctp -o "$folder/by_shared"
+"${compile[@]}" $program "-I$prefix/include" "-L$prefix/$lib" "-l$name" -o "$folder/by_shared"
 run_shared by_shared
 
 if command -v pkg-config >/dev/null; then
     echo "check: pkg-config"
     export PKG_CONFIG_LIBDIR=$prefix/$lib/pkgconfig
-    [ "$(pkg-config --modversion dcsctp)" = "$version" ]
-    read -ra flags < <(pkg-config --cflags dcsctp)
-    read -ra libs < <(pkg-config --libs dcsctp)
+    [ "$(pkg-config --modversion "$name")" = "$version${name#dcsctp}" ]
+    read -ra flags < <(pkg-config --cflags "$name")
+    read -ra libs < <(pkg-config --libs "$name")
     "${compile[@]}" $program "${flags[@]}" "${libs[@]}" -o "$folder/by_pkg_config"
     run_shared by_pkg_config
-    "${compile[@]}" $program "${flags[@]}" "$(pkg-config --variable=archive dcsctp)" -o "$folder/by_its_archive"
+    "${compile[@]}" $program "${flags[@]}" "$(pkg-config --variable=archive "$name")" -o "$folder/by_its_archive"
     run by_its_archive
 else
-    echo "check: no pkg-config, so dcsctp.pc isn't tried"
+    echo "check: no pkg-config, so $name.pc isn't tried"
 fi
 
 if command -v cmake >/dev/null; then
     echo "check: cmake"
     cmake -S tests/c/cmake -B "$folder/cmake" "-DCMAKE_PREFIX_PATH=$prefix" \
-        -DCMAKE_LIBRARY_ARCHITECTURE=x86_64-linux-gnu "-DWANTED=$version" >/dev/null
+        -DCMAKE_LIBRARY_ARCHITECTURE=x86_64-linux-gnu "-DPACKAGE=$name" "-DWANTED=$version" >/dev/null
     cmake --build "$folder/cmake" >/dev/null
     run cmake/by_cmake
     run_shared cmake/by_cmake_shared
 else
-    echo "check: no cmake, so dcsctpConfig.cmake isn't tried"
+    echo "check: no cmake, so ${name}Config.cmake isn't tried"
 fi

@@ -5,6 +5,8 @@ use std::ffi::c_void;
 
 /// The version of the header that this file is from: 0.1.0.
 pub const VERSION: u32 = 0x00_01_00;
+/// Is added to the version of a library that was built without proofs.
+pub const VERSION_UNPROVED: u32 = 0x8000_0000;
 pub const NEVER: u64 = u64::MAX;
 pub const BUFFER_TOO_SMALL: i32 = -6;
 

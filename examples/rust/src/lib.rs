@@ -97,7 +97,8 @@ impl Socket {
     /// Panics if the archive is of another version than `ffi.rs`.
     pub fn new(options: &Options, seed: &[u8; 32], now: Duration) -> Result<Socket, Error> {
         // SAFETY: it has no premise.
-        assert_eq!(unsafe { ffi::dcsctp_version() }, ffi::VERSION, "another version");
+        let version = unsafe { ffi::dcsctp_version() } & !ffi::VERSION_UNPROVED;
+        assert_eq!(version, ffi::VERSION, "another version");
         let mut socket = Socket(ffi::Socket { at: ptr::null_mut(), mark: 0 });
         // SAFETY (here and below): each pointer comes from a reference or a slice, with its own length.
         done(unsafe {
