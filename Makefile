@@ -5,9 +5,10 @@
 #     make check      checks it, by what is installed here: valgrind, sanitizers, cargo, cmake
 #     make install    copies it to PREFIX (/usr/local) and LIBDIR (PREFIX/lib), below DESTDIR
 #     make uninstall  removes what install has copied
+#     make dist       packs it into out/dcsctp-VERSION-linux-x86_64-v2.tar.gz
 #     make clean
 #
-# check and install are of what was built last. ARCHIVE=FILE takes an archive that rt has built, and
+# check, install and dist are of what was built last. ARCHIVE=FILE takes an archive that rt has built, and
 # KIT=FOLDER the kit's folder.
 
 PREFIX ?= /usr/local
@@ -25,7 +26,7 @@ UNPROVED = out/unproved/libdcsctp_c-unproved.a
 ifndef ARCHIVE
 ifneq ($(filter unproved,$(MAKECMDGOALS)),)
 ARCHIVE := $(UNPROVED)
-else ifneq ($(filter check% install,$(MAKECMDGOALS)),)
+else ifneq ($(filter check% install dist,$(MAKECMDGOALS)),)
 ARCHIVE := $(shell ls -t $(BUILT) $(UNPROVED) 2>/dev/null | head -1)
 endif
 endif
@@ -53,6 +54,7 @@ all unproved: $(LIBRARY) $(SHARED) $(PACKAGE)
 
 SOURCES := $(shell find crates -name out -prune -o -name '*.rt' -print)
 $(BUILT): $(SOURCES)
+	rm -f $(BUILT:.a=.verdict)
 	cd crates/dcsctp_c && rt lib
 	touch $@
 
@@ -84,6 +86,8 @@ $(OUT)/$(NAME)%: packaging/dcsctp%.in include/dcsctp.h FORCE
 	@sed -e 's|@NAME@|$(NAME)|' -e 's|@VERSION@|$(VERSION)|' -e 's|@MARK@|$(MARK)|' \
 	    -e 's|@PROVED@|$(PROVED)|' -e 's|@TO_PREFIX@|$(TO_PREFIX)|' $< >$@
 
+# ---- Packages ---------------------------------------------------------------------------------
+
 INCLUDE_TO = $(DESTDIR)$(PREFIX)/include
 LIB_TO = $(DESTDIR)$(LIBDIR)
 install: all
@@ -100,6 +104,17 @@ uninstall:
 	rm -f $(INCLUDE_TO)/dcsctp.h $(NAMES:%=$(LIB_TO)/pkgconfig/%.pc) \
 	    $(foreach it,.a .so .so.0,$(NAMES:%=$(LIB_TO)/lib%$(it)))
 	rm -rf $(NAMES:%=$(LIB_TO)/cmake/%)
+
+# The same bytes from the same files, wherever it is packed.
+DIST = dcsctp-$(VERSION)$(MARK)-linux-x86_64-v2
+TAR = tar --sort=name --owner=0 --group=0 --numeric-owner --mtime=@0
+dist: all
+	rm -rf $(OUT)/$(DIST)
+	$(MAKE) -s install DESTDIR=$(abspath $(OUT)/$(DIST)) PREFIX= LIBDIR=/lib
+	install -m 644 LICENSE NOTICE $(OUT)/$(DIST)/
+	KIT=$(KIT) bash scripts/verdict.sh $(OUT)/$(DIST) >$(OUT)/VERDICT
+	mv $(OUT)/VERDICT $(OUT)/$(DIST)/
+	$(TAR) -C $(OUT) -c $(DIST) | gzip -n9 >$(OUT)/$(DIST).tar.gz
 
 clean:
 	rm -rf $(OUT)
@@ -120,7 +135,7 @@ $(OUT)/examples/%: examples/c/%.c include/dcsctp.h $(LIBRARY)
 
 # ---- Checks -----------------------------------------------------------------------------------
 
-check: check-header check-symbols check-tests check-examples check-install check-valgrind \
+check: check-header check-symbols check-tests check-examples check-install check-dist check-valgrind \
     check-sanitizers check-rust
 
 # The header alone, in C and C++, and of which lines a compiler warns.
@@ -173,8 +188,8 @@ check-examples: $(EXAMPLES:%=$(OUT)/examples/%)
 	timeout 120 $(OUT)/examples/file_transfer 2>/dev/null
 	timeout 120 $(OUT)/examples/file_transfer --loss 20 2>/dev/null
 
-# A caller finds both libraries where they were installed, also in a folder of the machine's kind. What was
-# installed can be removed.
+# A caller finds both libraries where they were installed, also in a folder of the machine's kind, and where
+# what was packed has been unpacked elsewhere. What was installed can be removed.
 STAGE = $(abspath $(OUT)/stage)
 STAGED = DESTDIR=$(STAGE) LIBDIR=$(PREFIX)/lib/x86_64-linux-gnu
 FOUND = CC='$(CC)' bash scripts/try-installed.sh
@@ -184,6 +199,12 @@ check-install: all
 	$(FOUND) $(NAME) $(VERSION) $(STAGE)$(PREFIX) lib/x86_64-linux-gnu
 	$(MAKE) -s uninstall $(STAGED)
 	find $(STAGE) -not -type d | diff /dev/null -
+
+check-dist: dist
+	@set -e; folder=$$(mktemp -d); trap 'rm -rf "$$folder"' EXIT; echo "check: $(OUT)/$(DIST).tar.gz"; \
+	tar -C "$$folder" -xzf $(OUT)/$(DIST).tar.gz; \
+	(cd "$$folder/$(DIST)" && grep -E '^[0-9a-f]{64}  ' VERDICT | sha256sum -c --quiet); \
+	$(FOUND) $(NAME) $(VERSION) "$$folder/$(DIST)" lib
 
 # Leaks count. A child ends by _exit, so what can still be reached there doesn't.
 VALGRIND = valgrind -q --leak-check=full --errors-for-leak-kinds=definite,possible \
@@ -216,5 +237,7 @@ check-rust: $(LIBRARY)
 	timeout 120 cargo run --offline --quiet --release -- --loss 20 2>/dev/null; \
 	else echo "check: no cargo, so the Rust example isn't tried"; fi
 
-.PHONY: FORCE all unproved install uninstall clean check check-header check-symbols check-tests \
-    check-examples check-install check-valgrind check-sanitizers check-rust
+# (dist and install write the same files)
+.NOTPARALLEL:
+.PHONY: FORCE all unproved install uninstall dist clean check check-header check-symbols check-tests \
+    check-examples check-install check-dist check-valgrind check-sanitizers check-rust

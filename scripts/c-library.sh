@@ -1,5 +1,5 @@
 #!/usr/bin/env bash
-# Builds the C library, and checks it by `make check`, where there is a C compiler. The archive of
+# Builds the C library, checks it by `make check`, and packs it, where there is a C compiler. The archive of
 # crates/dcsctp_c is built over the libraries that `rt ci` has left in crates/*/out/rlib; `rt lib` would prove each of
 # them again. `rt ci` proves dcsctp_c too, but leaves no archive, so it is proved twice. ARCHIVE names one that
 # is there, and KIT the folder of the kit. The library without proofs is built and tried, too.
@@ -46,7 +46,7 @@ build() {
     mapfile -t said < <(words)
     (cd crates/$crate && "$kit/bin/rattle" build "${said[@]}" -o out/lib$crate.a) >"$log" 2>&1 ||
         { cat "$log" >&2; exit 1; }
-    tail -1 "$log"
+    tail -1 "$log" | tee crates/$crate/out/lib$crate.verdict
 }
 
 archive=${ARCHIVE:-crates/$crate/out/lib$crate.a}
@@ -55,7 +55,7 @@ if command -v "${CC:-cc}" >/dev/null; then
     make -s "ARCHIVE=$archive" "KIT=$kit" check
     echo "c-library: make check passed"
     make -s "ARCHIVE=out/unproved/lib$crate-unproved.a" "KIT=$kit" \
-        check-symbols check-tests check-examples check-install
+        check-symbols check-tests check-examples check-dist
     echo "c-library: the library without proofs passed the tests"
 else
     echo "c-library: no C compiler, so make check isn't run"
