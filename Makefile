@@ -43,8 +43,8 @@ PACKAGE = $(OUT)/$(NAME).pc $(OUT)/$(NAME)Config.cmake $(OUT)/$(NAME)ConfigVersi
 VERSION := $(shell awk '/define DCSCTP_VERSION_[MP]/ { v = v s $$3; s = "." } END { print v }' \
     include/dcsctp.h)
 
-TESTS = names calls options events ends handover refusals random threads
-EXAMPLES = two_sockets file_transfer
+TESTS = names calls options events ends handover refusals random threads channels
+EXAMPLES = two_sockets file_transfer channels
 WARNINGS = -Wall -Wextra -Wshadow -pedantic -Werror
 COMPILE = $(CC) -std=c11 $(WARNINGS) $(CFLAGS) -Iinclude
 
@@ -126,12 +126,15 @@ WRAP = -Wl,--wrap=malloc,--wrap=realloc,--wrap=free
 
 $(OUT)/tests/%: tests/c/%.c $(wildcard tests/c/*.h) include/dcsctp.h $(LIBRARY)
 	@mkdir -p $(OUT)/tests
-	$(COMPILE) $(if $(MARK),-DUNPROVED) $< $(LIBRARY) \
+	$(COMPILE) $(if $(MARK),-DUNPROVED) $(filter %.c,$^) $(LIBRARY) \
 	    $(if $(filter refusals random costs,$*),$(WRAP)) -pthread -o $@
 
 $(OUT)/examples/%: examples/c/%.c include/dcsctp.h $(LIBRARY)
 	@mkdir -p $(OUT)/examples
-	$(COMPILE) $< $(LIBRARY) -o $@
+	$(COMPILE) $(filter %.c,$^) $(LIBRARY) -o $@
+
+# Data channels are a file that users copy.
+$(OUT)/tests/channels $(OUT)/examples/channels: examples/c/data_channel.c examples/c/data_channel.h
 
 # ---- Checks -----------------------------------------------------------------------------------
 
@@ -180,10 +183,14 @@ check-tests: $(TESTS:%=$(OUT)/tests/%)
 check-examples: $(EXAMPLES:%=$(OUT)/examples/%)
 	cat README.md docs/C.md | sed -n '/^```c$$/,/^```$$/p' | sed '1d; $$d' | diff - examples/c/two_sockets.c
 	$(OUT)/examples/two_sockets | diff examples/c/two_sockets.stdout -
+	$(OUT)/examples/channels | diff examples/c/channels.stdout -
 	@if command -v $(CXX) >/dev/null; then set -e; \
 	$(CXX) -std=c++11 $(WARNINGS) $(CFLAGS) -Iinclude -x c++ examples/c/two_sockets.c -x none \
 	    $(LIBRARY) -o $(OUT)/examples/in_cpp; \
 	$(OUT)/examples/in_cpp | diff examples/c/two_sockets.stdout -; \
+	$(CXX) -std=c++11 $(WARNINGS) $(CFLAGS) -Iinclude -x c++ examples/c/channels.c \
+	    examples/c/data_channel.c -x none $(LIBRARY) -o $(OUT)/examples/in_cpp; \
+	$(OUT)/examples/in_cpp | diff examples/c/channels.stdout -; \
 	else echo "check: no C++ compiler, so nothing is linked in C++"; fi
 	timeout 120 $(OUT)/examples/file_transfer 2>/dev/null
 	timeout 120 $(OUT)/examples/file_transfer --loss 20 2>/dev/null
@@ -211,7 +218,8 @@ VALGRIND = valgrind -q --leak-check=full --errors-for-leak-kinds=definite,possib
     --error-exitcode=9
 check-valgrind: $(TESTS:%=$(OUT)/tests/%) $(EXAMPLES:%=$(OUT)/examples/%)
 	@if command -v valgrind >/dev/null; then set -e; \
-	for it in $(TESTS:%=$(OUT)/tests/%) $(OUT)/examples/two_sockets; \
+	for it in $(TESTS:%=$(OUT)/tests/%) $(OUT)/examples/two_sockets \
+	    $(OUT)/examples/channels; \
 	do echo "check: valgrind $$it"; $(VALGRIND) $$it >/dev/null; done; \
 	echo "check: helgrind $(OUT)/tests/threads"; \
 	valgrind -q --tool=helgrind --error-exitcode=9 $(OUT)/tests/threads >/dev/null; \
