@@ -83,6 +83,10 @@
  *   an error changes nothing and writes nothing. A compiler warns if you ignore the result of a
  *   call that may be OUT_OF_MEMORY.
  *
+ * Sizes. dcsctp_options and dcsctp_metrics begin with `size`: set it to the struct's sizeof before
+ *   a call, as dcsctp_options_init does. If the struct has another size in the library, which then
+ *   has another header, the call returns WRONG_SIZE, and reads and writes no other field.
+ *
  * Numbers. Calls and structs have whole numbers, which later versions may have more of. Their names
  *   are enumerators: a debugger shows them, and with a cast a compiler warns of a case that is
  *   missing, as in switch ((enum dcsctp_event_kind)event.kind).
@@ -190,6 +194,10 @@ DCSCTP_ENUM(dcsctp_error, int32_t) {
 
     /* In dcsctp_send_options `flags` has a bit without a meaning, or `reserved` isn't 0. */
     DCSCTP_ERROR_INVALID_SEND_OPTIONS = -17,
+
+    /* `size` isn't that of the library's struct: it wasn't set, or the caller was built with
+     * another header than the library. */
+    DCSCTP_ERROR_WRONG_SIZE = -18,
 };
 
 /* What a result says: "no error" where it isn't negative, and "unknown" of an unknown error. */
@@ -231,6 +239,8 @@ static inline const char *dcsctp_error_text(int32_t result) {
         return "the socket isn't closed";
     case DCSCTP_ERROR_INVALID_SEND_OPTIONS:
         return "the message can't be sent with these options";
+    case DCSCTP_ERROR_WRONG_SIZE:
+        return "the struct has another size in the library";
     default:
         return result > 0 ? "no error" : "unknown";
     }
@@ -283,6 +293,7 @@ typedef struct dcsctp_socket {
  *   turns, and a reset that is in progress is asked for under the next number. At 0 all is as in
  *   dcsctp 0.1.16. docs/DIFFERENCES.md has a row for each rule. */
 typedef struct dcsctp_options {
+    size_t size;                                         /* sizeof(dcsctp_options) */
     size_t mtu;                                          /* longest packet that is sent: 1,191 */
     size_t max_message_size;                             /* longest message to send: 262,144 */
     size_t max_receiver_window_buffer_size;              /* received, not taken yet: 5,242,880 */
@@ -320,14 +331,21 @@ typedef struct dcsctp_options {
     uint32_t follow_rfc;                                 /* switch, see above: 1 */
 } dcsctp_options;
 
-/* Writes the default options. */
-void dcsctp_options_init(dcsctp_options *options) DCSCTP_CALL;
+/* Writes the default options, where `size` is set. Error: WRONG_SIZE. */
+int32_t dcsctp_get_default_options(dcsctp_options *options) DCSCTP_CALL;
+
+/* Sets `size`, and writes the default options. If the struct has another size in the library, no
+ * other field is written, and dcsctp_create returns WRONG_SIZE. */
+static inline void dcsctp_options_init(dcsctp_options *options) {
+    options->size = sizeof *options;
+    dcsctp_get_default_options(options);
+}
 
 /* Creates a closed socket whose clock stands at `now`. Nothing is sent before dcsctp_connect, or
  * before a peer connects.
  *
- * Errors: ALREADY_CREATED, INVALID_OPTIONS, OUT_OF_MEMORY. In each case `socket` is as before, and
- * the call may be tried again. */
+ * Errors: ALREADY_CREATED, WRONG_SIZE, INVALID_OPTIONS, OUT_OF_MEMORY. In each case `socket` is as
+ * before, and the call may be tried again. */
 int32_t dcsctp_create(dcsctp_socket *socket, const dcsctp_options *options, const uint8_t seed[32],
                       uint64_t now) DCSCTP_CHECKED_CALL;
 
@@ -613,8 +631,8 @@ int32_t dcsctp_has_failed(dcsctp_socket *socket) DCSCTP_CALL;
 /* Sets how long a message may be from now on. Error: NO_SOCKET. */
 int32_t dcsctp_set_max_message_size(dcsctp_socket *socket, size_t bytes) DCSCTP_CALL;
 
-/* Writes the options of the socket, with `max_message_size` as it was set last. A switch is 0 or 1,
- * and `reserved` is 0. Error: NO_SOCKET. */
+/* Writes the options of the socket, where `size` is set. `max_message_size` is as it was set last,
+ * a switch is 0 or 1, and `reserved` is 0. Errors: WRONG_SIZE, NO_SOCKET. */
 int32_t dcsctp_get_options(dcsctp_socket *socket, dcsctp_options *options) DCSCTP_CALL;
 
 DCSCTP_ENUM(dcsctp_peer, uint32_t) {
@@ -627,6 +645,7 @@ DCSCTP_ENUM(dcsctp_peer, uint32_t) {
 
 /* Counts of the socket's whole life, and how the association is now. */
 typedef struct dcsctp_metrics {
+    size_t size;                         /* sizeof(dcsctp_metrics) */
     uint64_t rtx_bytes_count;            /* bytes of chunks sent again, with headers and padding */
     uint64_t srtt;                       /* smoothed round trip time, in nanoseconds */
     size_t tx_packets_count;             /* packets sent */
@@ -645,8 +664,8 @@ typedef struct dcsctp_metrics {
     uint32_t reserved;
 } dcsctp_metrics;
 
-/* Writes the metrics: 1. Where the peer isn't known: 0, and nothing is written.
- * Error: NO_SOCKET. */
+/* Writes the metrics, where `size` is set: 1. Where the peer isn't known: 0, and nothing is
+ * written. Errors: WRONG_SIZE, NO_SOCKET. */
 int32_t dcsctp_get_metrics(dcsctp_socket *socket, dcsctp_metrics *metrics) DCSCTP_CALL;
 
 /* ---- Handover to another process ------------------------------------------------------------ */

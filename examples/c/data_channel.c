@@ -58,9 +58,8 @@ static void forget(struct data_channel *channel) {
 /* Writes the metrics, or 0 where the peer isn't known. */
 static dcsctp_metrics metrics_of(struct data_channels *all) {
     dcsctp_metrics metrics;
-    const size_t size = sizeof metrics;
     memset(&metrics, 0, sizeof metrics);
-    memcpy(&metrics, &size, sizeof size); /* `size`, where the struct begins with it */
+    metrics.size = sizeof metrics;
     if (dcsctp_get_metrics(all->socket, &metrics) != 1)
         memset(&metrics, 0, sizeof metrics);
     return metrics;

@@ -194,6 +194,7 @@ static void send_chunk(struct end *end, FILE *in, long length, long left) {
 
 static void print_progress(struct end *end, double sent, double size, double seconds) {
     dcsctp_metrics metrics;
+    metrics.size = sizeof metrics;
     if (dcsctp_get_metrics(&end->socket, &metrics) != 1)
         return;
     fprintf(stderr, "%5.1f of %.1f MB, %.1f s, window %zu bytes, round trip %.2f ms\n", sent / 1e6,

@@ -87,11 +87,13 @@ static void buffered_amount(void) {
 
 static void get_metrics(void) {
     dcsctp_metrics metrics;
+    metrics.size = sizeof metrics;
     EQUAL("get_metrics", dcsctp_get_metrics(&pair.a.socket, &metrics), 1);
 }
 
 static void get_options(void) {
     dcsctp_options given;
+    given.size = sizeof given;
     EQUAL("get_options", dcsctp_get_options(&pair.a.socket, &given), DCSCTP_OK);
 }
 

@@ -329,6 +329,7 @@ static void all_other_options(void) {
     options.enable_message_interleaving = 1;
     options.zero_checksum_method = 1;
     const dcsctp_options others = {
+        .size = sizeof others,
         .mtu = 500,
         .max_message_size = 30,
         .max_receiver_window_buffer_size = 2000,

@@ -1,6 +1,9 @@
 /* Each option: its default, that it is given back, and what it does. So a field that stood in the
  * place of another one would be found. And the metrics. */
+#define _GNU_SOURCE
 #include "pair.h"
+
+#include <sys/mman.h>
 
 /* ---- Values --------------------------------------------------------------------------------- */
 
@@ -12,6 +15,7 @@ static void defaults(void) {
         const char *name;
         uint64_t value, expected;
     } rows[] = {
+        {"size", options.size, sizeof options},
         {"mtu", options.mtu, 1191},
         {"max_message_size", options.max_message_size, 262144},
         {"max_receiver_window_buffer_size", options.max_receiver_window_buffer_size, 5242880},
@@ -57,6 +61,7 @@ static void defaults(void) {
 
 /* All different, and none the default. */
 static const dcsctp_options DIFFERENT = {
+    .size = sizeof(dcsctp_options),
     .mtu = 1001,
     .max_message_size = 1002,
     .max_receiver_window_buffer_size = 1003,
@@ -103,9 +108,11 @@ static void given_back(void) {
     expected.enable_handover_with_outstanding_data = 1;
     expected.reserved = 0;
     memset(&options, 77, sizeof options);
+    options.size = sizeof options;
     EQUAL("create", create(&end, &DIFFERENT, 1, BEGIN), DCSCTP_OK);
     EQUAL("options", dcsctp_get_options(&end.socket, &options), DCSCTP_OK);
 #define SAME(field) EQUAL(#field, options.field == expected.field, 1)
+    SAME(size);
     SAME(mtu);
     SAME(max_message_size);
     SAME(max_receiver_window_buffer_size);
@@ -171,6 +178,7 @@ static void validity(void) {
     for (int fill = 0; fill < 256; fill += 255) {
         for (size_t i = 0; i < sizeof rows / sizeof rows[0]; i++) {
             memset(&options, fill, sizeof options);
+            options.size = sizeof options;
             options.mtu = rows[i].mtu;
             options.max_receiver_window_buffer_size = rows[i].receive;
             options.max_send_buffer_size = rows[i].send;
@@ -182,9 +190,78 @@ static void validity(void) {
     }
 }
 
-/* ---- What each option does ------------------------------------------------------------------ */
-
 static struct pair pair;
+
+/* A struct of another size is refused, whatever else it has: only `size` is there, and behind it a page
+ * that can't be read. The options of the header that had no `size` had 208 bytes, and `mtu` came first. */
+static void other_sizes(void) {
+    const struct {
+        const char *name;
+        size_t size;
+    } rows[] = {
+        {"not set", 0},
+        {"nothing but size", sizeof(size_t)},
+        {"options without size", sizeof(dcsctp_options) - sizeof(size_t)},
+        {"metrics without size", sizeof(dcsctp_metrics) - sizeof(size_t)},
+        {"a field more in the options", sizeof(dcsctp_options) + sizeof(uint64_t)},
+        {"a field more in the metrics", sizeof(dcsctp_metrics) + sizeof(uint64_t)},
+        {"mtu in the place of size", 1191},
+        {"the greatest", SIZE_MAX},
+    };
+    const dcsctp_options options = quiet_options();
+    const uint8_t seed[32] = {1};
+    char *pages = mmap(NULL, 131072, PROT_READ | PROT_WRITE, MAP_PRIVATE | MAP_ANONYMOUS, -1, 0);
+    EQUAL("two pages", pages != MAP_FAILED, 1);
+    EQUAL("the second can't be read", mprotect(pages + 65536, 65536, PROT_NONE), 0);
+    void *at = pages + 65536 - sizeof(size_t);
+    connect_pair(&pair, &options, &options);
+    for (size_t i = 0; i < sizeof rows / sizeof rows[0]; i++) {
+        dcsctp_socket none = DCSCTP_SOCKET_INIT, *of_a = &pair.a.socket;
+        memcpy(at, &rows[i].size, sizeof(size_t));
+        EQUAL(rows[i].name, dcsctp_get_default_options(at), DCSCTP_ERROR_WRONG_SIZE);
+        EQUAL(rows[i].name, dcsctp_create(&none, at, seed, BEGIN), DCSCTP_ERROR_WRONG_SIZE);
+        EQUAL(rows[i].name, dcsctp_state(&none), DCSCTP_ERROR_NO_SOCKET);
+        EQUAL("a second socket", dcsctp_create(of_a, at, seed, BEGIN), DCSCTP_ERROR_ALREADY_CREATED);
+        EQUAL(rows[i].name, dcsctp_get_options(of_a, at), DCSCTP_ERROR_WRONG_SIZE);
+        EQUAL(rows[i].name, dcsctp_get_metrics(of_a, at), DCSCTP_ERROR_WRONG_SIZE);
+        EQUAL("no socket", dcsctp_get_options(&none, at), DCSCTP_ERROR_WRONG_SIZE);
+        EQUAL("no socket", dcsctp_get_metrics(&none, at), DCSCTP_ERROR_WRONG_SIZE);
+        EQUAL("as before", memcmp(at, &rows[i].size, sizeof(size_t)), 0);
+    }
+    destroy_pair(&pair);
+    munmap(pages, 131072);
+}
+
+/* Each size but one is refused, of all that structs may have. */
+static void all_sizes(void) {
+    dcsctp_options defaults, given, own, options_before;
+    dcsctp_metrics metrics, metrics_before;
+    struct end end;
+    memset(&options_before, 77, sizeof options_before);
+    memset(&metrics_before, 77, sizeof metrics_before);
+    dcsctp_options_init(&defaults);
+    connect_pair(&pair, &defaults, &defaults);
+    for (size_t size = 0; size < 4096; size++) {
+        const int is_options = size == sizeof given, is_metrics = size == sizeof metrics;
+        const int32_t result = is_options ? DCSCTP_OK : DCSCTP_ERROR_WRONG_SIZE;
+        defaults.size = options_before.size = metrics_before.size = size;
+        given = own = options_before;
+        metrics = metrics_before;
+        EQUAL("create", create(&end, &defaults, 1, BEGIN), result);
+        EQUAL("default options", dcsctp_get_default_options(&given), result);
+        EQUAL("options", dcsctp_get_options(&pair.a.socket, &own), result);
+        EQUAL("metrics", dcsctp_get_metrics(&pair.a.socket, &metrics),
+              is_metrics ? 1 : DCSCTP_ERROR_WRONG_SIZE);
+        EQUAL("size", given.size == size && own.size == size && metrics.size == size, 1);
+        EQUAL("written", memcmp(&given, &options_before, sizeof given) != 0, is_options);
+        EQUAL("written", memcmp(&own, &options_before, sizeof own) != 0, is_options);
+        EQUAL("written", memcmp(&metrics, &metrics_before, sizeof metrics) != 0, is_metrics);
+        dcsctp_destroy(&end.socket);
+    }
+    destroy_pair(&pair);
+}
+
+/* ---- What each option does ------------------------------------------------------------------ */
 
 /* The first packet of a socket, an INIT (RFC 9260, section 3.3.2). */
 static void in_the_init(void) {
@@ -766,6 +843,8 @@ int main(void) {
     defaults();
     given_back();
     validity();
+    other_sizes();
+    all_sizes();
     in_the_init();
     ports();
     negotiated();

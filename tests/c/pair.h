@@ -184,6 +184,7 @@ static inline size_t take_messages(struct end *end, size_t length) {
 
 static inline dcsctp_metrics metrics_of(struct end *end) {
     dcsctp_metrics metrics;
+    metrics.size = sizeof metrics;
     EQUAL("metrics", dcsctp_get_metrics(&end->socket, &metrics), 1);
     return metrics;
 }

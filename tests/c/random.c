@@ -196,6 +196,8 @@ static void query(struct side *side) {
     dcsctp_metrics metrics;
     dcsctp_options options;
     dcsctp_message message = {0, 0, 0, 0};
+    metrics.size = sizeof metrics;
+    options.size = sizeof options;
     const long before = refusals;
     check(side, "poll_timeout", dcsctp_poll_timeout(&side->socket, &moment), 0, 0, before);
     check(side, "state", dcsctp_state(&side->socket), 3, 0, before);

@@ -48,6 +48,8 @@ static void check_failed(struct end *end) {
     const dcsctp_send_options invalid = {0, 0, 0, 0, 1};
     EQUAL("invalid options", dcsctp_send(socket, 1, 51, bytes, 5, &invalid),
           DCSCTP_ERROR_INVALID_SEND_OPTIONS);
+    options.size = sizeof options;
+    metrics.size = sizeof metrics;
     const long before = allocations;
     EQUAL("has_failed", dcsctp_has_failed(socket), 1);
     EQUAL("state", dcsctp_state(socket) >= DCSCTP_STATE_CLOSED, 1);

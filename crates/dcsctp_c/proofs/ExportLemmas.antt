@@ -1,9 +1,10 @@
 -- What an export shows of a handle, from what its body did with it.
-use Rattle.std.proofs.Common.{◌≡◌, ◌∙◌, ap, refl, sym, subst, inr, Option, Some, None, IsSome, ℕ, ℤ, List}
+use Rattle.std.proofs.Common.{◌≡◌, ◌∙◌, ap, refl, sym, subst, inr, Option, Some, None, IsSome, Ok, ℕ, ℤ, List}
 use Rattle.dcsctp_session.specs.declared.session.Session.{Session}
 use Rattle.dcsctp_session.specs.declared.status.Status.{Status}
 use Rattle.dcsctp_session.specs.declared.status.Status.TheVariants as statuses
 use Rattle.dcsctp_session.specs.declared.options.OptionsRecord.{OptionsRecord}
+use Rattle.dcsctp_session.specs.Calls.{Creates}
 use Rattle.dcsctp_session.specs.Status.{status_number, taken_status}
 use Rattle.dcsctp_handle.specs.Calls.{OnSession}
 use Rattle.dcsctp_c.specs.Exports.{number_of, Exported, Written, Told, TakenTold, CreatedIn, told_or}
@@ -39,7 +40,7 @@ taken Said Call (Some a) new answer otherwise before after result (r, b, called,
     (taken_status r, b, subst (λ x. Call a before (taken_status r) x b) (sym is.1) (says a r b called), is.0, has)
 
 -- by a handle that is left as it was, for want of memory
-pub not_created : (numbers : OptionsRecord) (seed : List ℕ) (moment : ℕ) (held : Option Session) (result : ℤ)
-    → (IsSome held → ⊥) → result ≡ status_number statuses.OutOfMemory → CreatedIn numbers seed moment held result held
-not_created numbers seed moment None result closed is = inr (statuses.OutOfMemory, inr refl, is, refl)
-not_created numbers seed moment (Some session) result closed is = absurd (closed refl)
+pub not_created : (numbers : OptionsRecord) (seed : List ℕ) (moment : ℕ) (made : Session) (held : Option Session) (result : ℤ)
+    → Creates numbers seed moment (Ok made) → (IsSome held → ⊥) → result ≡ status_number statuses.OutOfMemory → CreatedIn numbers seed moment held result held
+not_created numbers seed moment made None result creates closed is = inr (statuses.OutOfMemory, inr (inr (refl, creates.sized)), is, refl)
+not_created numbers seed moment made (Some session) result creates closed is = absurd (closed refl)

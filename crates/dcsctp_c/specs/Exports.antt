@@ -15,7 +15,8 @@ use Rattle.dcsctp_session.specs.declared.records.MetricsRecord.{MetricsRecord}
 use Rattle.dcsctp_session.specs.Calls.{Creates, EventTaken, MessageTaken, MetricsShown}
 use Rattle.dcsctp_session.specs.Copying.{CopiesTaken}
 use Rattle.dcsctp_session.specs.Handover.{CopiesSnapshot}
-use Rattle.dcsctp_session.specs.Records.{plain_record, no_message}
+use Rattle.dcsctp_session.specs.Options.{ShowsDefault, ShowsOptions, has_options_size}
+use Rattle.dcsctp_session.specs.Records.{plain_record, no_message, has_metrics_size}
 use Rattle.dcsctp_session.specs.Status.{status_number, state_number, taken_status}
 use Rattle.dcsctp_session.specs.Views.{view}
 
@@ -36,11 +37,24 @@ Written Call None before result after new = (result ≡ status_number statuses.N
 Written Call (Some old) before result after new =
     (status : Status) × (session : Session) × Call old before status after session × (result ≡ status_number status) × (new ≡ Some session)
 
+-- The same where the place is a record: one that hasn't the size of the library's is refused, and nothing is written.
+abbrev pub WrittenIf : {T : Type 0} → Bool → (Session → T → Status → T → Session → Type 0) → Option Session → T → ℤ → T → Option Session → Type 0
+WrittenIf false Call old before result after new = (result ≡ status_number statuses.WrongSize) × (after ≡ before) × (new ≡ old)
+WrittenIf true Call old before result after new = Written Call old before result after new
+
 -- a version as one number
 abbrev pub version_number : ℕ → ℕ → ℕ → ℕ
 version_number major minor patch = major * 65536 + minor * 256 + patch
 
--- ---- the first call
+-- ---- the first calls
+
+-- The default options are written, unless the record hasn't the size of the library's.
+abbrev pub DefaultIf : Bool → OptionsRecord → ℤ → OptionsRecord → Type 0
+DefaultIf false before result after = (result ≡ status_number statuses.WrongSize) × (after ≡ before)
+DefaultIf true before result after = (result ≡ status_number statuses.Done) × ShowsDefault after
+
+abbrev pub DefaultGiven : OptionsRecord → ℤ → OptionsRecord → Type 0
+DefaultGiven before result after = DefaultIf (has_options_size before) before result after
 
 -- A handle without a session is given one, unless it can't be made. One with a session keeps it.
 abbrev pub CreatedIn : OptionsRecord → List ℕ → ℕ → Option Session → ℤ → Option Session → Type 0
@@ -54,6 +68,13 @@ CreatedIn numbers seed moment None result new =
 -- What is said of the session is written, and the session is as before.
 abbrev pub Tells : {T : Type 0} → (Session → T → Type 0) → Session → T → Status → T → Session → Type 0
 Tells Says session before status after new = Says session after × (status ≡ statuses.Done) × (new ≡ session)
+
+-- The options are written, and the session is as before.
+abbrev pub WritesOptions : Session → OptionsRecord → Status → OptionsRecord → Session → Type 0
+WritesOptions = Tells (λ session told. ShowsOptions told (view session).endpoint.options)
+
+abbrev pub OptionsGiven : Option Session → OptionsRecord → ℤ → OptionsRecord → Option Session → Type 0
+OptionsGiven old before result after new = WrittenIf (has_options_size before) WritesOptions old before result after new
 
 -- the payload bytes that wait on a stream; each stream stands once in the queue
 abbrev pub AmountIs : ℕ → Session → ℕ → Type 0
@@ -82,6 +103,9 @@ WritesMessage old before status after new =
 abbrev pub WritesMetrics : Session → MetricsRecord → Status → MetricsRecord → Session → Type 0
 WritesMetrics session before status after new =
     (metrics : Option MetricsRecord) × MetricsShown session metrics × (status ≡ taken_status metrics) × (after ≡ told_or before metrics) × (new ≡ session)
+
+abbrev pub MetricsGiven : Option Session → MetricsRecord → ℤ → MetricsRecord → Option Session → Type 0
+MetricsGiven old before result after new = WrittenIf (has_metrics_size before) WritesMetrics old before result after new
 
 -- a buffer of the caller's, and a place for a length
 pub record Buffer : Type 0 where

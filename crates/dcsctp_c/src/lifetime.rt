@@ -1,19 +1,22 @@
 //! Making a socket, and letting it go.
 
 ghost use Rattle.std.specs.Prelude.{◌≡◌, None};
-ghost use Rattle.dcsctp_session.specs.Options.{ShowsDefault};
-ghost use Rattle.dcsctp_c.specs.Exports.{CreatedIn};
+ghost use Rattle.dcsctp_c.specs.Exports.{DefaultGiven, CreatedIn};
 
 use dcsctp_handle::Handle;
 use dcsctp_session::{OptionsRecord, Session, Status};
 use std::alloc::Global;
 
-/// Writes the default options.
+/// Writes the default options, if the record has the size of the library's.
 #[unsafe(no_mangle)]
-pub extern "C" fn dcsctp_options_init(options: &mut OptionsRecord)
-    ensures { ShowsDefault options.new }
+pub extern "C" fn dcsctp_get_default_options(options: &mut OptionsRecord) -> i32
+    ensures { DefaultGiven options.old result options.new }
 {
+    if !options.is_sized() {
+        return Status::WrongSize.number();
+    }
     *options = OptionsRecord::standard();
+    Status::Done.number()
 }
 
 /// Gives a handle a closed socket, whose clock stands at `now`.

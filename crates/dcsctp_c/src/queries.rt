@@ -4,9 +4,9 @@ ghost use Rattle.std.specs.Prelude.{◌≡◌, min, length};
 ghost use Rattle.dcsctp_api.specs.spec.endpoint.TimeTurns.{next_moment};
 ghost use Rattle.dcsctp_api.specs.Calls.{stream_shown};
 ghost use Rattle.dcsctp_api.specs.Messages.{ready_messages};
-ghost use Rattle.dcsctp_session.specs.Options.{ShowsOptions, never};
+ghost use Rattle.dcsctp_session.specs.Options.{never};
 ghost use Rattle.dcsctp_session.specs.Views.{view};
-ghost use Rattle.dcsctp_c.specs.Exports.{Written, Tells, AmountIs, ReadinessIs, WritesMetrics, ReturnsState, ReturnsFailed};
+ghost use Rattle.dcsctp_c.specs.Exports.{Written, Tells, AmountIs, ReadinessIs, WritesOptions, OptionsGiven, WritesMetrics, MetricsGiven, ReturnsState, ReturnsFailed};
 
 use crate::answers::{state_number, take, tell};
 use dcsctp_handle::{Handle, with_session};
@@ -47,13 +47,23 @@ pub extern "C" fn dcsctp_poll_timeout(handle: &mut Handle, moment: &mut u64) -> 
     )
 }
 
-/// The options of the socket.
-#[unsafe(no_mangle)]
-pub extern "C" fn dcsctp_get_options(handle: &mut Handle, options: &mut OptionsRecord) -> i32
-    ensures { Written (Tells (λ session told. ShowsOptions told (view session).endpoint.options))
-        handle.old.slot.value options.old result options.new handle.new.slot.value }
+// Writes the options of the socket, whatever the size that the record says.
+fn write_options(handle: &mut Handle, options: &mut OptionsRecord) -> i32
+    ensures { Written WritesOptions handle.old.slot.value options.old result options.new
+        handle.new.slot.value }
 {
     tell(with_session(handle, |session| session.options()), options)
+}
+
+/// The options of the socket, if the record has the size of the library's.
+#[unsafe(no_mangle)]
+pub extern "C" fn dcsctp_get_options(handle: &mut Handle, options: &mut OptionsRecord) -> i32
+    ensures { OptionsGiven handle.old.slot.value options.old result options.new handle.new.slot.value }
+{
+    if !options.is_sized() {
+        return Status::WrongSize.number();
+    }
+    write_options(handle, options)
 }
 
 /// The payload bytes that wait to be sent on a stream.
@@ -119,15 +129,25 @@ pub extern "C" fn dcsctp_messages_ready_count(handle: &mut Handle, count: &mut u
     )
 }
 
-/// The metrics, where the peer is known.
+// Writes the metrics, where the peer is known, whatever the size that the record says.
 #[tactic(auto, using(crate::proofs::ExportLemmas::taken))]
-#[unsafe(no_mangle)]
-pub extern "C" fn dcsctp_get_metrics(handle: &mut Handle, metrics: &mut MetricsRecord) -> i32
+fn write_metrics(handle: &mut Handle, metrics: &mut MetricsRecord) -> i32
     ensures { Written WritesMetrics handle.old.slot.value metrics.old result metrics.new
         handle.new.slot.value }
 {
     let told = with_session(handle, |session| session.metrics());
     take(told, *metrics, metrics)
+}
+
+/// The metrics, where the peer is known, if the record has the size of the library's.
+#[unsafe(no_mangle)]
+pub extern "C" fn dcsctp_get_metrics(handle: &mut Handle, metrics: &mut MetricsRecord) -> i32
+    ensures { MetricsGiven handle.old.slot.value metrics.old result metrics.new handle.new.slot.value }
+{
+    if !metrics.is_sized() {
+        return Status::WrongSize.number();
+    }
+    write_metrics(handle, metrics)
 }
 
 /// Why the socket can't be handed over now.

@@ -24,7 +24,7 @@ use Rattle.dcsctp_session.specs.declared.options.SendOptionsRecord.{SendOptionsR
 use Rattle.dcsctp_session.specs.declared.records.EventRecord.{EventRecord}
 use Rattle.dcsctp_session.specs.declared.records.MessageRecord.{MessageRecord}
 use Rattle.dcsctp_session.specs.declared.records.MetricsRecord.{MetricsRecord}
-use Rattle.dcsctp_session.specs.Options.{SaysOptions, SaysSendOptions, is_valid_sending}
+use Rattle.dcsctp_session.specs.Options.{SaysOptions, SaysSendOptions, has_options_size, is_valid_sending}
 use Rattle.dcsctp_session.specs.Records.{event_record, message_record, SaysMetrics}
 use Rattle.dcsctp_session.specs.Status.{done_status, send_status, reset_status}
 use Rattle.dcsctp_session.specs.Views.{view, words_ahead, ahead, nothing_taken}
@@ -33,6 +33,7 @@ use Rattle.dcsctp_session.specs.Views.{view, words_ahead, ahead, nothing_taken}
 
 -- A closed socket with these options, whose random words come from the seed. Its clock was set to a moment, and nothing was taken.
 pub record IsCreated (numbers : OptionsRecord) (seed : List ℕ) (moment : ℕ) (session : Session) : Type 0 where
+  pub sized : has_options_size numbers ≡ true
   pub options : Options
   pub says : SaysOptions numbers options
   pub moves : Advances (user_view_of (fresh_socket options (of_seed seed))) moment (Ok tt) (view session)
@@ -41,14 +42,18 @@ pub record IsCreated (numbers : OptionsRecord) (seed : List ℕ) (moment : ℕ) 
 
 -- No socket can be made with these options.
 pub record IsRefused (numbers : OptionsRecord) : Type 0 where
+  pub sized : has_options_size numbers ≡ true
   pub options : Options
   pub says : SaysOptions numbers options
   pub refused : IsValid options → ⊥
 
--- A session is made; or the options are refused; or an allocation failed.
+-- A session is made; or the record has another size; or the options are refused; or an allocation failed.
 abbrev pub Creates : OptionsRecord → List ℕ → ℕ → Result Session Status → Type 0
 Creates numbers seed moment (Ok session) = IsCreated numbers seed moment session
-Creates numbers seed moment (Err status) = (status ≡ statuses.InvalidOptions) × IsRefused numbers ⊎ (status ≡ statuses.OutOfMemory)
+Creates numbers seed moment (Err status) =
+    (status ≡ statuses.WrongSize) × (has_options_size numbers ≡ false)
+    ⊎ (status ≡ statuses.InvalidOptions) × IsRefused numbers
+    ⊎ (status ≡ statuses.OutOfMemory) × (has_options_size numbers ≡ true)
 
 -- ---- calls that the socket may refuse
 

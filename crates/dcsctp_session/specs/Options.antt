@@ -39,6 +39,14 @@ optional_limit number = if number == no_limit then None else Some number
 abbrev pub flag : ℕ → Bool
 flag number = not (number == 0)
 
+-- the bytes of a record of options
+abbrev pub options_size : ℕ
+options_size = 216
+
+-- Does the record have that size? A caller may have that of another version.
+abbrev pub has_options_size : OptionsRecord → Bool
+has_options_size numbers = numbers.size == options_size
+
 -- sizes and counts
 pub record SaysSizes (numbers : OptionsRecord) (options : Options) : Type 0 where
   pub mtu : options.mtu ≡ numbers.mtu
@@ -120,6 +128,7 @@ pub record ShowsFlags (numbers : OptionsRecord) (options : Options) : Type 0 whe
 
 -- The numbers are written for these options.
 pub record ShowsOptions (numbers : OptionsRecord) (options : Options) : Type 0 where
+  pub size : numbers.size ≡ options_size
   pub sizes : SaysSizes numbers options
   pub times : ShowsTimes numbers options
   pub offers : SaysOffers numbers options

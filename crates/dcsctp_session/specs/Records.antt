@@ -1,5 +1,5 @@
 -- The numbers by which C reads events, messages and metrics.
-use Rattle.std.specs.Prelude.{◌≡◌, string_bytes, ℕ, length}
+use Rattle.std.specs.Prelude.{◌≡◌, ◌==◌, string_bytes, ℕ, Bool, length}
 use Rattle.dcsctp_core.specs.types.Ids.{lifecycle_number}
 use Rattle.dcsctp_core.specs.types.declared.kinds.ErrorKind.{ErrorKind}
 use Rattle.dcsctp_core.specs.types.declared.kinds.ErrorKind.TheVariants as errors
@@ -66,6 +66,14 @@ implementation_number implementations.DcsctpCc = 2
 implementation_number implementations.UsrSctp = 3
 implementation_number implementations.Other = 4
 
+-- the bytes of a record of metrics
+abbrev pub metrics_size : ℕ
+metrics_size = 104
+
+-- Does the record have that size? A caller may have that of another version.
+abbrev pub has_metrics_size : MetricsRecord → Bool
+has_metrics_size numbers = numbers.size == metrics_size
+
 -- what was counted
 pub record SaysCounts (numbers : MetricsRecord) (metrics : Metrics) : Type 0 where
   pub tx_packets : numbers.tx_packets_count ≡ metrics.tx_packets_count
@@ -89,6 +97,7 @@ pub record SaysAssociation (numbers : MetricsRecord) (metrics : Metrics) : Type 
 
 -- The numbers say these metrics.
 pub record SaysMetrics (numbers : MetricsRecord) (metrics : Metrics) : Type 0 where
+  pub size : numbers.size ≡ metrics_size
   pub counts : SaysCounts numbers metrics
   pub association : SaysAssociation numbers metrics
   pub reserved : numbers.reserved ≡ 0

@@ -39,6 +39,7 @@ status_number statuses.NotReady = negsuc 13
 status_number statuses.InvalidSnapshot = negsuc 14
 status_number statuses.NotClosed = negsuc 15
 status_number statuses.InvalidSendOptions = negsuc 16
+status_number statuses.WrongSize = negsuc 17
 
 abbrev pub state_number : SocketState → ℤ
 state_number states.Closed = pos 0

@@ -3,7 +3,7 @@
 
 ghost use Rattle.std.specs.Prelude.{◌≡◌, option_map};
 ghost use Rattle.std.specs.Duration.{as_nanos};
-ghost use Rattle.dcsctp_session.specs.Options.{SaysOptions, ShowsOptions, ShowsDefault, SaysSendOptions, is_valid_sending, time_number, optional_time_number, optional_nanos, limit_number, optional_limit};
+ghost use Rattle.dcsctp_session.specs.Options.{SaysOptions, ShowsOptions, ShowsDefault, SaysSendOptions, has_options_size, is_valid_sending, time_number, optional_time_number, optional_nanos, limit_number, optional_limit};
 
 use dcsctp_socket::{LifecycleId, Options, SendOptions, ZeroChecksumAlternateErrorDetectionMethod};
 use std::time::Duration;
@@ -14,11 +14,15 @@ const NEVER: u64 = 0xffff_ffff_ffff_ffff;
 // Stands for `None` in a limit.
 const NO_LIMIT: u32 = 0xffff_ffff;
 
+// The bytes of an `OptionsRecord`.
+const SIZE: usize = size_of::<OptionsRecord>();
+
 /// The options of a socket that have an effect. Times are in nanoseconds; 0 in a flag says no, and all else
-/// yes. `None` is the greatest number of the field.
+/// yes. `None` is the greatest number of the field. `size` says how many bytes the caller's record has.
 #[repr(C)]
 #[derive(Clone, Copy, Debug)]
 pub struct OptionsRecord {
+    pub size: usize,
     pub mtu: usize,
     pub max_message_size: usize,
     pub max_receiver_window_buffer_size: usize,
@@ -130,6 +134,7 @@ impl OptionsRecord {
     {
         let method = options.zero_checksum_alternate_error_detection_method;
         OptionsRecord {
+            size: SIZE,
             mtu: options.mtu,
             max_message_size: options.max_message_size,
             max_receiver_window_buffer_size: options.max_receiver_window_buffer_size,
@@ -166,6 +171,13 @@ impl OptionsRecord {
             reserved: 0,
             follow_rfc: options.follow_rfc as u32,
         }
+    }
+
+    /// Is it a record of this library? The caller may have that of another version, of another size.
+    pub fn is_sized(&self) -> bool
+        ensures { result ≡ has_options_size self.now }
+    {
+        self.size == SIZE
     }
 
     /// The options that the numbers stand for. They may be invalid. An option that has no effect is as by

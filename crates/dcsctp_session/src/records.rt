@@ -3,7 +3,7 @@
 ghost use Rattle.std.specs.Prelude.{◌≡◌, length};
 ghost use Rattle.std.specs.Duration.{as_nanos};
 ghost use Rattle.dcsctp_session.specs.Options.{time_number};
-ghost use Rattle.dcsctp_session.specs.Records.{error_number, plain_record, event_record, message_record, implementation_number, SaysMetrics};
+ghost use Rattle.dcsctp_session.specs.Records.{error_number, plain_record, event_record, message_record, implementation_number, has_metrics_size, SaysMetrics};
 
 use dcsctp_socket::{ErrorKind, Message, Metrics, SctpImplementation, SocketEvent};
 
@@ -30,10 +30,15 @@ pub struct MessageRecord {
     pub reserved: u16,
 }
 
-/// The metrics of a socket. The round trip time is in nanoseconds, and 1 in a flag says yes.
+// The bytes of a `MetricsRecord`.
+const SIZE: usize = size_of::<MetricsRecord>();
+
+/// The metrics of a socket. The round trip time is in nanoseconds, and 1 in a flag says yes. `size` says how
+/// many bytes the caller's record has.
 #[repr(C)]
 #[derive(Clone, Copy, Debug)]
 pub struct MetricsRecord {
+    pub size: usize,
     pub rtx_bytes_count: u64,
     pub srtt: u64,
     pub tx_packets_count: usize,
@@ -204,6 +209,13 @@ fn implementation_number(implementation: SctpImplementation) -> u32
 }
 
 impl MetricsRecord {
+    /// Is it a record of this library? The caller may have that of another version, of another size.
+    pub fn is_sized(&self) -> bool
+        ensures { result ≡ has_metrics_size self.now }
+    {
+        self.size == SIZE
+    }
+
     /// What the metrics are.
     pub fn of(metrics: &Metrics) -> MetricsRecord
         ensures { SaysMetrics result metrics.now }
@@ -213,6 +225,7 @@ impl MetricsRecord {
             Err(_) => 0xffff_ffff_ffff_ffff,
         };
         MetricsRecord {
+            size: SIZE,
             rtx_bytes_count: metrics.rtx_bytes_count,
             srtt,
             tx_packets_count: metrics.tx_packets_count,

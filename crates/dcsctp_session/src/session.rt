@@ -65,8 +65,9 @@ impl Session {
     /// A closed socket, whose clock stands at `now`, in nanoseconds. Its random words come from ChaCha20 with
     /// this seed.
     ///
-    /// `Status::InvalidOptions`: no socket can be made with these options. `Status::OutOfMemory`: an allocation
-    /// failed.
+    /// `Status::WrongSize`: the record has another size than that of this library, and nothing else of it was
+    /// read. `Status::InvalidOptions`: no socket can be made with these options. `Status::OutOfMemory`: an
+    /// allocation failed.
     pub fn new(
         alloc: Global,
         options: &OptionsRecord,
@@ -75,6 +76,9 @@ impl Session {
     ) -> Result<Session, Status>
         ensures { Creates options.now seed now result }
     {
+        if !options.is_sized() {
+            return Err(Status::WrongSize);
+        }
         let options = options.options();
         if !options.is_valid() {
             return Err(Status::InvalidOptions);

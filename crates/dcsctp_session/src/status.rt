@@ -64,6 +64,9 @@ pub enum Status {
 
     /// A bit of the options of a message is set that has no meaning.
     InvalidSendOptions,
+
+    /// A record has another size than that of this library.
+    WrongSize,
 }
 
 impl Status {
@@ -91,6 +94,7 @@ impl Status {
             Status::InvalidSnapshot => -15,
             Status::NotClosed => -16,
             Status::InvalidSendOptions => -17,
+            Status::WrongSize => -18,
         }
     }
 

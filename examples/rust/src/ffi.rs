@@ -19,6 +19,7 @@ pub struct Socket {
 #[repr(C)]
 #[derive(Clone)]
 pub struct Options {
+    pub size: usize,
     pub mtu: usize,
     pub max_message_size: usize,
     pub max_receiver_window_buffer_size: usize,
@@ -88,7 +89,7 @@ pub struct SendOptions {
 
 extern "C" {
     pub fn dcsctp_version() -> u32;
-    pub fn dcsctp_options_init(options: *mut Options);
+    pub fn dcsctp_get_default_options(options: *mut Options) -> i32;
     pub fn dcsctp_create(s: *mut Socket, options: *const Options, seed: *const u8, now: u64)
         -> i32;
     pub fn dcsctp_destroy(s: *mut Socket);

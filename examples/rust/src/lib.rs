@@ -59,14 +59,17 @@ pub struct Message {
     pub payload: Vec<u8>,
 }
 
-/// The default options, which can be changed.
+/// The default options, which can be changed but for `size`.
+///
+/// Panics if they have another size in the archive than in `ffi.rs`.
 pub fn default_options() -> Options {
-    let mut options = std::mem::MaybeUninit::uninit();
-    // SAFETY: it is valid for writes, and the call writes each field.
-    unsafe {
-        ffi::dcsctp_options_init(options.as_mut_ptr());
-        options.assume_init()
-    }
+    // SAFETY: each field is a number.
+    let mut options: Options = unsafe { std::mem::zeroed() };
+    options.size = size_of::<Options>();
+    // SAFETY: the pointer comes from a reference.
+    let result = unsafe { ffi::dcsctp_get_default_options(&mut options) };
+    assert_eq!(result, 0, "another version");
+    options
 }
 
 /// A socket.
@@ -249,8 +252,8 @@ mod tests {
 
     #[test]
     fn structs_are_laid_out_as_in_c() {
-        // 9 sizes, 11 times, 9 numbers of 4 bytes, and 6 of 2
-        assert_eq!(size_of::<Options>(), 9 * 8 + 11 * 8 + 9 * 4 + 6 * 2);
+        // 10 sizes, 11 times, 9 numbers of 4 bytes, and 6 of 2
+        assert_eq!(size_of::<Options>(), 10 * 8 + 11 * 8 + 9 * 4 + 6 * 2);
         assert_eq!(size_of::<ffi::Socket>(), 16);
         assert_eq!(size_of::<ffi::Event>(), 32);
         assert_eq!(size_of::<ffi::Message>(), 16);
@@ -292,5 +295,8 @@ mod tests {
         options.mtu = 31;
         let refused = Socket::new(&options, &[1; 32], Duration::ZERO);
         assert_eq!(refused.err(), Some(Error(-5)));
+        options.size -= 8;
+        let refused = Socket::new(&options, &[1; 32], Duration::ZERO);
+        assert_eq!(refused.err(), Some(Error(-18)));
     }
 }
