@@ -2,7 +2,7 @@
 #
 #     make            builds out/libdcsctp.a and .so.0: rt proves crates/dcsctp_c and all below it
 #     make unproved   builds out/unproved/libdcsctp-unproved.a and .so.0, without proofs
-#     make check      checks it, by what is installed here: valgrind, sanitizers, cargo, cmake
+#     make check      checks it, by what is installed here: valgrind, sanitizers, cargo, cmake, cffi
 #     make install    copies it to PREFIX (/usr/local) and LIBDIR (PREFIX/lib), below DESTDIR
 #     make uninstall  removes what install has copied
 #     make dist       packs it into out/dcsctp-VERSION-linux-x86_64-v2.tar.gz
@@ -138,8 +138,8 @@ $(OUT)/tests/channels $(OUT)/examples/channels: examples/c/data_channel.c exampl
 
 # ---- Checks -----------------------------------------------------------------------------------
 
-check: check-header check-symbols check-tests check-examples check-install check-dist check-valgrind \
-    check-sanitizers check-rust
+check: check-header check-symbols check-tests check-cpp check-cffi check-examples check-install check-dist \
+    check-valgrind check-sanitizers check-rust
 
 # The header alone, in C and C++, and of which lines a compiler warns.
 WARNED = tests/c/warned.c 2>&1 | sed -n 's/^[^:]*warned.c:\([0-9]*\):.* warning: .*/\1/p' | sort -nu | \
@@ -177,6 +177,21 @@ check-symbols: $(LIBRARY) $(SHARED)
 
 check-tests: $(TESTS:%=$(OUT)/tests/%)
 	for it in $^; do $$it || exit 1; done
+
+check-cpp: $(LIBRARY)
+	@mkdir -p $(OUT)/tests
+	@if command -v $(CXX) >/dev/null; then set -e; \
+	$(CXX) -std=c++11 $(WARNINGS) $(CFLAGS) -Iinclude tests/c/in_cpp.cpp $(LIBRARY) -o $(OUT)/tests/in_cpp; \
+	$(OUT)/tests/in_cpp; \
+	else echo "check: no C++ compiler, so nothing is run in C++"; fi
+
+# What the preprocessor leaves of the header, for tools that read declarations alone. Python's cffi is one.
+check-cffi: check-symbols
+	$(CC) -E -P -DDCSCTP_DECLARATIONS include/dcsctp.h >$(OUT)/declarations
+	! grep -nE '#|__|static|inline|"' $(OUT)/declarations
+	@if python3 -c 'import cffi' 2>/dev/null; then set -e; echo "check: cffi"; \
+	python3 tests/c/declared.py $(OUT)/declarations $(SHARED); \
+	else echo "check: no cffi, so it doesn't read the header"; fi
 
 # The examples, and the file transfer with 20 of 1,000 packets lost in each direction. The first stands in
 # README or docs/C.md as a whole.
@@ -248,4 +263,4 @@ check-rust: $(LIBRARY)
 # (dist and install write the same files)
 .NOTPARALLEL:
 .PHONY: FORCE all unproved install uninstall dist clean check check-header check-symbols check-tests \
-    check-examples check-install check-dist check-valgrind check-sanitizers check-rust
+    check-cpp check-cffi check-examples check-install check-dist check-valgrind check-sanitizers check-rust

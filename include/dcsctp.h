@@ -94,18 +94,22 @@
 #ifndef DCSCTP_H
 #define DCSCTP_H
 
+/* With DCSCTP_DECLARATIONS there are types and calls alone, for tools that read no more than these:
+ * cffi's cdef takes what `cc -E -P -DDCSCTP_DECLARATIONS dcsctp.h` prints. */
+#ifndef DCSCTP_DECLARATIONS
 #include <stddef.h>
 #include <stdint.h>
 
 #if SIZE_MAX != UINT64_MAX
 #error "dcsctp needs 64 bits"
 #endif
+#endif
 
 #ifdef __cplusplus
 extern "C" {
 #endif
 
-#if defined(__GNUC__) || defined(__clang__)
+#if (defined(__GNUC__) || defined(__clang__)) && !defined(DCSCTP_DECLARATIONS)
 #define DCSCTP_CALL __attribute__((nonnull))
 #define DCSCTP_CHECKED_CALL __attribute__((nonnull, warn_unused_result))
 #else
@@ -200,6 +204,7 @@ DCSCTP_ENUM(dcsctp_error, int32_t) {
     DCSCTP_ERROR_WRONG_SIZE = -18,
 };
 
+#ifndef DCSCTP_DECLARATIONS
 /* What a result says: "no error" where it isn't negative, and "unknown" of an unknown error. */
 static inline const char *dcsctp_error_text(int32_t result) {
     switch (result) {
@@ -245,6 +250,7 @@ static inline const char *dcsctp_error_text(int32_t result) {
         return result > 0 ? "no error" : "unknown";
     }
 }
+#endif
 
 /* ---- Sockets and options -------------------------------------------------------------------- */
 
@@ -253,8 +259,13 @@ typedef struct dcsctp_socket {
     uint32_t mark; /* private */
 } dcsctp_socket;
 
-/* No socket yet. Zero bytes, as of memset or calloc, are the same. */
+/* No socket yet. Zero bytes, as of memset or calloc, are the same. In C this is an initialiser, and
+ * in C++ an expression. */
+#ifdef __cplusplus
+#define DCSCTP_SOCKET_INIT dcsctp_socket()
+#else
 #define DCSCTP_SOCKET_INIT { NULL, 0 }
+#endif
 
 /* No limit, in a time and in a count. */
 #define DCSCTP_NEVER UINT64_MAX
@@ -334,12 +345,14 @@ typedef struct dcsctp_options {
 /* Writes the default options, where `size` is set. Error: WRONG_SIZE. */
 int32_t dcsctp_get_default_options(dcsctp_options *options) DCSCTP_CALL;
 
+#ifndef DCSCTP_DECLARATIONS
 /* Sets `size`, and writes the default options. If the struct has another size in the library, no
  * other field is written, and dcsctp_create returns WRONG_SIZE. */
 static inline void dcsctp_options_init(dcsctp_options *options) {
     options->size = sizeof *options;
     dcsctp_get_default_options(options);
 }
+#endif
 
 /* Creates a closed socket whose clock stands at `now`. Nothing is sent before dcsctp_connect, or
  * before a peer connects.
@@ -418,6 +431,7 @@ DCSCTP_ENUM(dcsctp_event_kind, uint32_t) {
     DCSCTP_EVENT_LIFECYCLE_END = 16,           /* lifecycle_id: no event names it again */
 };
 
+#ifndef DCSCTP_DECLARATIONS
 /* The name of a kind of event, and "unknown" of an unknown kind. */
 static inline const char *dcsctp_event_name(uint32_t kind) {
     switch (kind) {
@@ -459,6 +473,7 @@ static inline const char *dcsctp_event_name(uint32_t kind) {
         return "unknown";
     }
 }
+#endif
 
 /* What an error is about. */
 DCSCTP_ENUM(dcsctp_error_kind, uint32_t) {
@@ -546,7 +561,11 @@ typedef struct dcsctp_send_options {
     uint16_t reserved;            /* 0; no other number is taken */
 } dcsctp_send_options;
 
+#ifdef __cplusplus
+#define DCSCTP_SEND_INIT dcsctp_send_options()
+#else
 #define DCSCTP_SEND_INIT { 0, 0, 0, 0, 0 }
+#endif
 
 /* Sends a message, whose bytes are copied. It waits after the others of its stream, and before an
  * association is made, too. EMPTY_PAYLOAD, MESSAGE_TOO_LARGE, SHUTTING_DOWN and RESOURCE_EXHAUSTION
