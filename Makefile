@@ -43,7 +43,7 @@ PACKAGE = $(OUT)/$(NAME).pc $(OUT)/$(NAME)Config.cmake $(OUT)/$(NAME)ConfigVersi
 VERSION := $(shell awk '/define DCSCTP_VERSION_[MP]/ { v = v s $$3; s = "." } END { print v }' \
     include/dcsctp.h)
 
-TESTS = names calls options events ends handover refusals random threads channels
+TESTS = names calls many options events ends handover refusals random threads channels
 EXAMPLES = two_sockets file_transfer channels
 WARNINGS = -Wall -Wextra -Wshadow -pedantic -Werror
 COMPILE = $(CC) -std=c11 $(WARNINGS) $(CFLAGS) -Iinclude

@@ -160,8 +160,8 @@ DCSCTP_ENUM(dcsctp_error, int32_t) {
     /* No socket can be made with these options: see dcsctp_options. */
     DCSCTP_ERROR_INVALID_OPTIONS = -5,
 
-    /* The buffer is too small. How many elements it needs was written. Call again with a larger
-     * one. */
+    /* The buffer is too small. How many elements it needs was written, where the call has a place
+     * for that. Call again with a larger one. */
     DCSCTP_ERROR_BUFFER_TOO_SMALL = -6,
 
     /* What was taken last has nothing of this kind, or nothing was taken. A length of 0 was
@@ -589,6 +589,31 @@ typedef struct dcsctp_send_options {
 int32_t dcsctp_send(dcsctp_socket *socket, uint16_t stream_id, uint32_t ppid,
                     const uint8_t *payload, size_t length, const dcsctp_send_options *options)
     DCSCTP_CHECKED_CALL;
+
+/* A message of dcsctp_send_many. */
+typedef struct dcsctp_outgoing_message {
+    const uint8_t *payload; /* its bytes: `length` of them */
+    size_t length;
+    uint32_t ppid;
+    uint16_t stream_id;
+    uint16_t reserved;      /* write 0; not read yet */
+} dcsctp_outgoing_message;
+
+/* Sends `count` messages, each as dcsctp_send does, with the same options and so with one name for
+ * all. But what waits is sent only once, after the last. Each of the first `count` results becomes
+ * DCSCTP_OK, or the error of dcsctp_send that refused the message: what refuses one doesn't refuse
+ * those after it. The call returns the first of these errors, and DCSCTP_OK if all were taken.
+ *
+ * No result is written with one of the other errors. BUFFER_TOO_SMALL: there is room for fewer
+ * results than messages. It comes before INVALID_SEND_OPTIONS, and neither changes anything. If
+ * there is no memory for a copy, it is OUT_OF_MEMORY, nothing has changed, and the call may be
+ * tried again. If an allocation fails later, some of the messages may have been sent.
+ *
+ * Errors: NO_SOCKET, BUFFER_TOO_SMALL, INVALID_SEND_OPTIONS, EMPTY_PAYLOAD, MESSAGE_TOO_LARGE,
+ * SHUTTING_DOWN, RESOURCE_EXHAUSTION, FAILED, OUT_OF_MEMORY. */
+int32_t dcsctp_send_many(dcsctp_socket *socket, const dcsctp_outgoing_message *messages,
+                         size_t count, const dcsctp_send_options *options, int32_t *results,
+                         size_t capacity) DCSCTP_CHECKED_CALL;
 
 /* ---- Streams -------------------------------------------------------------------------------- */
 

@@ -6,6 +6,8 @@
 static void calls_without_socket(const char *name, dcsctp_socket *socket) {
     const dcsctp_send_options how = DCSCTP_SEND_INIT;
     const uint16_t one_stream = 1;
+    const dcsctp_outgoing_message outgoing = {(const uint8_t *)"a", 1, 51, 1, 0};
+    int32_t result = 77;
     uint8_t bytes[64], before[64];
     uint16_t streams[2] = {77, 77};
     dcsctp_event event;
@@ -40,6 +42,7 @@ static void calls_without_socket(const char *name, dcsctp_socket *socket) {
         dcsctp_get_next_message(socket, &message),
         dcsctp_message_bytes(socket, bytes, sizeof bytes, &size),
         dcsctp_send(socket, 1, 51, before, 5, &how),
+        dcsctp_send_many(socket, &outgoing, 1, &how, &result, 1),
         dcsctp_reset_streams(socket, &one_stream, 1),
         dcsctp_state(socket),
         dcsctp_has_failed(socket),
@@ -56,11 +59,12 @@ static void calls_without_socket(const char *name, dcsctp_socket *socket) {
         dcsctp_handover_bytes(socket, bytes, sizeof bytes, &size),
         dcsctp_restore_from_state(socket, before, sizeof before),
     };
-    /* All 32, but for version, get_default_options, create and destroy. */
-    EQUAL(name, sizeof results / sizeof results[0], 28);
+    /* All 33, but for version, get_default_options, create and destroy. */
+    EQUAL(name, sizeof results / sizeof results[0], 29);
     for (size_t i = 0; i < sizeof results / sizeof results[0]; i++)
         EQUAL(name, results[i], DCSCTP_ERROR_NO_SOCKET);
     EQUAL(name, size, 77);
+    EQUAL(name, result, 77);
     EQUAL(name, moment, 77);
     EQUAL(name, priority, 77);
     EQUAL(name, reasons, 77);

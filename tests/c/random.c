@@ -155,11 +155,40 @@ static void hand_in(struct side *side, int which) {
         flight[which][place].length = 0;
 }
 
+/* Sends up to five messages in one call. The first error of one of them is what the call returns. */
+static void send_some(struct side *side, const dcsctp_send_options *how) {
+    static uint8_t payload[4000];
+    dcsctp_outgoing_message messages[5];
+    int32_t results[6] = {GUARD, GUARD, GUARD, GUARD, GUARD, GUARD}, first = DCSCTP_OK;
+    const size_t count = below(6);
+    for (size_t i = 0; i < count; i++) {
+        const dcsctp_outgoing_message message = {payload, below(8) ? below(200) : below(4000), 51,
+                                                 (uint16_t)below(4), 0};
+        messages[i] = message;
+    }
+    long before = refusals;
+    int32_t result = dcsctp_send_many(&side->socket, messages, count, how, results, 5);
+    check(side, "send_many", result, 0, 1, before);
+    const int sent = side->exists && result != DCSCTP_ERROR_OUT_OF_MEMORY &&
+                     result != DCSCTP_ERROR_FAILED;
+    for (size_t i = 0; i < 6; i++)
+        if (!sent || i >= count)
+            EQUAL("no result", results[i], GUARD);
+        else if (first == DCSCTP_OK)
+            first = results[i];
+    if (sent)
+        EQUAL("the first error", result, first);
+}
+
 static void send_one(struct side *side) {
     static uint8_t payload[4000];
     dcsctp_send_options how = {below(5), below(3) * SECONDS, (uint32_t)below(8),
                                (uint16_t)below(3), 0};
     long before = refusals;
+    if (below(4) == 0) {
+        send_some(side, &how);
+        return;
+    }
     check(side, "send", dcsctp_send(&side->socket, (uint16_t)below(4), 51, payload,
                                     below(8) ? below(200) : below(4000), &how), 0, 1, before);
 }

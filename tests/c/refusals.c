@@ -18,6 +18,19 @@ static int is_refused(size_t size) {
     return ++allocations == refused || size > largest;
 }
 
+/* Sends two messages in one call. Where memory runs out, no result is written. */
+static int32_t send_two(struct end *end, uint16_t stream_id, size_t length) {
+    static const uint8_t zeros[40000];
+    const dcsctp_send_options how = DCSCTP_SEND_INIT;
+    const dcsctp_outgoing_message message = {zeros, length, 51, stream_id, 0};
+    const dcsctp_outgoing_message messages[] = {message, message};
+    int32_t results[] = {77, 77};
+    int32_t result = dcsctp_send_many(&end->socket, messages, 2, &how, results, 2);
+    EQUAL("a result", results[0], result == DCSCTP_OK ? DCSCTP_OK : 77);
+    EQUAL("a result", results[1], result == DCSCTP_OK ? DCSCTP_OK : 77);
+    return result;
+}
+
 /* ---- A socket that has failed --------------------------------------------------------------- */
 
 /* Commands and inputs return DCSCTP_ERROR_FAILED. Queries answer, and what waits can be taken. */
@@ -38,6 +51,7 @@ static void check_failed(struct end *end) {
         dcsctp_handle_input(socket, bytes, sizeof bytes),
         dcsctp_advance_time(socket, DCSCTP_NEVER - 1),
         send_bytes(end, 1, 10),
+        send_two(end, 1, 10),
         dcsctp_reset_streams(socket, streams, 1),
         dcsctp_set_stream_priority(socket, 1, 5),
         dcsctp_set_buffered_amount_low_threshold(socket, 1, 5),
@@ -133,10 +147,11 @@ static int first_part(const dcsctp_options *options) {
     TRY(&a, dcsctp_set_buffered_amount_low_threshold(&a.socket, 3, 100), 0);
     TRY(&a, dcsctp_connect(&a.socket), 0);
     TRY(&a, send_bytes(&a, 3, 40000), 1);
+    TRY(&a, send_two(&a, 3, 40000), 1);
     if (!exchange_all(&a, &b))
         return 0;
     EQUAL("A", dcsctp_state(&a.socket), DCSCTP_STATE_CONNECTED);
-    EQUAL("delivered", take_messages(&b, 40000), 1);
+    EQUAL("delivered", take_messages(&b, 40000), 3);
     TRY(&a, dcsctp_reset_streams(&a.socket, streams, 2), 1);
     if (!exchange_all(&a, &b) || !advance(&b, BEGIN + 1 * SECONDS) || !exchange_all(&b, &a))
         return 0;
@@ -148,6 +163,7 @@ static int first_part(const dcsctp_options *options) {
 static int second_part(const dcsctp_options *options) {
     static uint8_t snapshot[1 << 17];
     size_t length = 0;
+    TRY(&a, send_two(&a, 5, 30000), 1);
     TRY(&a, send_bytes(&a, 5, 30000), 1);
     TRY(&a, dcsctp_get_handover_state_and_close(&a.socket), 0);
     TRY(&a, dcsctp_handover_bytes(&a.socket, snapshot, sizeof snapshot, &length), 1);
@@ -157,7 +173,7 @@ static int second_part(const dcsctp_options *options) {
         if (!exchange_all(&a_again, &b) || !advance(&a_again, BEGIN + i * SECONDS) ||
             !advance(&b, BEGIN + i * SECONDS))
             return 0;
-    EQUAL("delivered", take_messages(&b, 30000), 1);
+    EQUAL("delivered", take_messages(&b, 30000), 3);
     TRY(&b, dcsctp_shutdown(&b.socket), 0);
     if (!exchange_all(&b, &a_again))
         return 0;
@@ -189,6 +205,21 @@ static void send_of(const char *name, const void *bytes, size_t length, int32_t 
     EQUAL(name, dcsctp_has_failed(&a.socket), 0);
 }
 
+/* The same of three messages in one call, of which the second has one byte. */
+static void send_of_three(const void *bytes, size_t length) {
+    const dcsctp_send_options how = DCSCTP_SEND_INIT;
+    const dcsctp_outgoing_message messages[] = {
+        {bytes, length, 51, 2, 0}, {bytes, 1, 51, 2, 0}, {bytes, length, 51, 2, 0}};
+    const clock_t before = clock();
+    int32_t results[3];
+    EQUAL("three", dcsctp_send_many(&a.socket, messages, 3, &how, results, 3),
+          DCSCTP_ERROR_MESSAGE_TOO_LARGE);
+    EQUAL("three", clock() - before < CLOCKS_PER_SEC / 10, 1);
+    EQUAL("the first", results[0], DCSCTP_ERROR_MESSAGE_TOO_LARGE);
+    EQUAL("the second", results[1], DCSCTP_OK);
+    EQUAL("the third", results[2], DCSCTP_ERROR_MESSAGE_TOO_LARGE);
+}
+
 /* A message of 1 GiB, a mapping without memory, is refused within 0.1 s of the processor's time, and
  * where no more than 1 MiB can be allocated. Only without a limit is there no memory for its copy. */
 static void far_too_long(const dcsctp_options *options) {
@@ -202,6 +233,7 @@ static void far_too_long(const dcsctp_options *options) {
     EQUAL("text", strcmp(a.text, "Unable to send too large message"), 0);
     largest = 1 << 20;
     send_of("1 GiB without memory", bytes, length, DCSCTP_ERROR_MESSAGE_TOO_LARGE);
+    send_of_three(bytes, length);
     send_of("a byte too long", bytes, 262145, DCSCTP_ERROR_MESSAGE_TOO_LARGE);
     send_of("the longest", bytes, 262144, DCSCTP_OK);
     EQUAL("no limit", dcsctp_set_max_message_size(&a.socket, SIZE_MAX), DCSCTP_OK);

@@ -4,6 +4,8 @@
 
 static void results(dcsctp_socket *socket, const dcsctp_options *options, uint8_t *bytes,
                     size_t *length, uint16_t *streams, const dcsctp_send_options *how) {
+    const dcsctp_outgoing_message outgoing = {bytes, 5, 51, 1, 0};
+    int32_t result;
     uint64_t moment;
     dcsctp_event event;
     dcsctp_message message;
@@ -17,6 +19,7 @@ static void results(dcsctp_socket *socket, const dcsctp_options *options, uint8_
     dcsctp_event_streams(socket, streams, 5, length);               /* warned */
     dcsctp_message_bytes(socket, bytes, 5, length);                 /* warned */
     dcsctp_send(socket, 1, 51, bytes, 5, how);                      /* warned */
+    dcsctp_send_many(socket, &outgoing, 1, how, &result, 1);        /* warned */
     dcsctp_reset_streams(socket, streams, 5);                       /* warned */
     dcsctp_set_buffered_amount_low_threshold(socket, 1, 5);         /* warned */
     dcsctp_set_stream_priority(socket, 1, 5);                       /* warned */

@@ -3,11 +3,14 @@
 ghost use Rattle.std.specs.Prelude.{◌≡◌, map};
 ghost use Rattle.dcsctp_api.specs.types.Setting.{stream_priority, stream_low_threshold};
 ghost use Rattle.dcsctp_session.specs.Calls.{Connected, ShutDown, Closed, InputHandled, Advanced, SettingMade, SizeLimited, MessageSent, StreamsReset};
-ghost use Rattle.dcsctp_c.specs.Exports.{Exported};
+ghost use Rattle.dcsctp_session.specs.Many.{ManySent};
+ghost use Rattle.dcsctp_c.specs.Exports.{Exported, Written};
 
 use crate::answers::number;
 use dcsctp_handle::{Handle, with_session};
-use dcsctp_session::SendOptionsRecord;
+use dcsctp_session::{OutgoingRecord, SendOptionsRecord, Status};
+use std::alloc::Global;
+use std::mem::replace;
 
 /// Begins an association.
 #[unsafe(no_mangle)]
@@ -65,6 +68,28 @@ pub extern "C" fn dcsctp_send(
         handle,
         |session| session.send(stream_id, ppid, payload, options),
     ))
+}
+
+/// Sends several messages, and writes what became of each.
+#[unsafe(no_mangle)]
+pub extern "C" fn dcsctp_send_many(
+    alloc: Global,
+    handle: &mut Handle,
+    messages: &[OutgoingRecord],
+    options: &SendOptionsRecord,
+    results: &mut [i32],
+) -> i32
+    ensures { Written (ManySent messages.now options.now) handle.old.slot.value results.old result
+        results.new handle.new.slot.value }
+{
+    if !handle.is_open() {
+        return Status::NoSocket.number();
+    }
+    // Not by `with_session`: a closure could say nothing of the results.
+    let mut session = replace(handle, Handle::closed(alloc)).into_session();
+    let status = session.send_many(messages, options, results);
+    *handle = Handle::of_box(session);
+    status.number()
 }
 
 /// Resets streams.

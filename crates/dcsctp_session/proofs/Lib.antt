@@ -1,2 +1,5 @@
 mod CopyingLemmas
+mod FrontTurns
+mod ManyLemmas
+mod ManySending
 mod SendingLemmas

@@ -4,4 +4,6 @@ pub mod Records
 pub mod Copying
 pub mod Views
 pub mod Calls
+pub mod Answering
+pub mod Many
 pub mod Handover

@@ -7,6 +7,7 @@
 
 mod copying;
 mod handover;
+mod many;
 mod options;
 mod records;
 mod session;
@@ -14,6 +15,7 @@ mod status;
 mod taking;
 
 pub use dcsctp_socket::SocketState;
+pub use many::OutgoingRecord;
 pub use options::{OptionsRecord, SendOptionsRecord};
 pub use records::{EventRecord, MessageRecord, MetricsRecord};
 pub use session::{Session, Taken};

@@ -119,7 +119,7 @@ impl Status {
     }
 
     // Why a message is refused.
-    fn of_send_error(error: SendError) -> Status
+    pub(crate) fn of_send_error(error: SendError) -> Status
         ensures { result ≡ send_error_status error }
     {
         match error {

@@ -1,0 +1,95 @@
+-- What the call of a session does that sends several messages, and what it tells of each.
+use Rattle.std.specs.Prelude.{◌≡◌, ◌⊎◌, ◌++◌, ℤ, Bool, true, false, nat_lt, List, [], ◌∷◌, map, length, drop, Option, None, Some, Result, Ok, Err, OnOk}
+use Rattle.dcsctp_core.specs.types.declared.message.SendOptions.{SendOptions}
+use Rattle.dcsctp_core.specs.types.queues.Messages.{MessageContent}
+use Rattle.dcsctp_core.specs.spec.endpoint.Endpoint.{Endpoint}
+use Rattle.dcsctp_core.specs.spec.endpoint.Turn.{user_sends}
+use Rattle.dcsctp_core.specs.spec.endpoint.CallTurns.{Turns}
+use Rattle.dcsctp_core.specs.spec.endpoint.MessageOutcomes.{MessageRefusal, empty_payload, message_too_large, shutting_down, resource_exhaustion, Sending, sending_of, sending_refusal, queue_one}
+use Rattle.dcsctp_core.specs.api.declared.errors.SocketFault.{SocketFault}
+use Rattle.dcsctp_core.specs.api.declared.errors.SocketFault.TheVariants as faults
+use Rattle.dcsctp_core.specs.api.Calls.{UserView, RanOut, StaysFailed}
+use Rattle.dcsctp_core.specs.api.Messages.{IsTurnOf}
+use Rattle.dcsctp_core.specs.View.{Drawn}
+use Rattle.dcsctp_session.specs.declared.many.OutgoingRecord.{OutgoingRecord}
+use Rattle.dcsctp_session.specs.declared.options.SendOptionsRecord.{SendOptionsRecord}
+use Rattle.dcsctp_session.specs.declared.session.Session.{Session}
+use Rattle.dcsctp_session.specs.declared.status.Status.{Status}
+use Rattle.dcsctp_session.specs.declared.status.Status.TheVariants as statuses
+use Rattle.dcsctp_session.specs.Options.{SaysSendOptions, is_valid_sending}
+use Rattle.dcsctp_session.specs.Status.{status_number, fault_status}
+use Rattle.dcsctp_session.specs.Views.{view, ahead}
+
+-- what a message is that a caller wants to send
+abbrev pub outgoing_content : OutgoingRecord → MessageContent
+outgoing_content message = record { stream = message.stream_id; ppid = message.ppid; payload = message.payload.now }
+
+-- ---- what is told
+
+-- what is told of a message that is refused for this, or taken
+abbrev pub refusal_status : Option MessageRefusal → Status
+refusal_status None = statuses.Done
+refusal_status (Some empty_payload) = statuses.EmptyPayload
+refusal_status (Some (message_too_large bytes limit)) = statuses.MessageTooLarge
+refusal_status (Some shutting_down) = statuses.ShuttingDown
+refusal_status (Some resource_exhaustion) = statuses.ResourceExhaustion
+
+-- what is told of each of these, which are sent one after another
+abbrev pub statuses_of : Endpoint → List Sending → List Status
+statuses_of e [] = []
+statuses_of e (message ∷ messages) = refusal_status (sending_refusal e message) ∷ statuses_of (queue_one e message).after messages
+
+-- the first that isn't `Done`
+abbrev pub first_refusal : List Status → Status
+first_refusal [] = statuses.Done
+first_refusal (statuses.Done ∷ others) = first_refusal others
+first_refusal (status ∷ others) = status
+
+abbrev pub many_status : Result (List Status) SocketFault → Status
+many_status (Ok each) = first_refusal each
+many_status (Err fault) = fault_status fault
+
+-- The front of the caller's results says what became of each message.
+abbrev pub results_after : Result (List Status) SocketFault → List ℤ → List ℤ
+results_after (Ok each) before = map status_number each ++ drop (length each) before
+results_after (Err fault) before = before
+
+-- ---- the call
+
+-- The messages are sent in one turn, and of each it is told whether it was taken. Or an allocation failed.
+abbrev pub ManyCall : List MessageContent → SendOptions → UserView → Result (List Status) SocketFault → UserView → Type 0
+ManyCall messages options old (Ok each) new =
+    (each ≡ statuses_of old.endpoint (map (sending_of options) messages)) × IsTurnOf (user_sends (map (sending_of options) messages)) old new
+ManyCall messages options old (Err faults.OutOfMemory) new = RanOut old (Turns old.endpoint (user_sends (map (sending_of options) messages) ∷ [])) new
+ManyCall messages options old (Err faults.Failed) new = StaysFailed old new
+
+-- The socket's call takes place, and the status and the results say its outcome.
+pub record ManySettled (messages : List MessageContent) (options : SendOptions) (old : Session) (before : List ℤ) (status : Status) (after : List ℤ) (new : Session) : Type 0 where
+  pub outcome : Result (List Status) SocketFault
+  pub call : ManyCall messages options (view old) outcome (view new)
+  pub draws : OnOk outcome (Drawn (ahead old) (view new).words (ahead new))
+  pub told : status ≡ many_status outcome
+  pub results : after ≡ results_after outcome before
+  pub taken : new.taken ≡ old.taken
+
+-- Nothing has changed, for this reason, and no result is written.
+pub record NothingSent (why : Status) (old : Session) (before : List ℤ) (status : Status) (after : List ℤ) (new : Session) : Type 0 where
+  pub told : status ≡ why
+  pub results : after ≡ before
+  pub same : new ≡ old
+
+-- The messages are sent, unless there was no memory for their copies.
+abbrev pub CopiesSent : List OutgoingRecord → SendOptions → Session → List ℤ → Status → List ℤ → Session → Type 0
+CopiesSent messages options old before status after new =
+    NothingSent statuses.OutOfMemory old before status after new ⊎ ManySettled (map outgoing_content messages) options old before status after new
+
+-- By whether there are too few results, and whether the options are valid: the messages are sent by what these say.
+abbrev pub ManySentIf : Bool → Bool → List OutgoingRecord → SendOptionsRecord → Session → List ℤ → Status → List ℤ → Session → Type 0
+ManySentIf true valid messages numbers old before status after new = NothingSent statuses.BufferTooSmall old before status after new
+ManySentIf false false messages numbers old before status after new = NothingSent statuses.InvalidSendOptions old before status after new
+ManySentIf false true messages numbers old before status after new =
+    (options : SendOptions) × SaysSendOptions numbers options × CopiesSent messages options old before status after new
+
+abbrev pub ManySent : List OutgoingRecord → SendOptionsRecord → Session → List ℤ → Status → List ℤ → Session → Type 0
+ManySent messages numbers old before status after new =
+    ManySentIf (nat_lt (length before) (length messages)) (is_valid_sending numbers) messages numbers old before status after new
