@@ -8,7 +8,7 @@ use Rattle.dcsctp_spec.specs.queues.IncomingStreams.{StreamModel}
 use Rattle.dcsctp_spec.specs.endpoint.Endpoint.{Endpoint}
 use Rattle.dcsctp_spec.specs.endpoint.Outcome.{Outcome}
 use Rattle.dcsctp_spec.specs.endpoint.Turn.{Input, user_sends}
-use Rattle.dcsctp_spec.specs.endpoint.DataOutcomes.{TakeTurn}
+use Rattle.dcsctp_spec.specs.endpoint.DataOutcomes.{ready_where, TakeTurn}
 use Rattle.dcsctp_spec.specs.endpoint.MessageOutcomes.{MessageRefusal, empty_payload, message_too_large, shutting_down, resource_exhaustion, message_refusal, sending_of, RefusedMessage, refused_from}
 use Rattle.dcsctp_spec.specs.endpoint.CallTurns.{Turned, Turns}
 use Rattle.dcsctp_api.specs.declared.errors.BatchSendError.{BatchSendError}
@@ -66,13 +66,9 @@ SendsMany messages options old (Err Failed) new = StaysFailed old new
 
 -- ---- get_next_message
 
-abbrev pub ready_below : Option Transfer → List MessageContent
-ready_below None = []
-ready_below (Some transfer) = transfer.reassembly.incoming.ready
-
--- the messages that are ready to be taken, in order
+-- the messages that can be taken, in order
 abbrev pub ready_messages : Endpoint → List MessageContent
-ready_messages e = ready_below e.below.transfer
+ready_messages e = ready_where e.left e.below.transfer
 
 abbrev pub streams_below : Option Transfer → List (ℕ × StreamModel)
 streams_below None = []
@@ -87,7 +83,7 @@ abbrev pub IsFirst : List MessageContent → Option Message → Type 0
 IsFirst ready None = ready ≡ []
 IsFirst ready (Some message) = (rest : List MessageContent) × (ready ≡ message_content message ∷ rest)
 
--- The first message that is ready is taken. No event is added, and no word is drawn.
+-- The first message that can be taken is taken. No event is added, and no word is drawn.
 pub record TakesNext (old : UserView) (result : Option Message) (new : UserView) : Type 0 where
   pub first : IsFirst (ready_messages old.endpoint) result
   pub outcome : Outcome

@@ -9,7 +9,12 @@ use Rattle.dcsctp_spec.specs.queues.Items.{unacknowledged_items}
 use Rattle.dcsctp_spec.specs.queues.Retransmission.{RetransmissionState, window_left}
 use Rattle.dcsctp_spec.specs.queues.SendQueue.{SendQueueState}
 use Rattle.dcsctp_spec.specs.queues.Transfer.{Transfer}
+use Rattle.dcsctp_api.specs.declared.metrics.Counts as shown
 use Rattle.dcsctp_api.specs.declared.metrics.Metrics.{Metrics}
+
+-- what these counts are in the definitions
+abbrev pub counts_of : shown.Counts → Counts
+counts_of counts = record { packets_received = counts.rx_packets_count; packets_sent = counts.tx_packets_count; messages_queued = counts.tx_messages_count }
 
 -- what was counted over the socket's life
 pub record ShowsCounts (counts : Counts) (metrics : Metrics) : Type 0 where

@@ -148,12 +148,14 @@ pub trait DcSctpSocket {
 
     /// Takes the message that became ready first, if one is ready, and gives its bytes back to the receive
     /// window. With `Options::follow_rfc` that may make an acknowledgement due at once, so ask `poll_timeout`
-    /// again. Allocates nothing, and works on a socket that has failed, too. A new association starts without
-    /// messages; those that weren't taken before the old one ended are lost.
+    /// again. Allocates nothing, and works on a socket that has failed, too.
+    ///
+    /// Messages that weren't taken when their association ended are lost. With `Options::follow_rfc` they can
+    /// be taken until the next association begins, which starts without messages.
     fn get_next_message(&mut self) -> Option<Message>
         ensures { TakesNext (user_view self.old) result (user_view self.new) };
 
-    /// How many messages are ready to be taken. Allocates nothing.
+    /// How many messages can be taken. Allocates nothing.
     fn messages_ready_count(&self) -> usize
         ensures { result ≡ length (ready_messages (user_view self.now).endpoint) };
 

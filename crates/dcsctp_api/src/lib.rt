@@ -35,7 +35,7 @@ pub use laws::{
     lifecycle_id_hash, lifecycle_id_order, pp_id_hash, send_options_default, socket_time_order,
     state_cookie_reads_back, stream_id_hash, stream_id_order,
 };
-pub use metrics::Metrics;
+pub use metrics::{Counts, Metrics};
 pub use state::SocketState;
 pub use state_cookie::StateCookie;
 

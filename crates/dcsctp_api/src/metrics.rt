@@ -3,6 +3,20 @@
 use dcsctp_spec::types::SctpImplementation;
 use std::time::Duration;
 
+/// What was counted over the socket's life, also while there is no association. Each count stops at the
+/// greatest number of its type.
+#[derive(Clone, Copy, Debug, PartialEq, Eq)]
+pub struct Counts {
+    /// How many packets were sent.
+    pub tx_packets_count: usize,
+
+    /// How many messages were accepted by `send` and `send_many`.
+    pub tx_messages_count: usize,
+
+    /// How many packets were handed in, readable or not.
+    pub rx_packets_count: usize,
+}
+
 /// What was counted over the socket's life, and how the present association is. Counts and sums stop at the
 /// greatest number of their type.
 #[derive(Clone, Copy, Debug, PartialEq)]

@@ -29,7 +29,7 @@ use Rattle.dcsctp_core.specs.Timing.{is_timer_due, ExpiryTurn, ExpiresAlways}
 use Rattle.dcsctp_core.specs.Flushing.{state_with}
 use Rattle.dcsctp_core.specs.Below.{ChangesBelow, ChangesWhere, LosesAt, SacksBelow, TakesFirst, TakesReady}
 use Rattle.dcsctp_core.proofs.FirstLemmas.{endpoint_with}
-use Rattle.dcsctp_core.proofs.LendingLemmas.{found, nobody, lent, left_with}
+use Rattle.dcsctp_core.proofs.LendingLemmas.{found, lent, left_with}
 
 pub below_view : {R : Type 0} (old : Context R) (state : State) (transfer after : Transfer) → transfer_of old.state ≡ Some transfer → state ≡ state_with old.state after
     → view_of (record old { state = state }) ≡ record (view_of old) { endpoint = with_transfer (endpoint_of old) after }
@@ -126,10 +126,6 @@ takes_first options moment (Some message) old new first left none = (first, left
 pub takes_lent : (options : Options) (moment : ℕ) (old : State) (tcb : TransmissionControlBlock) (after : Transfer) (result : Option Message) → Some tcb ≡ tcb_of old
     → IfSome result (λ message. tcb.transfer.reassembly.incoming.ready ≡ message_content message ∷ after.reassembly.incoming.ready)
     → IfSome result (λ message. after ≡ taken_to options moment after.reassembly.incoming.ready tcb.transfer)
-    → IfNone result ((tcb.transfer.reassembly.incoming.ready ≡ []) × (after ≡ tcb.transfer)) → TakesReady options moment (transfer_of old) old result (left_with old tcb after)
+    → IfNone result ((tcb.transfer.reassembly.incoming.ready ≡ []) × (after ≡ tcb.transfer)) → TakesReady options moment tcb.transfer old result (left_with old tcb after)
 takes_lent options moment old tcb after result holds first left none =
-    subst (λ (f : Option Transfer). TakesReady options moment f old result (left_with old tcb after)) (sym (found old tcb holds))
     (after, lent old tcb after holds, takes_first options moment result tcb.transfer after first left none)
-
-pub takes_nobody : (options : Options) (moment : ℕ) (old : State) → None ≡ tcb_of old → TakesReady options moment (transfer_of old) old None old
-takes_nobody options moment old none = subst (λ (f : Option Transfer). TakesReady options moment f old None old) (sym (nobody old none)) (refl, refl)

@@ -38,9 +38,8 @@ TakesFirst options moment (Some message) old new =
     (old.reassembly.incoming.ready ≡ message_content message ∷ new.reassembly.incoming.ready)
     × (new ≡ taken_to options moment new.reassembly.incoming.ready old)
 
-abbrev pub TakesReady : Options → ℕ → Option Transfer → State → Option Message → State → Type 0
-TakesReady options moment None old result new = (result ≡ None) × (new ≡ old)
-TakesReady options moment (Some transfer) old result new =
+abbrev pub TakesReady : Options → ℕ → Transfer → State → Option Message → State → Type 0
+TakesReady options moment transfer old result new =
     (after : Transfer) × (new ≡ state_with old after) × TakesFirst options moment result transfer after
 
 -- All that is in flight is lost, at this moment.

@@ -8,9 +8,11 @@ use Rattle.dcsctp_transfer.specs.types.declared.word.Word.TheVariants.{U32, U64}
 use Rattle.dcsctp_transfer.specs.spec.endpoint.Event.{Event}
 use Rattle.dcsctp_transfer.specs.types.declared.association.Held.{Held}
 use Rattle.dcsctp_transfer.specs.spec.queues.Transfer.{Transfer, new_transfer}
-use Rattle.dcsctp_transfer.specs.spec.endpoint.Endpoint.{Endpoint, Core, closed, cookie_wait, cookie_echoed, open_in, OpenPhase, established, shutdown_pending, shutdown_sent, shutdown_received, shutdown_ack_sent, OutstandingRequest, stopped_timers, heartbeats_begun, fresh_endpoint}
+use Rattle.dcsctp_transfer.specs.spec.endpoint.Endpoint.{Endpoint, Core, closed, cookie_wait, cookie_echoed, open_in, OpenPhase, established, shutdown_pending, shutdown_sent, shutdown_received, shutdown_ack_sent, OutstandingRequest, Timers, stopped_timers, heartbeats_begun, fresh_endpoint}
+use Rattle.dcsctp_transfer.specs.spec.endpoint.EndOutcomes.{closed_after}
 use Rattle.dcsctp_transfer.specs.spec.endpoint.Timers.{RunningTimer}
 use Rattle.dcsctp_transfer.specs.types.Ids.{stream_numbers}
+use Rattle.dcsctp_transfer.specs.types.queues.Messages.{MessageContent, message_content}
 use Rattle.dcsctp_transfer.specs.spec.endpoint.Outcome.{Outcome, count_up}
 use Rattle.dcsctp_transfer.specs.spec.endpoint.Following.{next_chunk}
 use Rattle.dcsctp_transfer.specs.spec.association.HandshakeChanges.{new_held}
@@ -166,6 +168,7 @@ endpoint_of context =
       no_forward_tsn_before = context.no_forward_tsn_before;
       peer_implementation = context.peer_implementation;
       below = record { queue = context.send_queue; transfer = transfer_of context.state };
+      left = map message_content context.left.items;
     }
 
 -- the parts of a socket, seen together
@@ -192,6 +195,13 @@ abbrev pub Drawn : Stream → List Word → Stream → Type 0
 Drawn old [] new = new ≡ old
 Drawn old (U32 word ∷ words) new = (word ≡ (next_u32 old).0) × Drawn (next_u32 old).1 words new
 Drawn old (U64 word ∷ words) new = (word ≡ (next_u64 old).0) × Drawn (next_u64 old).1 words new
+
+-- the view once its association was dropped and these messages are left; the heartbeat's timers go on
+abbrev pub dropped : {R : Type 0} → View R → List MessageContent → View R
+dropped view left =
+    let e : Endpoint = view.endpoint in
+    let timers : Timers = record stopped_timers { heartbeat_interval = e.timers.heartbeat_interval; heartbeat_timeout = e.timers.heartbeat_timeout } in
+    record view { endpoint = record (closed_after e) { timers = timers; left = left } }
 
 -- the parts of a socket that was just made
 abbrev pub fresh_view : {R : Type 0} → Options → R → View R

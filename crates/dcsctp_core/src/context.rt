@@ -10,13 +10,14 @@ use crate::state::State;
 use crate::tx_error_counter::TxErrorCounter;
 use dcsctp_transfer::SendQueue;
 use dcsctp_transfer::api::{
-    ErrorKind, Events, Options, Pair, SctpImplementation, SocketEvent, SocketTime, Word,
+    ErrorKind, Events, Message, Options, Pair, SctpImplementation, SocketEvent, SocketTime, Word,
 };
 use dcsctp_transfer::send_timer::{BackoffAlgorithm, Timer};
 use dcsctp_transfer::wire::{Chunk, sizes};
 use dcsctp_transfer::wire_build::SctpPacketBuilder;
 use rand_core::Rng;
 use std::alloc::{AllocError, Global};
+use std::collections::VecDeque;
 
 /// What a socket is made of. Handlers change the state, the events, the queue and the peer's implementation
 /// in place, and the rest by the functions below.
@@ -39,6 +40,9 @@ pub struct Context<R> {
 
     /// What waits to be sent.
     pub send_queue: SendQueue,
+
+    /// The messages that were ready when the last association ended, and that aren't taken yet, oldest first.
+    pub left: VecDeque<Message>,
 
     /// What the peer is, by its state cookie.
     pub peer_implementation: SctpImplementation,
@@ -86,10 +90,12 @@ pub struct Context<R> {
 }
 
 impl<R: Rng> Context<R> {
-    ghost use Rattle.std.specs.Prelude.{◌≡◌, ◌+◌, Bool, ℕ, List, length, nat_le, string_bytes};
+    ghost use Rattle.std.specs.Prelude.{◌≡◌, ◌+◌, Bool, ℕ, List, length, map, nat_le, string_bytes};
     ghost use Rattle.rand_core.specs.Stream.{next_u32, next_u64};
     ghost use Rattle.dcsctp_transfer.specs.types.declared.word.Word.TheVariants.{U32, U64};
     ghost use Rattle.dcsctp_transfer.specs.spec.endpoint.Outcome.{counted};
+    ghost use Rattle.dcsctp_transfer.specs.spec.endpoint.EndOutcomes.{left_by};
+    ghost use Rattle.dcsctp_transfer.specs.types.queues.Messages.{message_content};
     ghost use Rattle.dcsctp_transfer.specs.wire.Content.{chunk_content};
     ghost use Rattle.dcsctp_transfer.specs.wire.Spelling.{chunk_bytes};
     ghost use Rattle.dcsctp_transfer.specs.types.Settings.{packet_size_limit};
@@ -99,7 +105,7 @@ impl<R: Rng> Context<R> {
     ghost use Rattle.dcsctp_transfer.specs.spec.endpoint.Timers.{running_deadline};
     ghost use Rattle.dcsctp_core.specs.Timing.{where_expired, is_timer_due, ExpiresAlways};
     ghost use Rattle.dcsctp_core.specs.Reconfiguring.{request_over};
-    ghost use Rattle.dcsctp_core.specs.View.{Moves, view_of, endpoint_of, outstanding_of, begun_heartbeats, message_counted, fresh_view, call_start};
+    ghost use Rattle.dcsctp_core.specs.View.{Moves, view_of, endpoint_of, outstanding_of, transfer_of, dropped, begun_heartbeats, message_counted, fresh_view, call_start};
     ghost use Rattle.dcsctp_core.specs.Drawing.{Draws, Keeps};
     ghost use Rattle.dcsctp_core.specs.Handling.{Tries, Emits, arrival_turn, report_turn, close_turn, end_event};
 
@@ -115,6 +121,7 @@ impl<R: Rng> Context<R> {
             state: State::Closed,
             events: Events::new(alloc),
             send_queue: SendQueue::new(alloc, &options),
+            left: VecDeque::new(alloc),
             peer_implementation: SctpImplementation::Unknown,
             generator,
             words: Vec::new(alloc),
@@ -388,8 +395,26 @@ impl<R: Rng> Context<R> {
         self.heartbeat_timeout.next_expiry()
     }
 
+    // Drops the association. With `Options::follow_rfc` the messages that are ready can still be taken, for
+    // their data was acknowledged.
+    fn drop_association(&mut self)
+        ensures left { map message_content self.new.left.items ≡ left_by self.old.options
+            (transfer_of self.old.state) (map message_content self.old.left.items) }
+        ensures view { view_of self.new ≡ dropped (view_of self.old)
+            (map message_content self.new.left.items) }
+    {
+        let ended = std::mem::replace(&mut self.state, State::Closed);
+        if !self.options.follow_rfc {
+            return;
+        }
+        if let Some(messages) = ended.into_ready_messages(&self.options) {
+            self.left = messages;
+        }
+    }
+
     /// Ends the association: with OnClosed if the error is `NoError`, else with OnAborted and this text. A
-    /// closed socket is unchanged. The count of errors stays (docs/DECISIONS.md, The count of errors).
+    /// closed socket is unchanged. The count of errors stays (docs/DECISIONS.md, The count of errors). With
+    /// `Options::follow_rfc` the messages that are ready can still be taken until the next one begins.
     ///
     /// `Err`: an allocation failed, and nothing has changed.
     pub fn internal_close(&mut self, error: ErrorKind, message: String) -> Result<(), AllocError>
@@ -402,7 +427,7 @@ impl<R: Rng> Context<R> {
         self.events.add(end_event(error, message))?;
         self.heartbeat_interval.stop();
         self.heartbeat_timeout.stop();
-        self.state = State::Closed;
+        self.drop_association();
         Ok(())
     }
 

@@ -7,12 +7,12 @@ ghost use Rattle.dcsctp_transfer.specs.spec.Handover.{readiness_of, readiness_op
 ghost use Rattle.dcsctp_transfer.specs.spec.Soundness.{IsSoundBelow};
 ghost use Rattle.dcsctp_transfer.specs.spec.queues.Incoming.{AreInOrder};
 ghost use Rattle.dcsctp_transfer.specs.api.Messages.{incoming_streams};
-ghost use Rattle.dcsctp_transfer.specs.api.Metrics.{ShowsMetrics};
+ghost use Rattle.dcsctp_transfer.specs.api.Metrics.{counts_of, ShowsMetrics};
 ghost use Rattle.dcsctp_core.specs.View.{endpoint_of};
 
 use crate::context::Context;
 use crate::state::{OpenPhase, State};
-use dcsctp_transfer::api::Metrics;
+use dcsctp_transfer::api::{Counts, Metrics};
 use dcsctp_transfer::types::HandoverReadiness;
 
 impl<R> Context<R> {
@@ -21,10 +21,11 @@ impl<R> Context<R> {
         ensures { ShowsMetrics (endpoint_of self.now) result }
     {
         let tcb = self.state.tcb()?;
+        let counts = self.counts();
         Some(Metrics {
-            tx_packets_count: self.tx_packets_count,
-            tx_messages_count: self.tx_messages_count,
-            rx_packets_count: self.rx_packets_count,
+            tx_packets_count: counts.tx_packets_count,
+            tx_messages_count: counts.tx_messages_count,
+            rx_packets_count: counts.rx_packets_count,
             peer_implementation: self.peer_implementation,
             uses_message_interleaving: tcb.capabilities.message_interleaving,
             uses_zero_checksum: tcb.capabilities.zero_checksum_enabled(),
@@ -36,6 +37,17 @@ impl<R> Context<R> {
                 .negotiated_maximum_outgoing_streams,
             ..tcb.transfer.metrics(&self.send_queue, self.options.mtu)
         })
+    }
+
+    /// What was counted over the socket's life.
+    pub fn counts(&self) -> Counts
+        ensures { counts_of result ≡ (endpoint_of self.now).counts }
+    {
+        Counts {
+            tx_packets_count: self.tx_packets_count,
+            tx_messages_count: self.tx_messages_count,
+            rx_packets_count: self.rx_packets_count,
+        }
     }
 
     // Why its parts can't be handed over, whatever the phase of the association.

@@ -2,8 +2,9 @@
 
 use crate::expiry::{Expiry, expire};
 use crate::transmission_control_block::TransmissionControlBlock;
-use dcsctp_transfer::api::{Association, Pair, Phase, SocketState, SocketTime};
+use dcsctp_transfer::api::{Association, Message, Options, Pair, Phase, SocketState, SocketTime};
 use dcsctp_transfer::send_timer::Timer;
+use std::collections::VecDeque;
 
 /// An INIT ACK is awaited.
 #[derive(Debug, Drop)]
@@ -154,7 +155,8 @@ impl OpenPhase {
 
 impl State {
     ghost use Rattle.dcsctp_transfer.specs.spec.endpoint.MessageOutcomes.{is_shutting_down};
-    ghost use Rattle.std.specs.Prelude.{◌≡◌};
+    ghost use Rattle.std.specs.Prelude.{◌≡◌, map};
+    ghost use Rattle.dcsctp_transfer.specs.types.queues.Messages.{message_content};
     ghost use Rattle.dcsctp_transfer.specs.spec.endpoint.Endpoint.{own_tag, association_of};
     ghost use Rattle.dcsctp_transfer.specs.api.Calls.{socket_state_of, is_closed};
     ghost use Rattle.std.specs.Option.{option_map};
@@ -184,6 +186,21 @@ impl State {
             State::Closed | State::CookieWait(_) => None,
             State::CookieEchoed(echoed) => Some(&mut echoed.tcb),
             State::Open(opened) => Some(&mut opened.tcb),
+        }
+    }
+
+    /// The messages that are ready to be taken, in order, once the peer is known. All else is dropped.
+    /// Allocates nothing.
+    pub(crate) fn into_ready_messages(self, options: &Options) -> Option<VecDeque<Message>>
+        ensures { option_map (λ messages. map message_content messages.items) result
+            ≡ option_map (λ tcb. tcb.transfer.reassembly.incoming.ready) (tcb_of self) }
+    {
+        match self {
+            State::Closed | State::CookieWait(_) => None,
+            State::CookieEchoed(mut echoed) => {
+                Some(echoed.tcb.transfer.take_ready_messages(options))
+            }
+            State::Open(mut opened) => Some(opened.tcb.transfer.take_ready_messages(options)),
         }
     }
 

@@ -40,7 +40,7 @@ pub struct ResetRequest {
     /// Its number.
     pub number: u32,
 
-    /// The last TSN that was assigned before it.
+    /// The last TSN that was assigned when the reset was first requested.
     pub last_tsn: u32,
 
     /// The streams that it resets.

@@ -12,7 +12,8 @@ use dcsctp_core_ends::receive_shutdown;
 use rand_core::Rng;
 use std::alloc::AllocError;
 
-// Does its TSN count in this phase? Once SHUTDOWN or SHUTDOWN ACK was sent, SACKs alone acknowledge.
+// Does the TSN of a SHUTDOWN count in this phase? Once SHUTDOWN or SHUTDOWN ACK was sent, SACKs alone
+// acknowledge.
 fn may_have_sent(state: &State) -> bool
     ensures { result ≡ may_have_sent_in (core_of state.now) }
 {

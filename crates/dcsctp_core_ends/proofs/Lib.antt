@@ -1,3 +1,4 @@
+pub mod AbortLemmas
 pub mod EndLemmas
 pub mod FitLemmas
 pub mod T2Lemmas

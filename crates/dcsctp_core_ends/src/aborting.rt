@@ -9,10 +9,10 @@ ghost use Rattle.dcsctp_core.specs.View.{core_of};
 ghost use Rattle.dcsctp_core.specs.Handling.{Tries, Takes, Emits, close_turn};
 ghost use Rattle.dcsctp_core_ends.specs.Ends.{abort_sent_turn, aborting_turn};
 
+use dcsctp_core::Context;
 use dcsctp_core::api::ErrorKind;
 use dcsctp_core::types::{AbortReason, Violation};
 use dcsctp_core::wire::{AbortChunk, Chunk, ErrorCause};
-use dcsctp_core::{Context, State};
 use rand_core::Rng;
 use std::alloc::AllocError;
 
@@ -124,7 +124,7 @@ pub fn abort_association<R: Rng>(
     ensures turn { Takes R.stream (aborting_turn reason) context.old result context.new }
     ensures closed { is_closed (core_of context.old.state) ≡ true → IsOk result }
 {
-    if let State::Closed = context.state {
+    if context.state.is_closed() {
         return Ok(());
     }
     send_abort(context, reason)?;

@@ -26,28 +26,29 @@ state_is_closed (CookieWait wait) is = absurd (cc)
 state_is_closed (CookieEchoed echoed) is = absurd (cc)
 state_is_closed (Open opened) is = absurd (cc)
 
--- with this association, these events and this queue
-abbrev with_association : {R : Type 0} → Context R → TransmissionControlBlock → List SocketEvent → SendQueueState → Context R
-with_association context tcb added queue = record context { state = Open (record { phase = phases.Established; tcb = tcb }); events = added; send_queue = queue }
+-- with this association, these events and this queue, and with what the other one has left
+abbrev with_association : {R : Type 0} → Context R → Context R → TransmissionControlBlock → List SocketEvent → SendQueueState → Context R
+with_association other context tcb added queue =
+    record context { state = Open (record { phase = phases.Established; tcb = tcb }); events = added; send_queue = queue; left = other.left }
 
 -- the queue with what the snapshot has
 abbrev queue_by : {R : Type 0} → Context R → Snapshot → SendQueueState
 queue_by context state = queue_restored context.moment state.tx (numbered_for state.capabilities.message_interleaving context.send_queue)
 
-endpoint_is : {R : Type 0} (old : Context R) (state : Snapshot) (tcb : TransmissionControlBlock) (added : List SocketEvent) (queue : SendQueueState)
-    → IsRestored old.options old.moment state tcb → queue ≡ queue_by old state
-    → endpoint_of (with_association old tcb added queue) ≡ restored_endpoint (endpoint_of (record old { state = Closed })) state tcb.transfer
-endpoint_is old state tcb added queue h waits = simp (h.my, h.held, h.outstanding, h.reconfiguration, h.tie_tag, waits) refl
+endpoint_is : {R : Type 0} (other old : Context R) (state : Snapshot) (tcb : TransmissionControlBlock) (added : List SocketEvent) (queue : SendQueueState)
+    → other.left.items ≡ [] → IsRestored old.options old.moment state tcb → queue ≡ queue_by old state
+    → endpoint_of (with_association other old tcb added queue) ≡ restored_endpoint (endpoint_of (record old { state = Closed })) state tcb.transfer
+endpoint_is other old state tcb added queue none h waits = simp (none, h.my, h.held, h.outstanding, h.reconfiguration, h.tie_tag, waits) refl
 
-from_closed : {R : Type 0} (stream : R → Stream) (old : Context R) (state : Snapshot) (tcb : TransmissionControlBlock) (added : List SocketEvent) (queue : SendQueueState)
-    → IsRestored old.options old.moment state tcb → queue ≡ queue_by old state → map event_content added ≡ map event_content old.events ++ events.connected ∷ []
-    → TakesIn stream (restore_turn state) (view_of (record old { state = Closed })) (view_of (with_association old tcb added queue))
-from_closed stream old state tcb added queue h waits told =
+from_closed : {R : Type 0} (stream : R → Stream) (other old : Context R) (state : Snapshot) (tcb : TransmissionControlBlock) (added : List SocketEvent) (queue : SendQueueState)
+    → other.left.items ≡ [] → IsRestored old.options old.moment state tcb → queue ≡ queue_by old state → map event_content added ≡ map event_content old.events ++ events.connected ∷ []
+    → TakesIn stream (restore_turn state) (view_of (record old { state = Closed })) (view_of (with_association other old tcb added queue))
+from_closed stream other old state tcb added queue none h waits told =
     record {
       outcome = restored_outcome (endpoint_of (record old { state = Closed })) state tcb.transfer;
       turn = (tcb.transfer, h.transfer, refl);
       moves = record {
-        endpoint = endpoint_is old state tcb added queue h waits;
+        endpoint = endpoint_is other old state tcb added queue none h waits;
         events = told;
         words = sym (append-nil old.words.items);
         pairs = sym (append-nil old.pairs.items);
@@ -55,9 +56,9 @@ from_closed stream old state tcb added queue h waits told =
       };
     }
 
-pub restores : {R : Type 0} (stream : R → Stream) (old : Context R) (state : Snapshot) (tcb : TransmissionControlBlock) (added : List SocketEvent) (queue : SendQueueState)
-    → core_of old.state ≡ closed → IsRestored old.options old.moment state tcb → queue ≡ queue_by old state → map event_content added ≡ map event_content old.events ++ events.connected ∷ []
-    → TakesIn stream (restore_turn state) (view_of old) (view_of (with_association old tcb added queue))
-restores {R} stream old state tcb added queue none h waits told =
-    subst (λ (s : State). TakesIn stream (restore_turn state) (view_of (record old { state = s })) (view_of (with_association old tcb added queue))) (sym (state_is_closed old.state none))
-    (from_closed stream old state tcb added queue h waits told)
+pub restores : {R : Type 0} (stream : R → Stream) (other old : Context R) (state : Snapshot) (tcb : TransmissionControlBlock) (added : List SocketEvent) (queue : SendQueueState)
+    → core_of old.state ≡ closed → other.left.items ≡ [] → IsRestored old.options old.moment state tcb → queue ≡ queue_by old state → map event_content added ≡ map event_content old.events ++ events.connected ∷ []
+    → TakesIn stream (restore_turn state) (view_of old) (view_of (with_association other old tcb added queue))
+restores {R} stream other old state tcb added queue holds none h waits told =
+    subst (λ (s : State). TakesIn stream (restore_turn state) (view_of (record old { state = s })) (view_of (with_association other old tcb added queue))) (sym (state_is_closed old.state holds))
+    (from_closed stream other old state tcb added queue none h waits told)

@@ -15,6 +15,7 @@ use dcsctp_core::api::{
 use dcsctp_core::{Context, OpenPhase, OpenState, Peer, State, TransmissionControlBlock};
 use rand_core::Rng;
 use std::alloc::{AllocError, Global};
+use std::collections::VecDeque;
 
 // What both ends support. Packets go without a checksum by the method of the options.
 fn capabilities_restored(options: &Options, given: &HandoverCapabilities) -> Capabilities
@@ -105,6 +106,7 @@ pub fn restore<R: Rng>(
         phase: OpenPhase::Established,
         tcb,
     });
+    context.left = VecDeque::new(context.alloc);
     context.events.add(SocketEvent::OnConnected())?;
     Ok(())
 }

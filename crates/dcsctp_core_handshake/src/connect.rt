@@ -27,6 +27,7 @@ use dcsctp_core::{
 };
 use rand_core::Rng;
 use std::alloc::AllocError;
+use std::collections::VecDeque;
 use std::time::Duration;
 
 /// T1-init or T1-cookie, started now.
@@ -208,6 +209,7 @@ fn echo_cookie<R: Rng>(
         cookie: echoed,
         tcb: TransmissionControlBlock::new(context.alloc, &context.options, my, &peer, tie_tag),
     });
+    context.left = VecDeque::new(context.alloc);
     send_cookie_echo(context)?;
     Ok(())
 }

@@ -15,6 +15,7 @@ use dcsctp_core::wire::{Chunk, CookieEchoChunk, ErrorCause, ErrorChunk};
 use dcsctp_core::{Context, Following, OpenPhase, OpenState, State, TransmissionControlBlock};
 use rand_core::Rng;
 use std::alloc::{AllocError, Global};
+use std::collections::VecDeque;
 
 /// Sends COOKIE ACK to the peer, at the front of a flush.
 ///
@@ -52,6 +53,7 @@ fn begin_association<R: Rng>(context: &mut Context<R>, cookie: &StateCookie, tie
         phase: OpenPhase::Established,
         tcb,
     });
+    context.left = VecDeque::new(context.alloc);
     context.start_heartbeat_interval();
 }
 

@@ -141,6 +141,8 @@ pub ends_begin : (mine options : Options) → AreEnds options (fresh_endpoint mi
 ends_begin mine options =
     record {
       ends = record { sends = λ tag. nothing; gets = λ tag. new_end options 0; firsts = λ tag. 0 };
+      tagged = [];
+      are_all = refl;
       between = record {
         runs = λ tag. senders_begin mine options 0 options.max_receiver_window_buffer_size;
         small = λ tag. omega arith;
@@ -158,7 +160,7 @@ ends_begin mine options =
           all_sent = tt;
         };
         asks = tt;
-        receiver = record { fits = record { first = 0; asking = nothing_asked; fits = tt }; current = λ transfer there. absurd (cc); were_read = λ tag. refl; begun = λ tag. inl refl };
+        receiver = record { fits = record { first = 0; asking = nothing_asked; fits = tt }; current = λ transfer there. absurd (cc); left = inl refl; were_read = λ tag. refl; begun = λ tag. inl refl };
       };
       answered = record {
         pairs = λ tag. record { tag = 0; first_tsn = 0 };

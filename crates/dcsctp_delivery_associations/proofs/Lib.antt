@@ -11,6 +11,7 @@ pub mod Senders
 pub mod SenderStays
 pub mod SenderBegins
 pub mod SenderTurns
+pub mod WhatIsLeft
 pub mod WhatIsRead
 pub mod UnaskedPasts
 pub mod AnsweringRests
@@ -23,5 +24,6 @@ pub mod ReceiverAnswers
 pub mod ReceiverOpens
 pub mod ReceiverStays
 pub mod ReceiverBegins
+pub mod ReceiverRests
 pub mod ReceiverTurns
 pub mod Delivers

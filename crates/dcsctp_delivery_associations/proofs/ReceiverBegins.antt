@@ -25,9 +25,10 @@ use Rattle.dcsctp_delivery_turns.specs.Actions.{peer_tag, IsCall}
 use Rattle.dcsctp_delivery_turns.specs.Asking.{own_of, AsksFit}
 use Rattle.dcsctp_delivery_turns.specs.Runs.{Opens}
 use Rattle.dcsctp_delivery_associations.specs.Ends.{ReceivingEnd, joined, new_end, Ends, HadPeer, Awaits, Sender, NewTag, HadTag, Receiver, Between}
-use Rattle.dcsctp_delivery_associations.specs.Reads.{Read, with_tag}
+use Rattle.dcsctp_delivery_associations.specs.Reads.{Read, with_tag, messages_of}
 use Rattle.dcsctp_delivery_associations.proofs.Growing.{set_all}
 use Rattle.dcsctp_delivery_associations.proofs.SenderStays.{set_three}
+use Rattle.dcsctp_delivery_associations.proofs.WhatIsLeft.{goes_left}
 use Rattle.dcsctp_delivery_associations.specs.Answered.{AreAnswered}
 use Rattle.dcsctp_delivery_associations.specs.Laws.{AreEnds}
 use Rattle.dcsctp_delivery_associations.proofs.ReceiverOpens.{opens_answered}
@@ -101,6 +102,7 @@ module _ (options : Options) (ends : Ends) (e : Endpoint) (queued : List Message
                 reassembly = ap (λ (g : ReceivingEnd). g.reassembly) (set_same tag got ends.gets) ∙ ap (λ (t : Transfer). t.reassembly) one;
               }
               );
+          left = goes_left d input o may turn ends.gets (set_at tag got ends.gets) opens.left opens.is h.receiver.left;
           were_read = set_all (λ t g. with_tag t reads ≡ g.read) tag got ends.gets (h.receiver.were_read tag ∙ ap (λ (g : ReceivingEnd). g.read) fresh) (λ t ne. h.receiver.were_read t);
           begun = λ t. elim (decide t tag) [
             | inl e' ↦ inr (subst (λ (n : ℕ). HadTag (after_effects o.effects their_past) n (firsts n)) (sym e') (subst (λ (n : ℕ). HadTag (after_effects o.effects their_past) tag n) (sym here) had_new))
@@ -116,7 +118,7 @@ module _ (options : Options) (ends : Ends) (e : Endpoint) (queued : List Message
         other t ne (inl new) = inl (set_other tag t got ends.gets ne ∙ new ∙ ap (new_end options) (sym (others t ne)))
         other t ne (inr had) = inr (subst (λ (n : ℕ). HadTag (after_effects o.effects their_past) t n) (sym (others t ne)) (tag_later o.effects their_past t (ends.firsts t) had))
 
-    crossed_opens : ends.firsts tag ≡ first → ends.gets tag ≡ new_end options (ends.firsts tag) → AreEnds options e queued past packets o.after (after_effects o.effects their_past) reads
+    crossed_opens : ends.firsts tag ≡ first → ends.gets tag ≡ new_end options (ends.firsts tag) → AreEnds options e queued past packets o.after (after_effects o.effects their_past) (messages_of reads)
     crossed_opens here fresh =
         let end : ends.gets tag ≡ new_end options first = fresh ∙ ap (new_end options) here in
         let start : Run options first options.max_receiver_window_buffer_size (joined (ends.sends tag) (new_end options first)) =
@@ -124,6 +126,8 @@ module _ (options : Options) (ends : Ends) (e : Endpoint) (queued : List Message
         (subst (λ (g : ReceivingEnd). Run options (ends.firsts tag) options.max_receiver_window_buffer_size (joined (ends.sends tag) g)) end (h.runs tag)) in
         record {
           ends = record { sends = ends.sends; gets = set_at tag got ends.gets; firsts = ends.firsts };
+          tagged = reads;
+          are_all = refl;
           between = record {
             runs = set_all (λ t g. Run options (ends.firsts t) options.max_receiver_window_buffer_size (joined (ends.sends t) g)) tag got ends.gets
                 (subst (λ (n : ℕ). Run options n options.max_receiver_window_buffer_size (joined (ends.sends tag) got)) (sym here) (opened start)) (λ t ne. h.runs t);
@@ -135,7 +139,7 @@ module _ (options : Options) (ends : Ends) (e : Endpoint) (queued : List Message
           answered = opens_answered ends e past d their_past w input o may turn opens is (set_at tag got ends.gets) ends.firsts here (λ t ne. refl) (inl here);
         }
 
-    awaited_opens : Awaits (ends.sends tag) → tag ≢ peer_tag e.core → ends.gets tag ≡ new_end options (ends.firsts tag) → AreEnds options e queued past packets o.after (after_effects o.effects their_past) reads
+    awaited_opens : Awaits (ends.sends tag) → tag ≢ peer_tag e.core → ends.gets tag ≡ new_end options (ends.firsts tag) → AreEnds options e queued past packets o.after (after_effects o.effects their_past) (messages_of reads)
     awaited_opens waits apart fresh =
         let queues = direction_queues options (ends.firsts tag) options.max_receiver_window_buffer_size (joined (ends.sends tag) (ends.gets tag)) (h.runs tag) (h.small tag)
         (let short = h.sender.short tag in omega (arith, few, short)) in
@@ -154,6 +158,8 @@ module _ (options : Options) (ends : Ends) (e : Endpoint) (queued : List Message
         }) in
         record {
           ends = record { sends = ends.sends; gets = set_at tag got ends.gets; firsts = set_at tag first ends.firsts };
+          tagged = reads;
+          are_all = refl;
           between = record {
             runs = set_three (λ t f s g. Run options f options.max_receiver_window_buffer_size (joined (ends.sends t) g)) tag first (ends.sends tag) got ends.firsts ends.sends ends.gets (opened start) (λ t ne. h.runs t);
             small = set_all (λ t f. f < 2 ^ 32) tag first ends.firsts is.small (λ t ne. h.small t);
@@ -165,13 +171,13 @@ module _ (options : Options) (ends : Ends) (e : Endpoint) (queued : List Message
               (inr (waits.asking, apart));
         }
 
-    pub opens_goes : AreEnds options e queued past packets o.after (after_effects o.effects their_past) reads
+    pub opens_goes : AreEnds options e queued past packets o.after (after_effects o.effects their_past) (messages_of reads)
     opens_goes =
         elim (h.receiver.begun tag) [
           | inl fresh ↦ go fresh (known ends (peer_tag e.core) e.below queued past their_past packets (link_of opens.begun.my opens.begun.held) h.sender is)
           | inr had ↦ absurd ((is.other had.link had.held).0 had.tag_is)
         ]
       where
-        go : ends.gets tag ≡ new_end options (ends.firsts tag) → Known ends (peer_tag e.core) (link_of opens.begun.my opens.begun.held) → AreEnds options e queued past packets o.after (after_effects o.effects their_past) reads
+        go : ends.gets tag ≡ new_end options (ends.firsts tag) → Known ends (peer_tag e.core) (link_of opens.begun.my opens.begun.held) → AreEnds options e queued past packets o.after (after_effects o.effects their_past) (messages_of reads)
         go fresh (is_crossed here) = crossed_opens here fresh
         go fresh (is_awaited waits apart) = awaited_opens waits apart fresh

@@ -3,7 +3,7 @@ use Rattle.std.proofs.Common.{◌≡◌, ◌≢◌, ℕ, Bool, true, false, ◌<
 use Rattle.std.specs.Prelude.{◌⊎◌}
 use Rattle.dcsctp_spec_lemmas.specs.types.declared.options.Options.{Options}
 use Rattle.dcsctp_spec_lemmas.specs.types.Settings.{SameOptions}
-use Rattle.dcsctp_spec_lemmas.specs.spec.endpoint.Endpoint.{Endpoint, own_tag}
+use Rattle.dcsctp_spec_lemmas.specs.spec.endpoint.Endpoint.{Endpoint}
 use Rattle.dcsctp_spec_lemmas.specs.spec.endpoint.Outcome.{Outcome}
 use Rattle.dcsctp_spec_lemmas.specs.spec.Packet.{Emission}
 use Rattle.dcsctp_spec_lemmas.specs.spec.endpoint.Turn.{Input, Turn}
@@ -27,12 +27,10 @@ use Rattle.dcsctp_delivery_associations.specs.Laws.{AsksLittle}
 use Rattle.dcsctp_delivery_associations.proofs.UnaskedPasts.{reset_none}
 use Rattle.dcsctp_delivery_associations.proofs.AnsweringRests.{none_performed}
 use Rattle.dcsctp_delivery_associations.proofs.ReceiverAnswers.{asked_ends, Standing, performs_newest, newest_or_not, nothing_performed, goes_answered}
-use Rattle.dcsctp_delivery_associations.proofs.ReceiverOpens.{rests_answered}
-use Rattle.dcsctp_spec_lemmas.specs.types.declared.association.Pair.{Pair}
 use Rattle.dcsctp_spec_lemmas.specs.spec.Packet.{re_config}
 use Rattle.dcsctp_spec_runs.specs.Past.{Has}
 use Rattle.dcsctp_spec_lemmas.specs.spec.Reconfiguration.{RequestedReset, ResetParameter}
-use Rattle.dcsctp_spec_lemmas.specs.spec.association.Effect.{holds, performs}
+use Rattle.dcsctp_spec_lemmas.specs.spec.association.Effect.{holds}
 use Rattle.dcsctp_spec_lemmas.specs.spec.endpoint.ResetOutcomes.{has_reset, requested_in}
 use Rattle.dcsctp_delivery_turns.specs.Actions.{IsOpening, came_by, peer_tag, read_after, Begun, IsCall}
 use Rattle.dcsctp_delivery_turns.specs.Asking.{own_of, SomeFit}
@@ -40,13 +38,15 @@ use Rattle.dcsctp_delivery_turns.specs.Sides.{WasSent, receiving}
 use Rattle.dcsctp_delivery_turns.specs.Runs.{ReceiverTurns, receiver_goes_on, receiver_ends, receiver_begins, IdleTurns, idle_stays, idle_begins}
 use Rattle.dcsctp_delivery_turns.proofs.Runs.{receivers_go_on, receivers_begin}
 use Rattle.dcsctp_delivery_associations.specs.Ends.{ReceivingEnd, joined, new_end, Ends, NewTag, HadTag, IsCurrent, Between}
-use Rattle.dcsctp_delivery_associations.specs.Reads.{Read, reads_after, with_tag}
-use Rattle.dcsctp_delivery_associations.proofs.WhatIsRead.{tag_of, reads_still, own_read, other_read}
+use Rattle.dcsctp_delivery_associations.specs.Reads.{Read, reads_after, tagged_after, with_tag, messages_of}
+use Rattle.dcsctp_delivery_associations.proofs.WhatIsLeft.{goes_left, ends_left}
+use Rattle.dcsctp_delivery_associations.proofs.WhatIsRead.{reads_still, opening_still, tagged_messages, own_read, other_read}
 use Rattle.dcsctp_delivery_associations.proofs.Growing.{set_all}
 use Rattle.dcsctp_delivery_associations.proofs.Own.{unlinked_some}
 use Rattle.dcsctp_delivery_associations.specs.Laws.{AreEnds}
 use Rattle.dcsctp_delivery_associations.proofs.ReceiverStays.{tag_later, begun_later, sender_asked}
 use Rattle.dcsctp_delivery_associations.proofs.ReceiverBegins.{opens_goes}
+use Rattle.dcsctp_delivery_associations.proofs.ReceiverRests.{rests, idle_rests}
 
 module _ (options : Options) (ends : Ends) (e : Endpoint) (queued : List Message) (past : List Effect) (packets : List Emission) (d : Endpoint) (their_past : List Effect) (reads : List Read)
     (h : Between options ends e queued past packets d their_past reads) (few : length queued < 2 ^ 64) (same : SameOptions options d.options) (input : Input) (o : Outcome)
@@ -54,31 +54,10 @@ module _ (options : Options) (ends : Ends) (e : Endpoint) (queued : List Message
     (little : AsksLittle packets) (new_tags : (link old : Link) → Has (holds link) o.effects → Has (holds old) their_past → old.my.tag ≢ link.my.tag) (may : IsCall input) (turn : Turn d input o) where
   -- what is to be shown of the turn
   abbrev pub Turned : Type 0
-  Turned = AreEnds options e queued past packets o.after (after_effects o.effects their_past) (reads_after d input reads)
+  Turned = AreEnds options e queued past packets o.after (after_effects o.effects their_past) (reads_after d input (messages_of reads))
 
-  unread_goes : ((read : List MessageContent) → read_after d input read ≡ read) → AreEnds options e queued past packets o.after (after_effects o.effects their_past) reads → Turned
-  unread_goes unread goes = subst (λ (l : List Read). AreEnds options e queued past packets o.after (after_effects o.effects their_past) l) (sym (reads_still d input reads unread)) goes
-
-  -- there is none after the turn
-  rests : o.after.below.transfer ≡ None → SomeFit (own_of o.after) → link_in o.after.core ≡ None → ((my : Pair) (number : ℕ) → Has (performs my number) o.effects → ⊥)
-      → AreEnds options e queued past packets o.after (after_effects o.effects their_past) reads
-  rests none fits unlinked no_performs =
-      record {
-        ends = ends;
-        between = record {
-          runs = h.runs;
-          small = h.small;
-          sender = h.sender;
-          asks = h.asks;
-          receiver = record {
-            fits = fits;
-            current = λ transfer there. (let clash : ◌≡◌ {A = Option Transfer} None (Some transfer) = sym none ∙ there in absurd (cc));
-            were_read = h.receiver.were_read;
-            begun = λ tag. begun_later options ends o.effects their_past tag (h.receiver.begun tag);
-          };
-        };
-        answered = rests_answered ends e past d their_past w input o may turn unlinked no_performs;
-      }
+  unread_goes : reads_after d input (messages_of reads) ≡ messages_of reads → AreEnds options e queued past packets o.after (after_effects o.effects their_past) (messages_of reads) → Turned
+  unread_goes unread goes = subst (λ (l : List MessageContent). AreEnds options e queued past packets o.after (after_effects o.effects their_past) l) (sym unread) goes
 
   -- ---- an association goes on
 
@@ -92,9 +71,10 @@ module _ (options : Options) (ends : Ends) (e : Endpoint) (queued : List Message
     receives linked left is fits asking still fit answered run =
         let tag : ℕ = c.link.my.tag in
         let got : ReceivingEnd = record { tracker = left.tracker; reassembly = left.reassembly; read = read_after d input (ends.gets tag).read } in
-        let own : own_tag d.core ≡ tag = tag_of d.core c.link c.linked in
         record {
           ends = asked_ends ends tag asking got;
+          tagged = tagged_after tag d input reads;
+          are_all = tagged_messages tag d input reads;
           between = record {
             runs = λ t. elim (decide t tag) [
               | inl e' ↦
@@ -125,9 +105,10 @@ module _ (options : Options) (ends : Ends) (e : Endpoint) (queued : List Message
                     reassembly = ap (λ (g : ReceivingEnd). g.reassembly) (set_same tag got ends.gets) ∙ ap (λ (t : Transfer). t.reassembly) one;
                   }
                   );
-              were_read = set_all (λ t g. with_tag t (reads_after d input reads) ≡ g.read) tag got ends.gets
-                  (subst (λ (t : ℕ). with_tag t (reads_after d input reads) ≡ read_after d input (with_tag t reads)) own (own_read d input reads) ∙ ap (read_after d input) (h.receiver.were_read tag))
-                  (λ t ne. other_read d input reads t (λ is'. ne (is' ∙ own)) ∙ h.receiver.were_read t);
+              left = goes_left d input o may turn ends.gets (set_at tag got ends.gets) left is h.receiver.left;
+              were_read = set_all (λ t g. with_tag t (tagged_after tag d input reads) ≡ g.read) tag got ends.gets
+                  (own_read tag d input transfer reads there ∙ ap (read_after d input) (h.receiver.were_read tag))
+                  (λ t ne. other_read tag d input reads t ne ∙ h.receiver.were_read t);
               begun = λ t. elim (decide t tag) [
                 | inl e' ↦ inr (subst (λ (n : ℕ). HadTag (after_effects o.effects their_past) n (ends.firsts n)) (sym e') (tag_later o.effects their_past tag (ends.firsts tag) c.had))
                 | inr ne ↦ others t ne got (begun_later options ends o.effects their_past t (h.receiver.begun t))
@@ -206,9 +187,11 @@ module _ (options : Options) (ends : Ends) (e : Endpoint) (queued : List Message
           (goes_answered ends e past d their_past w input o may turn new_tags c.link c.linked transfer left there is options.max_receiver_window_buffer_size options
           (joined (ends.sends c.link.my.tag) (ends.gets c.link.my.tag)) (ends.firsts c.link.my.tag) (h.runs c.link.my.tag) refl sent few_asked knows new_same linked is_known (stands left is) asking by _) run
       by_turn is_known stands (receiver_ends none gone unread) =
-          unread_goes unread (rests gone (unlinked_some o.after none) none (none_performed o.effects (ends_ask_nothing d input o transfer may turn there gone)))
+          unread_goes (reads_still d input transfer (messages_of reads) there unread)
+          (rests options ends e queued past packets d their_past reads h input o w may turn gone (unlinked_some o.after none) none (none_performed o.effects (ends_ask_nothing d input o transfer may turn there gone))
+          (ends_left d input o may turn ends.gets c.link.my.tag transfer there gone c.reassembly h.receiver.left))
       by_turn is_known stands (receiver_begins opens) =
-          unread_goes opens.unread (opens_goes options ends e queued past packets d their_past reads h few same input o w may turn opens (new opens.begun opens.opening opens.linked))
+          unread_goes (opening_still d input (messages_of reads) opens.opening) (opens_goes options ends e queued past packets d their_past reads h few same input o w may turn opens (new opens.begun opens.opening opens.linked))
 
       goes_known : (is_known : Bool) → (is_known ≡ true → PerformsNewest (joined (ends.sends c.link.my.tag) (ends.gets c.link.my.tag)) transfer (came_by input) o.effects)
           → ReceiverTurns is_known options (ends.firsts c.link.my.tag) options.max_receiver_window_buffer_size (joined (ends.sends c.link.my.tag) (ends.gets c.link.my.tag)) transfer d input o
@@ -245,10 +228,9 @@ module _ (options : Options) (ends : Ends) (e : Endpoint) (queued : List Message
 
   idle_goes : d.below.transfer ≡ None → IdleTurns d input o → Turned
   idle_goes nowhere (idle_stays which none fits unread) =
-      unread_goes unread
-      (rests none fits (elim which [ inl gone ↦ gone | inr same' ↦ same' ∙ w.unlinked nowhere ]) (none_performed o.effects (unlinked_asks_nothing d input o may turn (w.unlinked nowhere)).0))
+      idle_rests options ends e queued past packets d their_past reads h input o w may turn nowhere none fits (elim which [ inl gone ↦ gone | inr same' ↦ same' ∙ w.unlinked nowhere ]) (none_performed o.effects (unlinked_asks_nothing d input o may turn (w.unlinked nowhere)).0)
   idle_goes nowhere (idle_begins opens) =
-      unread_goes opens.unread (opens_goes options ends e queued past packets d their_past reads h few same input o w may turn opens (new opens.begun opens.opening opens.linked))
+      unread_goes (opening_still d input (messages_of reads) opens.opening) (opens_goes options ends e queued past packets d their_past reads h few same input o w may turn opens (new opens.begun opens.opening opens.linked))
 
   -- What is handled in an association was sent in it.
   abbrev pub Sent : Type 0

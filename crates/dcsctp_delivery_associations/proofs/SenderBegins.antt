@@ -34,10 +34,11 @@ use Rattle.dcsctp_delivery_associations.proofs.AskedOn.{MayBegin}
 use Rattle.dcsctp_delivery_associations.proofs.Counting.{addressed_requests}
 use Rattle.dcsctp_delivery_associations.proofs.SenderAnswers.{may_begin, begins_answers}
 use Rattle.dcsctp_delivery_associations.specs.Laws.{AreEnds, AsksLittle}
-use Rattle.dcsctp_delivery_associations.specs.Reads.{Read, with_tag}
+use Rattle.dcsctp_delivery_associations.specs.Reads.{Read, with_tag, messages_of}
 use Rattle.dcsctp_delivery_associations.proofs.Growing.{set_all}
 use Rattle.dcsctp_delivery_associations.proofs.Senders.{link_tag, renewed_end, renewed_ends, renewed}
 use Rattle.dcsctp_delivery_associations.proofs.SenderStays.{set_three, receiver_same}
+use Rattle.dcsctp_delivery_associations.proofs.WhatIsLeft.{ready_same}
 
 -- ---- an association begins
 
@@ -77,6 +78,8 @@ receiver_renewed options ends sends d past reads tag first r fresh apart =
     record {
       fits = r.fits;
       current = λ transfer there. still transfer there (r.current transfer there);
+      left = ready_same ends.gets (set_at tag (new_end options first) ends.gets) d.left d.below.transfer
+          (set_all (λ t g. g.reassembly.incoming.ready ≡ (ends.gets t).reassembly.incoming.ready) tag (new_end options first) ends.gets (sym (ap (λ (g : ReceivingEnd). g.reassembly.incoming.ready) fresh)) (λ t ne. refl)) r.left;
       were_read = set_all (λ t g. with_tag t reads ≡ g.read) tag (new_end options first) ends.gets (r.were_read tag ∙ ap (λ (g : ReceivingEnd). g.read) fresh) (λ t ne. r.were_read t);
       begun = λ t. elim (decide t tag) [
         | inl e ↦
@@ -156,7 +159,7 @@ module _ (options : Options) (ends : Ends) (e : Endpoint) (queued : List Message
 
   crossed_begins : NewPeer past their_past new → Awaits (ends.sends begun.held.peer.tag) → link_in o.after.core ≡ Some new → AreAddressed begun.held.peer.tag (packets_in o.events)
       → QueueWaits marks e.below.queue → AllByRecursion Fits marks → Later → ends.firsts begun.held.peer.tag ≡ begun.my.first_tsn
-      → AreEnds options o.after queued (after_effects o.effects past) (packets ++ packets_in o.events) d their_past reads
+      → AreEnds options o.after queued (after_effects o.effects past) (packets ++ packets_in o.events) d their_past (messages_of reads)
   crossed_begins is waits linked addressed shown fit later same =
       let to : ℕ = begun.held.peer.tag in
       let ps : List Emission = packets_in o.events in
@@ -168,6 +171,8 @@ module _ (options : Options) (ends : Ends) (e : Endpoint) (queued : List Message
       let ends' : Ends = renewed_ends ends (peer_tag e.core) e.below queued past packets h.sender o.effects to o.after.below run.0 ps run.1 ends.gets ends.firsts in
       record {
         ends = ends';
+        tagged = reads;
+        are_all = refl;
         between = record {
           runs = set_all (λ tag s. Run options (ends.firsts tag) options.max_receiver_window_buffer_size (joined s (ends.gets tag))) to end ends.sends
               (subst (λ (n : ℕ). Run options n options.max_receiver_window_buffer_size (joined end (ends.gets to))) (sym same) run.4) (λ tag ne. h.runs tag);
@@ -188,7 +193,7 @@ module _ (options : Options) (ends : Ends) (e : Endpoint) (queued : List Message
   fresh_begins : NewPeer past their_past new → Awaits (ends.sends begun.held.peer.tag) → link_in o.after.core ≡ Some new → AreAddressed begun.held.peer.tag (packets_in o.events)
       → QueueWaits marks e.below.queue → AllByRecursion Fits marks → Later → ends.gets begun.held.peer.tag ≡ new_end options (ends.firsts begun.held.peer.tag)
       → ((transfer : Transfer) (link : Link) → d.below.transfer ≡ Some transfer → link_in d.core ≡ Some link → link.my.tag ≢ begun.held.peer.tag)
-      → AreEnds options o.after queued (after_effects o.effects past) (packets ++ packets_in o.events) d their_past reads
+      → AreEnds options o.after queued (after_effects o.effects past) (packets ++ packets_in o.events) d their_past (messages_of reads)
   fresh_begins is waits linked addressed shown fit later fresh apart =
       let to : ℕ = begun.held.peer.tag in
       let first : ℕ = begun.my.first_tsn in
@@ -202,6 +207,8 @@ module _ (options : Options) (ends : Ends) (e : Endpoint) (queued : List Message
       let ends' : Ends = renewed_ends ends (peer_tag e.core) e.below queued past packets h.sender o.effects to o.after.below run.0 ps run.1 gets firsts in
       record {
         ends = ends';
+        tagged = reads;
+        are_all = refl;
         between = record {
           runs = set_three (λ tag f s g. Run options f options.max_receiver_window_buffer_size (joined s g)) to first end (new_end options first) ends.firsts ends.sends ends.gets run.4 (λ tag ne. h.runs tag);
           small = set_all (λ tag f. f < 2 ^ 32) to first ends.firsts is.small (λ tag ne. h.small tag);
@@ -225,7 +232,7 @@ module _ (options : Options) (ends : Ends) (e : Endpoint) (queued : List Message
 
   pub begins : NewPeer past their_past new → link_in o.after.core ≡ Some new → AreAddressed begun.held.peer.tag (packets_in o.events)
       → QueueWaits (ends.sends (peer_tag e.core)).queued e.below.queue → AllByRecursion Fits (ends.sends (peer_tag e.core)).queued → Later
-      → AreEnds options o.after queued (after_effects o.effects past) (packets ++ packets_in o.events) d their_past reads
+      → AreEnds options o.after queued (after_effects o.effects past) (packets ++ packets_in o.events) d their_past (messages_of reads)
   begins is linked addressed shown fit later =
       elim (h.sender.begun begun.held.peer.tag is.some) [
         | inl waits ↦ go waits (known options ends d past their_past reads h.receiver new is d.below.transfer refl)
@@ -240,6 +247,6 @@ module _ (options : Options) (ends : Ends) (e : Endpoint) (queued : List Message
       fit_marks : AllByRecursion Fits marks
       fit_marks = all_marked_fit (length (ends.sends (peer_tag e.core)).queued) (ends.sends (peer_tag e.core)).below.queue.streams (ends.sends (peer_tag e.core)).queued fit
 
-      go : Awaits (ends.sends begun.held.peer.tag) → Known options ends d new → AreEnds options o.after queued (after_effects o.effects past) (packets ++ packets_in o.events) d their_past reads
+      go : Awaits (ends.sends begun.held.peer.tag) → Known options ends d new → AreEnds options o.after queued (after_effects o.effects past) (packets ++ packets_in o.events) d their_past (messages_of reads)
       go waits (is_crossed same) = crossed_begins is waits linked addressed holds_marks fit_marks later same
       go waits (is_fresh fresh apart) = fresh_begins is waits linked addressed holds_marks fit_marks later fresh apart

@@ -26,7 +26,7 @@ use Rattle.dcsctp_delivery_turns.proofs.Runs.{begins_anew}
 use Rattle.dcsctp_delivery_associations.specs.Ends.{SendingEnd, ReceivingEnd, joined, new_end, Ends, Sender, Receiver, Between}
 use Rattle.dcsctp_delivery_associations.specs.Answered.{AreAnswered}
 use Rattle.dcsctp_delivery_associations.specs.Laws.{AreEnds}
-use Rattle.dcsctp_delivery_associations.specs.Reads.{Read}
+use Rattle.dcsctp_delivery_associations.specs.Reads.{Read, messages_of}
 use Rattle.dcsctp_delivery_associations.proofs.Growing.{set_all, input_adds}
 use Rattle.dcsctp_delivery_associations.proofs.Own.{unlinked_fit}
 use Rattle.dcsctp_delivery_associations.proofs.Senders.{same_key, no_key, grown_end, grown_ends, grown, marked_queue, renewed_end, renewed_ends, renewed}
@@ -51,6 +51,7 @@ receiver_same options ends sends d past reads r =
     record {
       fits = r.fits;
       current = λ transfer is. (let c = r.current transfer is in record { link = c.link; linked = c.linked; had = c.had; tracker = c.tracker; reassembly = c.reassembly });
+      left = r.left;
       were_read = r.were_read;
       begun = r.begun;
     }
@@ -62,7 +63,7 @@ module _ (options : Options) (ends : Ends) (e : Endpoint) (queued : List Message
 
   -- what is to be shown of the turn
   abbrev pub Turned : Type 0
-  Turned = AreEnds options o.after (queued_after e input queued) (after_effects o.effects past) (packets ++ packets_in o.events) d their_past reads
+  Turned = AreEnds options o.after (queued_after e input queued) (after_effects o.effects past) (packets ++ packets_in o.events) d their_past (messages_of reads)
 
   pub goes_on : link_in o.after.core ≡ link_in e.core → AreAddressed (peer_tag e.core) (packets_in o.events) → (acknowledged : ℕ) (asking : Asking) → AsksFit (ends.firsts (peer_tag e.core)) (own_of o.after) asking
       → AreAnswered (grown_ends ends (peer_tag e.core) e.below queued past packets h.sender o.effects more o.after.below acknowledged (packets_in o.events) asking) o.after (after_effects o.effects past) d their_past
@@ -77,6 +78,8 @@ module _ (options : Options) (ends : Ends) (e : Endpoint) (queued : List Message
       grown ends key e.below queued past packets h.sender o.effects more o.after.below acknowledged (packets_in o.events) asking addressed in
       record {
         ends = later;
+        tagged = reads;
+        are_all = refl;
         between = record {
           runs = set_all (λ tag s. Run options (ends.firsts tag) options.max_receiver_window_buffer_size (joined s (ends.gets tag))) key end ends.sends
               (subst (λ (l : List Message). Run options (ends.firsts key) options.max_receiver_window_buffer_size (joined (record end { queued = l }) (ends.gets key))) (input_adds e input (ends.sends key).queued) run)
@@ -127,6 +130,8 @@ module _ (options : Options) (ends : Ends) (e : Endpoint) (queued : List Message
       let never : ends.gets 0 ≡ new_end options (ends.firsts 0) = elim (h.receiver.begun 0) [ inl new' ↦ new' | inr had ↦ absurd (had.some refl) ] in
       record {
         ends = later;
+        tagged = reads;
+        are_all = refl;
         between = record {
           runs = set_all (λ tag s. Run options (ends.firsts tag) options.max_receiver_window_buffer_size (joined s (ends.gets tag))) 0 new middle.sends
               (subst (λ (g : ReceivingEnd). Run options (ends.firsts 0) options.max_receiver_window_buffer_size (joined new g)) (sym never) anew)

@@ -24,7 +24,7 @@ use Rattle.dcsctp_delivery_turns.proofs.Runs.{senders_go_on}
 use Rattle.dcsctp_delivery_associations.specs.Ends.{SendingEnd, joined, Ends, NewPeer, Between}
 use Rattle.dcsctp_delivery_associations.specs.Answered.{Answers, requests_of, waits_in, AreAnswered}
 use Rattle.dcsctp_delivery_associations.specs.Laws.{RefusesNone, CompletesPerformed, AsksLittle, AreEnds}
-use Rattle.dcsctp_delivery_associations.specs.Reads.{Read}
+use Rattle.dcsctp_delivery_associations.specs.Reads.{Read, messages_of}
 use Rattle.dcsctp_delivery_associations.proofs.AskedOn as asked
 use Rattle.dcsctp_delivery_associations.proofs.AskedOn.{MayBegin}
 use Rattle.dcsctp_delivery_associations.proofs.Renewed.{MayGo, ends_so}
@@ -192,7 +192,7 @@ module _ (options : Options) (ends : Ends) (e : Endpoint) (queued : List Message
 
   by_turn : IsCall input → Turn e input o → RefusesNone e o → CompletesPerformed their_past o
       → SenderTurns options (ends.firsts (peer_tag e.core)) options.max_receiver_window_buffer_size (joined (ends.sends (peer_tag e.core)) (ends.gets (peer_tag e.core))) e input o
-      → AreEnds options o.after (queued_after e input queued) (after_effects o.effects past) (packets ++ packets_in o.events) d their_past reads
+      → AreEnds options o.after (queued_after e input queued) (after_effects o.effects past) (packets ++ packets_in o.events) d their_past (messages_of reads)
   by_turn may turn refuses completes_so (run_goes_on linked addressed kind' acknowledged between asking is grows fit run) =
       goes_on options ends e queued past packets d their_past reads h input o linked addressed acknowledged asking fit
       (goes_answered (link_in e.core) refl may turn refuses completes_so linked addressed kind' acknowledged between asking is grows fit (few_then addressed o.after.below acknowledged asking run)) run
@@ -202,11 +202,11 @@ module _ (options : Options) (ends : Ends) (e : Endpoint) (queued : List Message
   by_turn may turn refuses completes_so (run_begins begun opening linked addressed same shown fit later) =
       let none : queued_after e input [] ≡ [] = queues_none (queued_after e input []) (ends.sends (peer_tag e.core)).queued (sym (input_adds e input (ends.sends (peer_tag e.core)).queued) ∙ same) in
       let stays : queued_after e input queued ≡ queued = input_adds e input queued ∙ ap (λ (l : List Message). l ++ queued) none in
-      subst (λ (l : List Message). AreEnds options o.after l (after_effects o.effects past) (packets ++ packets_in o.events) d their_past reads) (sym stays)
+      subst (λ (l : List Message). AreEnds options o.after l (after_effects o.effects past) (packets ++ packets_in o.events) d their_past (messages_of reads)) (sym stays)
       (begins options ends e queued past packets d their_past reads h input o w little begun (new begun opening linked) linked addressed shown fit later)
 
   pub sender_turns : length (queued_after e input queued) < 2 ^ 64 → RefusesNone e o → CompletesPerformed their_past o → IsCall input → Turn e input o
-      → AreEnds options o.after (queued_after e input queued) (after_effects o.effects past) (packets ++ packets_in o.events) d their_past reads
+      → AreEnds options o.after (queued_after e input queued) (after_effects o.effects past) (packets ++ packets_in o.events) d their_past (messages_of reads)
   sender_turns few refuses completes_so may turn =
       by_turn may turn refuses completes_so
       (senders_go_on options (ends.firsts key) options.max_receiver_window_buffer_size now e input o (h.runs key) (h.small key) h.sender.below_is h.asks

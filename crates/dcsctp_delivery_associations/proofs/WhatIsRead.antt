@@ -1,46 +1,82 @@
--- What a turn reads, by the own tag of its association.
-use Rattle.std.proofs.Common.{◌≡◌, ◌≢◌, ◌==◌, ℕ, Bool, true, false, Option, None, Some, List, [], ◌∷◌, ◌++◌, refl, sym, ◌∙◌, ap, inl, inr}
+-- What a turn reads, by the association that received it.
+use Rattle.std.proofs.Common.{◌≡◌, ◌≢◌, ◌==◌, ℕ, Bool, true, false, Option, Some, List, [], ◌∷◌, ◌++◌, refl, sym, ◌∙◌, ap, inl, inr}
 use Rattle.std.specs.Prelude.{if◌then◌else◌}
 use Rattle.std.proofs.lemmas.Bool.Decides.{eqb_tells}
-use Rattle.dcsctp_spec_lemmas.specs.spec.endpoint.Endpoint.{Endpoint, Core, closed, cookie_wait, cookie_echoed, open_in, own_tag}
+use Rattle.dcsctp_spec_lemmas.specs.spec.endpoint.DataOutcomes.{ready_where}
+use Rattle.dcsctp_spec_lemmas.specs.spec.endpoint.Endpoint.{Endpoint}
 use Rattle.dcsctp_spec_lemmas.specs.spec.endpoint.Turn.{Input, arrival, refusal, packet_begins, chunk_input, packet_ends, act_input, user_sets, user_sends, user_resets, user_takes, timer_expires, time_passes, restores}
-use Rattle.dcsctp_spec_lemmas.specs.spec.association.Effect.{Link, link_of, link_in}
 use Rattle.dcsctp_spec_lemmas.specs.types.queues.Messages.{MessageContent}
 use Rattle.dcsctp_spec_lemmas.specs.spec.queues.Transfer.{Transfer}
-use Rattle.dcsctp_delivery_turns.specs.Actions.{with_first, read_where, read_after}
-use Rattle.dcsctp_delivery_associations.specs.Reads.{Read, and_first, reads_where, reads_after, with_tag}
+use Rattle.dcsctp_spec_laws.specs.LeftLaws.{left_once}
+use Rattle.dcsctp_delivery_turns.specs.Actions.{IsOpening, came_by, with_first, read_where, read_after}
+use Rattle.dcsctp_delivery_associations.specs.Reads.{Read, reads_after, and_first, tagged_after, with_tag, messages_of}
 
--- ---- what is read
+-- ---- which turns read
 
-pub tag_of : (core : Core) (link : Link) → link_in core ≡ Some link → own_tag core ≡ link.my.tag
-tag_of closed link is = absurd (cc)
-tag_of (cookie_wait my) link is = absurd (cc)
-tag_of (cookie_echoed my held cookie) link is = (let same : link_of my held ≡ link = cc in ap (λ (l : Link). l.my.tag) same)
-tag_of (open_in phase my held) link is = (let same : link_of my held ≡ link = cc in ap (λ (l : Link). l.my.tag) same)
+-- A turn reads nothing and takes nothing of what was left, or its input is the user's call.
+pub record ReadsNone (input : Input) : Type 0 where
+  pub left : (messages : List MessageContent) → left_once input messages ≡ messages
+  pub all : (e : Endpoint) (reads : List MessageContent) → reads_after e input reads ≡ reads
+  pub tagged : (tag : ℕ) (e : Endpoint) (reads : List Read) → tagged_after tag e input reads ≡ reads
+  pub own : (e : Endpoint) (read : List MessageContent) → read_after e input read ≡ read
 
-first_unread : (tag : ℕ) (ready : List MessageContent) (reads : List Read) → with_first ready [] ≡ [] → and_first tag ready reads ≡ reads
-first_unread tag [] reads none = refl
-first_unread tag (m ∷ ready) reads none = absurd (cc)
+pub data MayRead : Input → Type 0 where
+  reads_first : MayRead user_takes
+  reads_none : (input : Input) → ReadsNone input → MayRead input
 
-where_unread : (tag : ℕ) (found : Option Transfer) (reads : List Read) → read_where found [] ≡ [] → reads_where tag found reads ≡ reads
-where_unread tag None reads none = refl
-where_unread tag (Some transfer) reads none = first_unread tag transfer.reassembly.incoming.ready reads none
+pub may_read : (input : Input) → MayRead input
+may_read user_takes = reads_first
+may_read arrival = reads_none arrival (record { left = λ m. refl; all = λ e r. refl; tagged = λ t e r. refl; own = λ e r. refl })
+may_read (refusal text) = reads_none (refusal text) (record { left = λ m. refl; all = λ e r. refl; tagged = λ t e r. refl; own = λ e r. refl })
+may_read (packet_begins contents) = reads_none (packet_begins contents) (record { left = λ m. refl; all = λ e r. refl; tagged = λ t e r. refl; own = λ e r. refl })
+may_read (chunk_input tag content) = reads_none (chunk_input tag content) (record { left = λ m. refl; all = λ e r. refl; tagged = λ t e r. refl; own = λ e r. refl })
+may_read packet_ends = reads_none packet_ends (record { left = λ m. refl; all = λ e r. refl; tagged = λ t e r. refl; own = λ e r. refl })
+may_read (act_input act) = reads_none (act_input act) (record { left = λ m. refl; all = λ e r. refl; tagged = λ t e r. refl; own = λ e r. refl })
+may_read (user_sets setting) = reads_none (user_sets setting) (record { left = λ m. refl; all = λ e r. refl; tagged = λ t e r. refl; own = λ e r. refl })
+may_read (user_sends messages) = reads_none (user_sends messages) (record { left = λ m. refl; all = λ e r. refl; tagged = λ t e r. refl; own = λ e r. refl })
+may_read (user_resets ids) = reads_none (user_resets ids) (record { left = λ m. refl; all = λ e r. refl; tagged = λ t e r. refl; own = λ e r. refl })
+may_read (timer_expires timer) = reads_none (timer_expires timer) (record { left = λ m. refl; all = λ e r. refl; tagged = λ t e r. refl; own = λ e r. refl })
+may_read (time_passes moment) = reads_none (time_passes moment) (record { left = λ m. refl; all = λ e r. refl; tagged = λ t e r. refl; own = λ e r. refl })
+may_read (restores state) = reads_none (restores state) (record { left = λ m. refl; all = λ e r. refl; tagged = λ t e r. refl; own = λ e r. refl })
 
--- Nothing is read.
-pub reads_still : (d : Endpoint) (input : Input) (reads : List Read) → ((read : List MessageContent) → read_after d input read ≡ read) → reads_after d input reads ≡ reads
-reads_still d user_takes reads unread = where_unread (own_tag d.core) d.below.transfer reads (unread [])
-reads_still d arrival reads unread = refl
-reads_still d (refusal text) reads unread = refl
-reads_still d (packet_begins contents) reads unread = refl
-reads_still d (chunk_input tag content) reads unread = refl
-reads_still d packet_ends reads unread = refl
-reads_still d (act_input act) reads unread = refl
-reads_still d (user_sets setting) reads unread = refl
-reads_still d (user_sends messages) reads unread = refl
-reads_still d (user_resets ids) reads unread = refl
-reads_still d (timer_expires timer) reads unread = refl
-reads_still d (time_passes moment) reads unread = refl
-reads_still d (restores state) reads unread = refl
+-- ---- nothing is read
+
+-- An association reads nothing in this turn, so nothing is read.
+pub reads_still : (d : Endpoint) (input : Input) (transfer : Transfer) (reads : List MessageContent) → d.below.transfer ≡ Some transfer → ((read : List MessageContent) → read_after d input read ≡ read) → reads_after d input reads ≡ reads
+reads_still d input transfer reads there unread = go input (may_read input) unread
+  where
+    go : (i : Input) → MayRead i → ((read : List MessageContent) → read_after d i read ≡ read) → reads_after d i reads ≡ reads
+    go _ reads_first none =
+        ap (λ (t : Option Transfer). with_first (ready_where d.left t) reads) there ∙ sym (ap (λ (t : Option Transfer). read_where t reads) there) ∙ none reads
+    go _ (reads_none i rests) none = rests.all d reads
+
+-- The chunk by which an association begins reads nothing.
+pub opening_still : (d : Endpoint) (input : Input) (reads : List MessageContent) → IsOpening (came_by input) → reads_after d input reads ≡ reads
+opening_still d input reads opening = go input (may_read input) opening
+  where
+    go : (i : Input) → MayRead i → IsOpening (came_by i) → reads_after d i reads ≡ reads
+    go _ reads_first opens = absurd opens
+    go _ (reads_none i rests) opens = rests.all d reads
+
+-- ---- the messages that are read
+
+messages_append : (reads : List Read) (read : Read) → messages_of (reads ++ read ∷ []) ≡ messages_of reads ++ read.message ∷ []
+messages_append [] read = refl
+messages_append (r ∷ reads) read = ap (λ (l : List MessageContent). r.message ∷ l) (messages_append reads read)
+
+pub first_messages : (tag : ℕ) (ready : List MessageContent) (reads : List Read) → messages_of (and_first tag ready reads) ≡ with_first ready (messages_of reads)
+first_messages tag [] reads = refl
+first_messages tag (message ∷ ready) reads = messages_append reads (record { tag = tag; message = message })
+
+-- Whatever the tag, they are the same.
+pub tagged_messages : (tag : ℕ) (d : Endpoint) (input : Input) (reads : List Read) → messages_of (tagged_after tag d input reads) ≡ reads_after d input (messages_of reads)
+tagged_messages tag d input reads = go input (may_read input)
+  where
+    go : (i : Input) → MayRead i → messages_of (tagged_after tag d i reads) ≡ reads_after d i (messages_of reads)
+    go _ reads_first = first_messages tag (ready_where d.left d.below.transfer) reads
+    go _ (reads_none i rests) = ap messages_of (rests.tagged tag d reads) ∙ sym (rests.all d (messages_of reads))
+
+-- ---- those of one association
 
 tag_append : (tag : ℕ) (reads : List Read) (read : Read) → with_tag tag (reads ++ read ∷ []) ≡ (if read.tag == tag then with_tag tag reads ++ read.message ∷ [] else with_tag tag reads)
 tag_append tag [] read = refl
@@ -54,52 +90,31 @@ tag_append tag (r ∷ reads) read = go (r.tag == tag) (read.tag == tag) (tag_app
     go false true e = e
     go false false e = e
 
-first_own : (tag : ℕ) (ready : List MessageContent) (reads : List Read) → with_tag tag (and_first tag ready reads) ≡ with_first ready (with_tag tag reads)
+pub first_own : (tag : ℕ) (ready : List MessageContent) (reads : List Read) → with_tag tag (and_first tag ready reads) ≡ with_first ready (with_tag tag reads)
 first_own tag [] reads = refl
 first_own tag (m ∷ ready) reads =
     tag_append tag reads (record { tag = tag; message = m })
     ∙ elim (eqb_tells tag tag) [ inl t ↦ ap (λ (b : Bool). if b then with_tag tag reads ++ m ∷ [] else with_tag tag reads) t.0 | inr t ↦ absurd (t.1 refl) ]
 
-first_other : (tag own : ℕ) (ready : List MessageContent) (reads : List Read) → tag ≢ own → with_tag tag (and_first own ready reads) ≡ with_tag tag reads
+pub first_other : (tag own : ℕ) (ready : List MessageContent) (reads : List Read) → tag ≢ own → with_tag tag (and_first own ready reads) ≡ with_tag tag reads
 first_other tag own [] reads ne = refl
 first_other tag own (m ∷ ready) reads ne =
     tag_append tag reads (record { tag = own; message = m })
     ∙ elim (eqb_tells own tag) [ inl t ↦ absurd (ne (sym t.1)) | inr t ↦ ap (λ (b : Bool). if b then with_tag tag reads ++ m ∷ [] else with_tag tag reads) t.0 ]
 
-where_own : (tag : ℕ) (found : Option Transfer) (reads : List Read) → with_tag tag (reads_where tag found reads) ≡ read_where found (with_tag tag reads)
-where_own tag None reads = refl
-where_own tag (Some transfer) reads = first_own tag transfer.reassembly.incoming.ready reads
+-- In an association what is read is its own.
+pub own_read : (tag : ℕ) (d : Endpoint) (input : Input) (transfer : Transfer) (reads : List Read) → d.below.transfer ≡ Some transfer → with_tag tag (tagged_after tag d input reads) ≡ read_after d input (with_tag tag reads)
+own_read tag d input transfer reads there = go input (may_read input)
+  where
+    go : (i : Input) → MayRead i → with_tag tag (tagged_after tag d i reads) ≡ read_after d i (with_tag tag reads)
+    go _ reads_first =
+        ap (λ (t : Option Transfer). with_tag tag (and_first tag (ready_where d.left t) reads)) there ∙ first_own tag transfer.reassembly.incoming.ready reads
+        ∙ sym (ap (λ (t : Option Transfer). read_where t (with_tag tag reads)) there)
+    go _ (reads_none i rests) = ap (with_tag tag) (rests.tagged tag d reads) ∙ sym (rests.own d (with_tag tag reads))
 
-where_other : (tag own : ℕ) (found : Option Transfer) (reads : List Read) → tag ≢ own → with_tag tag (reads_where own found reads) ≡ with_tag tag reads
-where_other tag own None reads ne = refl
-where_other tag own (Some transfer) reads ne = first_other tag own transfer.reassembly.incoming.ready reads ne
-
-pub own_read : (d : Endpoint) (input : Input) (reads : List Read) → with_tag (own_tag d.core) (reads_after d input reads) ≡ read_after d input (with_tag (own_tag d.core) reads)
-own_read d user_takes reads = where_own (own_tag d.core) d.below.transfer reads
-own_read d arrival reads = refl
-own_read d (refusal text) reads = refl
-own_read d (packet_begins contents) reads = refl
-own_read d (chunk_input tag content) reads = refl
-own_read d packet_ends reads = refl
-own_read d (act_input act) reads = refl
-own_read d (user_sets setting) reads = refl
-own_read d (user_sends messages) reads = refl
-own_read d (user_resets ids) reads = refl
-own_read d (timer_expires timer) reads = refl
-own_read d (time_passes moment) reads = refl
-own_read d (restores state) reads = refl
-
-pub other_read : (d : Endpoint) (input : Input) (reads : List Read) (tag : ℕ) → tag ≢ own_tag d.core → with_tag tag (reads_after d input reads) ≡ with_tag tag reads
-other_read d user_takes reads tag ne = where_other tag (own_tag d.core) d.below.transfer reads ne
-other_read d arrival reads tag ne = refl
-other_read d (refusal text) reads tag ne = refl
-other_read d (packet_begins contents) reads tag ne = refl
-other_read d (chunk_input which content) reads tag ne = refl
-other_read d packet_ends reads tag ne = refl
-other_read d (act_input act) reads tag ne = refl
-other_read d (user_sets setting) reads tag ne = refl
-other_read d (user_sends messages) reads tag ne = refl
-other_read d (user_resets ids) reads tag ne = refl
-other_read d (timer_expires timer) reads tag ne = refl
-other_read d (time_passes moment) reads tag ne = refl
-other_read d (restores state) reads tag ne = refl
+pub other_read : (own : ℕ) (d : Endpoint) (input : Input) (reads : List Read) (tag : ℕ) → tag ≢ own → with_tag tag (tagged_after own d input reads) ≡ with_tag tag reads
+other_read own d input reads tag ne = go input (may_read input)
+  where
+    go : (i : Input) → MayRead i → with_tag tag (tagged_after own d i reads) ≡ with_tag tag reads
+    go _ reads_first = first_other tag own (ready_where d.left d.below.transfer) reads ne
+    go _ (reads_none i rests) = ap (with_tag tag) (rests.tagged own d reads)

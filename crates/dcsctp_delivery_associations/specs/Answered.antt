@@ -47,7 +47,7 @@ pub record WasJoined (their_past : List Effect) (tag : ℕ) (my : Pair) : Type 0
   pub my_is : link.peer ≡ my
   pub some : tag ≢ 0
 
--- The numbers go up by one, and at most one request has no end.
+-- The numbers go up by one, and at most one request is outstanding.
 pub record AreAsked (requests : Requests) (their_past : List Effect) : Type 0 where
   pub numbers : AreNumbered requests.first requests.asking.requests
   pub out : requests.asking.out ≤ 1

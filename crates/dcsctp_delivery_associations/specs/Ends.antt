@@ -1,6 +1,6 @@
 -- All associations of two sockets, in the direction from one to the other: for each verification tag of the receiver, what the sender has
 -- sent to it and what the receiver has received under it. A tag serves one association.
-use Rattle.std.specs.Prelude.{◌≡◌, ◌≢◌, ◌<◌, ◌≤◌, ◌^◌, ◌⊎◌, ℕ, None, Some, List, [], ◌∷◌, length}
+use Rattle.std.specs.Prelude.{◌≡◌, ◌≢◌, ◌<◌, ◌≤◌, ◌^◌, ◌⊎◌, ℕ, Option, None, Some, List, [], ◌∷◌, length}
 use Rattle.dcsctp_spec_lemmas.specs.types.declared.options.Options.{Options}
 use Rattle.dcsctp_spec_lemmas.specs.spec.endpoint.Endpoint.{Endpoint}
 use Rattle.dcsctp_spec_lemmas.specs.spec.Packet.{Emission}
@@ -132,9 +132,15 @@ pub record IsCurrent (ends : Ends) (e : Endpoint) (past : List Effect) (transfer
   pub tracker : (ends.gets link.my.tag).tracker ≡ transfer.tracker
   pub reassembly : (ends.gets link.my.tag).reassembly ≡ transfer.reassembly
 
+-- What can be taken without an association was received under one of the tags, and in an association nothing is left of the last one.
+abbrev pub LeavesReady : (ℕ → ReceivingEnd) → List MessageContent → Option Transfer → Type 0
+LeavesReady gets left None = (left ≡ []) ⊎ ((tag : ℕ) × ((gets tag).reassembly.incoming.ready ≡ left))
+LeavesReady gets left (Some transfer) = left ≡ []
+
 pub record Receiver (options : Options) (ends : Ends) (e : Endpoint) (past : List Effect) (reads : List Read) : Type 0 where
   pub fits : SomeFit (own_of e)
   pub current : (transfer : Transfer) → e.below.transfer ≡ Some transfer → IsCurrent ends e past transfer
+  pub left : LeavesReady ends.gets e.left e.below.transfer
   pub were_read : (tag : ℕ) → with_tag tag reads ≡ (ends.gets tag).read
   pub begun : (tag : ℕ) → (ends.gets tag ≡ new_end options (ends.firsts tag)) ⊎ HadTag past tag (ends.firsts tag)
 

@@ -9,6 +9,7 @@ use Rattle.dcsctp_spec_lemmas.specs.spec.Packet.{Emission}
 use Rattle.dcsctp_spec_lemmas.specs.spec.endpoint.Turn.{Input, Turn}
 use Rattle.dcsctp_spec_runs.specs.World.{after_effects}
 use Rattle.dcsctp_spec_lemmas.specs.spec.association.Effect.{Link, Effect, link_of, link_in}
+use Rattle.dcsctp_spec_lemmas.specs.types.queues.Messages.{MessageContent}
 use Rattle.dcsctp_spec_lemmas.specs.spec.queues.Transfer.{Transfer}
 use Rattle.dcsctp_delivery_sending.specs.Log.{Message}
 use Rattle.dcsctp_delivery_sending.specs.ChunkCounts.{chunks_to}
@@ -37,10 +38,12 @@ CompletesPerformed their_past o = (my : Pair) (number : ℕ) → Has (completes 
 abbrev pub AsksLittle : List Emission → Type 0
 AsksLittle packets = (tag : ℕ) → requests_to tag packets < 2 ^ 32 - 1
 
--- There are ends for what was done so far.
-pub record AreEnds (options : Options) (e : Endpoint) (queued : List Message) (past : List Effect) (packets : List Emission) (other : Endpoint) (their_past : List Effect) (reads : List Read) : Type 0 where
+-- There are ends for what was done so far, and tags for what was read.
+pub record AreEnds (options : Options) (e : Endpoint) (queued : List Message) (past : List Effect) (packets : List Emission) (other : Endpoint) (their_past : List Effect) (reads : List MessageContent) : Type 0 where
   pub ends : Ends
-  pub between : Between options ends e queued past packets other their_past reads
+  pub tagged : List Read
+  pub are_all : messages_of tagged ≡ reads
+  pub between : Between options ends e queued past packets other their_past tagged
   pub answered : AreAnswered ends e past other their_past
 
 -- Two sockets that were just made have them; `options` are those of the receiver.
@@ -53,7 +56,7 @@ abbrev pub SendersTurn : Type 0
 SendersTurn =
     (options : Options) (ends : Ends) (e : Endpoint) (queued : List Message) (past : List Effect) (packets : List Emission) (other : Endpoint) (their_past : List Effect) (reads : List Read) (input : Input) (o : Outcome)
     → Between options ends e queued past packets other their_past reads → AreAnswered ends e past other their_past → ((begun : Begun e o) → IsOpening (came_by input) → link_in o.after.core ≡ Some (link_of begun.my begun.held) → NewPeer past their_past (link_of begun.my begun.held)) → length (queued_after e input queued) < 2 ^ 64 → AsksLittle (packets ++ packets_in o.events)
-    → RefusesNone e o → CompletesPerformed their_past o → IsCall input → Turn e input o → AreEnds options o.after (queued_after e input queued) (after_effects o.effects past) (packets ++ packets_in o.events) other their_past reads
+    → RefusesNone e o → CompletesPerformed their_past o → IsCall input → Turn e input o → AreEnds options o.after (queued_after e input queued) (after_effects o.effects past) (packets ++ packets_in o.events) other their_past (messages_of reads)
 
 -- So does one of the receiver, if what is handled in its association was sent in it, each that is noted is of a new tag, and few requests
 -- went to each tag.
@@ -63,9 +66,9 @@ ReceiversTurn =
     → Between options ends e queued past packets other their_past reads → AreAnswered ends e past other their_past → length queued < 2 ^ 64 → AsksLittle packets → SameOptions options other.options → KnowsPeerIn their_past other.core
     → ((link old : Link) → Has (holds link) o.effects → Has (holds old) their_past → old.my.tag ≢ link.my.tag) → ((begun : Begun other o) → IsOpening (came_by input) → link_in o.after.core ≡ Some (link_of begun.my begun.held) → NewTag their_past past (link_of begun.my begun.held))
     → ((transfer : Transfer) (link : Link) → other.below.transfer ≡ Some transfer → link_in other.core ≡ Some link → WasSent (ends.sends link.my.tag).sent (came_by input)) → IsCall input → Turn other input o
-    → AreEnds options e queued past packets o.after (after_effects o.effects their_past) (reads_after other input reads)
+    → AreEnds options e queued past packets o.after (after_effects o.effects their_past) (reads_after other input (messages_of reads))
 
--- Each message that was read, in any association, was queued, and none twice, if fewer than 2^30 chunks of data went to each tag: none
+-- Each message that was read, in any association or after it, was queued, and none twice, if fewer than 2^30 chunks of data went to each tag: none
 -- assigned 2^31 TSNs.
 abbrev pub EndsDeliver : Type 0
 EndsDeliver =

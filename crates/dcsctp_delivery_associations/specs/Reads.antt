@@ -1,27 +1,32 @@
--- What the user of a socket reads, in all its associations: each message with the own tag of its association.
-use Rattle.std.specs.Prelude.{◌==◌, if◌then◌else◌, ℕ, Option, None, Some, List, [], ◌∷◌, ◌++◌}
-use Rattle.dcsctp_spec_lemmas.specs.spec.endpoint.Endpoint.{Endpoint, own_tag}
+-- What the user of a socket reads, in all its associations and after each has ended: each message with the own tag of its association.
+use Rattle.std.specs.Prelude.{◌==◌, if◌then◌else◌, ℕ, List, [], ◌∷◌, ◌++◌}
+use Rattle.dcsctp_spec_lemmas.specs.spec.endpoint.DataOutcomes.{ready_where}
+use Rattle.dcsctp_spec_lemmas.specs.spec.endpoint.Endpoint.{Endpoint}
 use Rattle.dcsctp_spec_lemmas.specs.spec.endpoint.Turn.{Input, user_takes}
 use Rattle.dcsctp_spec_lemmas.specs.types.queues.Messages.{MessageContent}
-use Rattle.dcsctp_spec_lemmas.specs.spec.queues.Transfer.{Transfer}
+use Rattle.dcsctp_delivery_turns.specs.Actions.{with_first}
 
--- a message that was read, and the own tag of the association in which it was
+-- the messages that were read, oldest first, with the one that this call reads: the first that can be taken
+abbrev pub reads_after : Endpoint → Input → List MessageContent → List MessageContent
+reads_after e user_takes reads = with_first (ready_where e.left e.below.transfer) reads
+reads_after e input reads = reads
+
+-- ---- by the association
+
+-- a message that was read, and the own tag of the association that received it
 pub record Read : Type 0 where
   pub tag : ℕ
   pub message : MessageContent
 
--- the messages that were read, oldest first, with the one that a call reads: the first that is ready
+-- the messages that were read, oldest first, with the first of these, which an association with this tag received
 abbrev pub and_first : ℕ → List MessageContent → List Read → List Read
 and_first tag [] reads = reads
 and_first tag (message ∷ messages) reads = reads ++ record { tag = tag; message = message } ∷ []
 
-abbrev pub reads_where : ℕ → Option Transfer → List Read → List Read
-reads_where tag None reads = reads
-reads_where tag (Some transfer) reads = and_first tag transfer.reassembly.incoming.ready reads
-
-abbrev pub reads_after : Endpoint → Input → List Read → List Read
-reads_after e user_takes reads = reads_where (own_tag e.core) e.below.transfer reads
-reads_after e input reads = reads
+-- with the one that this call reads, if an association with this tag received it
+abbrev pub tagged_after : ℕ → Endpoint → Input → List Read → List Read
+tagged_after tag e user_takes reads = and_first tag (ready_where e.left e.below.transfer) reads
+tagged_after tag e input reads = reads
 
 -- those of the association with this own tag
 abbrev pub with_tag : ℕ → List Read → List MessageContent

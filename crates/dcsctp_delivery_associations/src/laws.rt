@@ -20,8 +20,8 @@ pub fn receivers_turn()
     ensures { ReceiversTurn }
 {}
 
-/// Each message that was read, in any association, was queued, and none was read twice, if fewer than 2^30 chunks of
-/// data went to each verification tag. An association assigns at most two TSNs for each.
+/// Each message that was read, in any association or after it has ended, was queued, and none was read twice, if fewer
+/// than 2^30 chunks of data went to each verification tag. An association assigns at most two TSNs for each.
 pub fn ends_deliver()
     ensures { EndsDeliver }
 {}

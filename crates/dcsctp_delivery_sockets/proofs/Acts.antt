@@ -14,6 +14,7 @@ use Rattle.dcsctp_spec_lemmas.specs.spec.endpoint.Outcome.{Outcome}
 use Rattle.dcsctp_spec_lemmas.specs.spec.Packet.{Packet, packet_in, Emission}
 use Rattle.dcsctp_spec_lemmas.specs.spec.endpoint.Turn.{Input, arrival, refusal, chunk_input, Turn, unreadable_text}
 use Rattle.dcsctp_spec_lemmas.specs.spec.endpoint.Turn as inputs
+use Rattle.dcsctp_spec_lemmas.specs.types.queues.Messages.{MessageContent}
 use Rattle.dcsctp_spec_runs.specs.World.{after_effects}
 use Rattle.dcsctp_spec_lemmas.specs.spec.association.Effect.{Effect}
 use Rattle.dcsctp_theorem_association.proofs.Growth.{after_effects-append}
@@ -24,7 +25,7 @@ use Rattle.dcsctp_delivery_directions.proofs.RequestCounts.{requests_more_to}
 use Rattle.dcsctp_delivery_turns.specs.Actions.{came_by, queued_after, IsCall}
 use Rattle.dcsctp_delivery_turns.specs.Sides.{WasSent}
 use Rattle.dcsctp_delivery_associations.specs.Laws.{AsksLittle, AreEnds}
-use Rattle.dcsctp_delivery_associations.specs.Reads.{Read, reads_after}
+use Rattle.dcsctp_delivery_associations.specs.Reads.{reads_after}
 use Rattle.dcsctp_delivery_sockets.specs.Acts.{queued_through, AreTurns, AreNewPeers}
 use Rattle.dcsctp_delivery_sockets.specs.Echoes.{GoesToMaker}
 use Rattle.dcsctp_delivery_sockets.specs.Packets.{reads_through, AreNewTags}
@@ -51,7 +52,7 @@ packets_apart packets t turns = append_assoc packets (packets_in t.outcome.event
 asks_little : (packets more : List Emission) → AsksLittle (packets ++ more) → AsksLittle packets
 asks_little packets more little tag = (let both = requests_more_to tag packets more in let few = little tag in omega (arith, both, few))
 
-module _ (options : Options) (d : Endpoint) (their_past : List Effect) (reads : List Read) where
+module _ (options : Options) (d : Endpoint) (their_past : List Effect) (reads : List MessageContent) where
   pub senders_act : (turns : List Turned) (e : Endpoint) (queued : List Message) (past : List Effect) (packets : List Emission) → AreEnds options e queued past packets d their_past reads → AreTurns e turns
       → AreNewPeers past their_past e turns → length (queued_through e turns queued) < 2 ^ 64 → AsksLittle (packets ++ packets_in (events_of turns))
       → AreEnds options (after_all e turns) (queued_through e turns queued) (after_effects (effects_of turns) past) (packets ++ packets_in (events_of turns)) d their_past reads
@@ -59,8 +60,10 @@ module _ (options : Options) (d : Endpoint) (their_past : List Effect) (reads : 
   senders_act (t ∷ turns) e queued past packets h taken new few little =
       let grows = queued_grows t.outcome.after turns (queued_after e t.input queued) in
       let all : AsksLittle ((packets ++ packets_in t.outcome.events) ++ packets_in (events_of turns)) = subst AsksLittle (sym (packets_apart packets t turns)) little in
-      let first = sender_turns options h.ends e queued past packets d their_past reads h.between t.input t.outcome new.1 h.answered
-      (asks_little (packets ++ packets_in t.outcome.events) (packets_in (events_of turns)) all) (omega (arith, few, grows)) new.2 new.3 new.0 taken.0 in
+      let first : AreEnds options t.outcome.after (queued_after e t.input queued) (after_effects t.outcome.effects past) (packets ++ packets_in t.outcome.events) d their_past reads =
+      subst (λ (l : List MessageContent). AreEnds options t.outcome.after (queued_after e t.input queued) (after_effects t.outcome.effects past) (packets ++ packets_in t.outcome.events) d their_past l) h.are_all
+      (sender_turns options h.ends e queued past packets d their_past h.tagged h.between t.input t.outcome new.1 h.answered
+      (asks_little (packets ++ packets_in t.outcome.events) (packets_in (events_of turns)) all) (omega (arith, few, grows)) new.2 new.3 new.0 taken.0) in
       let rest = senders_act turns t.outcome.after (queued_after e t.input queued) (after_effects t.outcome.effects past) (packets ++ packets_in t.outcome.events) first taken.1 new.4 few all in
       subst (λ (l : List Effect). AreEnds options (after_all t.outcome.after turns) (queued_through t.outcome.after turns (queued_after e t.input queued)) l (packets ++ packets_in (t.outcome.events ++ events_of turns)) d their_past reads)
       (sym (after_effects-append t.outcome.effects (effects_of turns) past))
@@ -86,21 +89,24 @@ none_sent sent (inputs.time_passes moment) none = tt
 none_sent sent (inputs.restores state) none = tt
 
 module _ (options : Options) (e : Endpoint) (queued : List Message) (past : List Effect) (packets : List Emission) (few : length queued < 2 ^ 64) (little : AsksLittle packets) where
-  pub receivers_act : (turns : List Turned) (d : Endpoint) (their_past : List Effect) (reads : List Read) → AreEnds options e queued past packets d their_past reads → NoChunks turns → AreTurns d turns
+  pub receivers_act : (turns : List Turned) (d : Endpoint) (their_past : List Effect) (reads : List MessageContent) → AreEnds options e queued past packets d their_past reads → NoChunks turns → AreTurns d turns
       → AllByRecursion (λ turn. IsCall turn.input) turns → AreNewTags options their_past past d turns
       → AreEnds options e queued past packets (after_all d turns) (after_effects (effects_of turns) their_past) (reads_through d turns reads)
   receivers_act [] d their_past reads h none taken may new = h
   receivers_act (t ∷ turns) d their_past reads h none taken may new =
-      let first = receiver_turns options h.ends e queued past packets d their_past reads h.between few new.0 t.input t.outcome new.1 h.answered little new.3 may.0 taken.0 new.2 (λ transfer link there linked. none_sent (h.ends.sends link.my.tag).sent t.input none.0) in
+      let first : AreEnds options e queued past packets t.outcome.after (after_effects t.outcome.effects their_past) (reads_after d t.input reads) =
+      subst (λ (l : List MessageContent). AreEnds options e queued past packets t.outcome.after (after_effects t.outcome.effects their_past) (reads_after d t.input l)) h.are_all
+      (receiver_turns options h.ends e queued past packets d their_past h.tagged h.between few new.0 t.input t.outcome new.1 h.answered little new.3 may.0 taken.0 new.2
+      (λ transfer link there linked. none_sent (h.ends.sends link.my.tag).sent t.input none.0)) in
       let rest = receivers_act turns t.outcome.after (after_effects t.outcome.effects their_past) (reads_after d t.input reads) first none.1 taken.1 may.1 new.4 in
       subst (λ (l : List Effect). AreEnds options e queued past packets (after_all t.outcome.after turns) l (reads_through t.outcome.after turns (reads_after d t.input reads)))
       (sym (after_effects-append t.outcome.effects (effects_of turns) their_past)) rest
 
-  one_turn : (d : Endpoint) (their_past : List Effect) (reads : List Read) (input : Input) (t : Turned) → NoChunk input → IsCall input → IsTurn d input t → NoChunk t.input × IsCall t.input × Turn d t.input t.outcome
+  one_turn : (d : Endpoint) (their_past : List Effect) (reads : List MessageContent) (input : Input) (t : Turned) → NoChunk input → IsCall input → IsTurn d input t → NoChunk t.input × IsCall t.input × Turn d t.input t.outcome
   one_turn d their_past reads input t none may turn =
       (subst NoChunk (sym turn.is) none, subst IsCall (sym turn.is) may, subst (λ (i : Input). Turn d i t.outcome) (sym turn.is) turn.comes)
 
-  pub receivers_handle : (d : Endpoint) (their_past : List Effect) (reads : List Read) (emission : Emission) (bytes : List ℕ) (turns : List Turned) → AreEnds options e queued past packets d their_past reads → places.Has emission packets
+  pub receivers_handle : (d : Endpoint) (their_past : List Effect) (reads : List MessageContent) (emission : Emission) (bytes : List ℕ) (turns : List Turned) → AreEnds options e queued past packets d their_past reads → places.Has emission packets
       → GoesToMaker emission → ((packet : PacketContent) → IsPacket (wire_options d.options) packet bytes → packet_in packet ≡ emission.packet)
       → AreNewTags options their_past past d turns → HandleInput d bytes turns
       → AreEnds options e queued past packets (after_all d turns) (after_effects (effects_of turns) their_past) (reads_through d turns reads)

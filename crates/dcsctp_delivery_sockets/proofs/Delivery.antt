@@ -25,7 +25,6 @@ use Rattle.dcsctp_theorem_sockets.proofs.Sent.{all_sent_map}
 use Rattle.dcsctp_theorem_sockets.proofs.SocketsAgree.{Joined, joined}
 use Rattle.dcsctp_theorem_sockets.proofs.SocketsAlone.{MoveLaws, of_moves}
 use Rattle.dcsctp_delivery_sending.specs.Places as places
-use Rattle.dcsctp_delivery_associations.specs.Reads.{messages_of}
 use Rattle.dcsctp_delivery_directions.specs.Directions.{Delivered}
 use Rattle.dcsctp_delivery_sockets.specs.Echoes.{GoesToMaker}
 use Rattle.dcsctp_delivery_sockets.specs.UserMessages.{sent_of, read_of, IsDelivered}
@@ -179,11 +178,12 @@ both_known law options run are runs honest fresh allows =
 one_way : (mine theirs : Options) (turns others : List Turned) → SendsLittle mine turns → Stand mine theirs turns others → IsDelivered (sent_of (fresh_endpoint mine) turns) (read_of (fresh_endpoint theirs) others)
 one_way mine theirs turns others little h =
     let same = queued_same mine turns in
-    let all : Delivered (queued_of mine turns) (messages_of (reads_of theirs others)) =
-    ends_deliver theirs h.ends (endpoint_after mine turns) (queued_of mine turns) (noted_past turns) (packets_of turns) (endpoint_after theirs others) (noted_past others) (reads_of theirs others) h.between
-    (few_queued mine turns little) little.chunks in
+    let all : Delivered (queued_of mine turns) (reads_of theirs others) =
+    subst (Delivered (queued_of mine turns)) h.are_all
+    (ends_deliver theirs h.ends (endpoint_after mine turns) (queued_of mine turns) (noted_past turns) (packets_of turns) (endpoint_after theirs others) (noted_past others) h.tagged h.between
+    (few_queued mine turns little) little.chunks) in
     subst (IsDelivered (sent_of (fresh_endpoint mine) turns)) (turns_read (fresh_endpoint theirs) others [])
-    (is_delivered (queued_of mine turns) (sent_of (fresh_endpoint mine) turns) (messages_of (reads_of theirs others)) same all)
+    (is_delivered (queued_of mine turns) (sent_of (fresh_endpoint mine) turns) (reads_of theirs others) same all)
 
 pub sockets_deliver : DeliveryLaws → SocketsDeliver
 sockets_deliver law options run are in_memory runs honest fresh allows side =

@@ -11,6 +11,7 @@ use Rattle.dcsctp_spec_lemmas.specs.spec.Packet.{Content, init, init_ack, cookie
 use Rattle.dcsctp_spec_lemmas.specs.spec.endpoint.Turn.{Input, refusal, packet_begins, chunk_input, packet_ends, has_data, BeginTurn}
 use Rattle.dcsctp_spec_runs.specs.World.{after_effects}
 use Rattle.dcsctp_spec_lemmas.specs.spec.association.Effect.{Link, Effect, link_in}
+use Rattle.dcsctp_spec_lemmas.specs.types.queues.Messages.{MessageContent}
 use Rattle.dcsctp_spec_lemmas.specs.spec.queues.Transfer.{Transfer}
 use Rattle.dcsctp_theorem_association.proofs.Growth.{after_effects-append}
 use Rattle.dcsctp_delivery_sending.specs.Log.{Message}
@@ -20,7 +21,7 @@ use Rattle.dcsctp_delivery_turns.specs.Actions.{IsOpening, came_by, IsCall}
 use Rattle.dcsctp_delivery_turns.specs.Sides.{WasSent}
 use Rattle.dcsctp_delivery_associations.specs.Ends.{Ends, IsOfEnds}
 use Rattle.dcsctp_delivery_associations.specs.Laws.{AsksLittle, AreEnds}
-use Rattle.dcsctp_delivery_associations.specs.Reads.{Read, reads_after}
+use Rattle.dcsctp_delivery_associations.specs.Reads.{reads_after}
 use Rattle.dcsctp_delivery_sockets.specs.Echoes.{AllMayFollow, ContentsGo, GoesToMaker}
 use Rattle.dcsctp_delivery_sockets.specs.Packets.{reads_through, AreNewTags}
 use Rattle.dcsctp_delivery_turns.proofs.Tags.{echoes_own}
@@ -54,29 +55,30 @@ acks_none (shutdown_complete r ∷ contents) = acks_none contents
 acks_none (plain c ∷ contents) = acks_none contents
 
 module _ (options : Options) (e : Endpoint) (queued : List Message) (past : List Effect) (packets : List Emission) (few : length queued < 2 ^ 64) (little : AsksLittle packets) (emission : Emission) (has : places.Has emission packets) where
-  abbrev Have : Endpoint → List Effect → List Read → Type 0
+  abbrev Have : Endpoint → List Effect → List MessageContent → Type 0
   Have d their_past reads = AreEnds options e queued past packets d their_past reads
 
   -- what is to be shown of turns
-  abbrev Leave : Endpoint → List Effect → List Read → List Turned → Type 0
+  abbrev Leave : Endpoint → List Effect → List MessageContent → List Turned → Type 0
   Leave d their_past reads turns = Have (after_all d turns) (after_effects (effects_of turns) their_past) (reads_through d turns reads)
 
   -- one turn, and the others
-  then_others : (d : Endpoint) (their_past : List Effect) (reads : List Read) (t : Turned) (turns : List Turned)
+  then_others : (d : Endpoint) (their_past : List Effect) (reads : List MessageContent) (t : Turned) (turns : List Turned)
       → Leave t.outcome.after (after_effects t.outcome.effects their_past) (reads_after d t.input reads) turns → Leave d their_past reads (t ∷ turns)
   then_others d their_past reads t turns rest =
       subst (λ (l : List Effect). Have (after_all t.outcome.after turns) l (reads_through t.outcome.after turns (reads_after d t.input reads))) (sym (after_effects-append t.outcome.effects (effects_of turns) their_past)) rest
 
-  one_turn : (d : Endpoint) (their_past : List Effect) (reads : List Read) (input : Input) (t : Turned) → (h : Have d their_past reads) → IsTurn d input t
+  one_turn : (d : Endpoint) (their_past : List Effect) (reads : List MessageContent) (input : Input) (t : Turned) → (h : Have d their_past reads) → IsTurn d input t
       → AreNewTags options their_past past d (t ∷ [])
       → ((transfer : Transfer) (link : Link) → d.below.transfer ≡ Some transfer → link_in d.core ≡ Some link → WasSent (h.ends.sends link.my.tag).sent (came_by input)) → IsCall input
       → Have t.outcome.after (after_effects t.outcome.effects their_past) (reads_after d t.input reads)
   one_turn d their_past reads input t h turn new sent may =
       subst (λ (i : Input). Have t.outcome.after (after_effects t.outcome.effects their_past) (reads_after d i reads)) (sym turn.is)
-      (receiver_turns options h.ends e queued past packets d their_past reads h.between few new.0 input t.outcome (λ begun opening linked. new.1 begun (subst (λ (i : Input). IsOpening (came_by i)) (sym turn.is) opening) linked)
-      h.answered little new.3 may turn.comes new.2 sent)
+      (subst (λ (l : List MessageContent). Have t.outcome.after (after_effects t.outcome.effects their_past) (reads_after d input l)) h.are_all
+      (receiver_turns options h.ends e queued past packets d their_past h.tagged h.between few new.0 input t.outcome (λ begun opening linked. new.1 begun (subst (λ (i : Input). IsOpening (came_by i)) (sym turn.is) opening) linked)
+      h.answered little new.3 may turn.comes new.2 sent))
 
-  chunk_turn : (d : Endpoint) (their_past : List Effect) (reads : List Read) (tag : ℕ) (content : Content) (t : Turned) → Have d their_past reads → IsTurn d (chunk_input tag content) t
+  chunk_turn : (d : Endpoint) (their_past : List Effect) (reads : List MessageContent) (tag : ℕ) (content : Content) (t : Turned) → Have d their_past reads → IsTurn d (chunk_input tag content) t
       → AreNewTags options their_past past d (t ∷ []) → MayHandle emission d content
       → Have t.outcome.after (after_effects t.outcome.effects their_past) (reads_after d t.input reads)
   chunk_turn d their_past reads tag content t h turn new may =
@@ -92,13 +94,13 @@ module _ (options : Options) (e : Endpoint) (queued : List Message) (past : List
   IsTail : List Input → Type 0
   IsTail tail = (tail ≡ []) ⊎ (tail ≡ packet_ends ∷ [])
 
-  ends_go : (d : Endpoint) (their_past : List Effect) (reads : List Read) (turns : List Turned) → Have d their_past reads → AreNewTags options their_past past d turns → Turns d (packet_ends ∷ []) turns → Leave d their_past reads turns
+  ends_go : (d : Endpoint) (their_past : List Effect) (reads : List MessageContent) (turns : List Turned) → Have d their_past reads → AreNewTags options their_past past d turns → Turns d (packet_ends ∷ []) turns → Leave d their_past reads turns
   ends_go d their_past reads [] h new taken = absurd taken
   ends_go d their_past reads (t ∷ []) h new taken =
       then_others d their_past reads t [] (one_turn d their_past reads packet_ends t h taken.0 (new.0, new.1, new.2, new.3, tt) (λ transfer link there linked. tt) tt)
   ends_go d their_past reads (t ∷ other ∷ turns) h new taken = absurd taken.1
 
-  tail_goes : (d : Endpoint) (their_past : List Effect) (reads : List Read) (tail : List Input) (turns : List Turned) → Have d their_past reads → AreNewTags options their_past past d turns → IsTail tail → Turns d tail turns
+  tail_goes : (d : Endpoint) (their_past : List Effect) (reads : List MessageContent) (tail : List Input) (turns : List Turned) → Have d their_past reads → AreNewTags options their_past past d turns → IsTail tail → Turns d tail turns
       → Leave d their_past reads turns
   unfolding IsTail
   tail_goes d their_past reads tail turns h new (inl none) taken = nothing turns new (subst (λ (l : List Input). Turns d l turns) none taken)
@@ -121,13 +123,13 @@ module _ (options : Options) (e : Endpoint) (queued : List Message) (past : List
   rest_may d content contents tag t turn (inr (follow, all, is)) =
       inr (follow.1, (λ c h. all c (inr h)), tag_stays emission.packet.tag d (chunk_input tag content) t.outcome (not_opening content follow.0) tt is turn.comes)
 
-  after_chunk : (following : Following) (d : Endpoint) (their_past : List Effect) (reads : List Read) (tail : List Input) (turns : List Turned) (More : Type 0) → Have d their_past reads → AreNewTags options their_past past d turns
+  after_chunk : (following : Following) (d : Endpoint) (their_past : List Effect) (reads : List MessageContent) (tail : List Input) (turns : List Turned) (More : Type 0) → Have d their_past reads → AreNewTags options their_past past d turns
       → IsTail tail → (More → Leave d their_past reads turns) → AfterChunk following More (Turns d tail turns) (turns ≡ []) → Leave d their_past reads turns
   after_chunk next_chunk d their_past reads tail turns More h new is more taken = more taken
   after_chunk packet_end d their_past reads tail turns More h new is more taken = tail_goes d their_past reads tail turns h new is taken
   after_chunk dropped_rest d their_past reads tail turns More h new is more none = subst (λ (ts : List Turned). Leave d their_past reads ts) (sym none) h
 
-  chunks_go : (contents : List Content) (d : Endpoint) (their_past : List Effect) (reads : List Read) (tag : ℕ) (tail : List Input) (turns : List Turned) → Have d their_past reads → AreNewTags options their_past past d turns
+  chunks_go : (contents : List Content) (d : Endpoint) (their_past : List Effect) (reads : List MessageContent) (tag : ℕ) (tail : List Input) (turns : List Turned) → Have d their_past reads → AreNewTags options their_past past d turns
       → IsTail tail → MayGo d contents → ChunkTurns d tag contents tail turns → Leave d their_past reads turns
   chunks_go [] d their_past reads tag tail turns h new is may taken = tail_goes d their_past reads tail turns h new is taken
   chunks_go (content ∷ contents) d their_past reads tag tail [] h new is may taken = absurd taken
@@ -167,7 +169,7 @@ module _ (options : Options) (e : Endpoint) (queued : List Message) (past : List
   front_may d (plain chunk) contents is own = inr (subst (λ (l : List Content). places.Has (plain chunk) l) (sym is) (inl refl), own_is d.core emission.packet.tag (own refl))
 
   -- with the tag that the packet has
-  tagged_go : (contents : List Content) → emission.packet.contents ≡ contents → (d : Endpoint) (their_past : List Effect) (reads : List Read) (turns : List Turned) → Have d their_past reads → AreNewTags options their_past past d turns
+  tagged_go : (contents : List Content) → emission.packet.contents ≡ contents → (d : Endpoint) (their_past : List Effect) (reads : List MessageContent) (turns : List Turned) → Have d their_past reads → AreNewTags options their_past past d turns
       → ContentsGo emission.packet.tag contents → (is_echo_in_front contents ≡ false → own_tag d.core ≡ emission.packet.tag)
       → ChunkTurns d emission.packet.tag contents (packet_ends ∷ []) turns → Leave d their_past reads turns
   unfolding IsTail
@@ -189,7 +191,7 @@ module _ (options : Options) (e : Endpoint) (queued : List Message) (past : List
 
   -- ---- the whole packet
 
-  whole_goes : (d : Endpoint) (their_past : List Effect) (reads : List Read) (turns : List Turned) → Have d their_past reads → AreNewTags options their_past past d turns
+  whole_goes : (d : Endpoint) (their_past : List Effect) (reads : List MessageContent) (turns : List Turned) → Have d their_past reads → AreNewTags options their_past past d turns
       → GoesToMaker emission → admits d.core emission.packet ≡ all_chunks → WholeTurns d emission.packet turns → Leave d their_past reads turns
   unfolding IsTail
   whole_goes d their_past reads [] h new go admitted taken = absurd taken
@@ -205,14 +207,14 @@ module _ (options : Options) (e : Endpoint) (queued : List Message) (past : List
           tagged_go emission.packet.contents refl begun.outcome.after (after_effects begun.outcome.effects their_past) (reads_after d begun.input reads) turns first new.4 go
           (λ front. ap own_tag (begin_core d d.core (has_data emission.packet.contents) begun.outcome taken.0.comes) ∙ sym (addressed_tags_are_own d.core emission.packet free front admitted)) taken.1
 
-  refused_go : (d : Endpoint) (their_past : List Effect) (reads : List Read) (text : List ℕ) (turns : List Turned) → Have d their_past reads → AreNewTags options their_past past d turns → Turns d (refusal text ∷ []) turns
+  refused_go : (d : Endpoint) (their_past : List Effect) (reads : List MessageContent) (text : List ℕ) (turns : List Turned) → Have d their_past reads → AreNewTags options their_past past d turns → Turns d (refusal text ∷ []) turns
       → Leave d their_past reads turns
   refused_go d their_past reads text [] h new taken = absurd taken
   refused_go d their_past reads text (t ∷ []) h new taken =
       then_others d their_past reads t [] (one_turn d their_past reads (refusal text) t h taken.0 (new.0, new.1, new.2, new.3, tt) (λ transfer link there linked. tt) tt)
   refused_go d their_past reads text (t ∷ other ∷ turns) h new taken = absurd taken.1
 
-  pub packet_goes : (d : Endpoint) (their_past : List Effect) (reads : List Read) (turns : List Turned) → Have d their_past reads → AreNewTags options their_past past d turns
+  pub packet_goes : (d : Endpoint) (their_past : List Effect) (reads : List MessageContent) (turns : List Turned) → Have d their_past reads → AreNewTags options their_past past d turns
       → GoesToMaker emission → (admission : Admission) → admits d.core emission.packet ≡ admission → AdmittedTurns d emission.packet admission turns → Leave d their_past reads turns
   unfolding IsTail
   packet_goes d their_past reads turns h new go all_chunks admitted taken = whole_goes d their_past reads turns h new go admitted taken

@@ -14,6 +14,7 @@ use Rattle.dcsctp_spec_lemmas.specs.spec.endpoint.UserTurns.{UserTurns}
 use Rattle.dcsctp_spec_runs.specs.Sockets.{endpoint_after}
 use Rattle.dcsctp_spec_runs.specs.World.{after_effects}
 use Rattle.dcsctp_spec_lemmas.specs.spec.association.Effect.{Effect}
+use Rattle.dcsctp_spec_lemmas.specs.types.queues.Messages.{MessageContent}
 use Rattle.dcsctp_spec_lemmas.proofs.TurnLists.{after_all-append, events_of-append}
 use Rattle.dcsctp_theorem_sockets.specs.Agreement.{noted_past}
 use Rattle.dcsctp_theorem_sockets.proofs.Bursts.{packets_in-append}
@@ -21,7 +22,7 @@ use Rattle.dcsctp_delivery_sending.specs.Log.{Message}
 use Rattle.dcsctp_delivery_sending.specs.Places as places
 use Rattle.dcsctp_delivery_turns.specs.Actions.{queued_after}
 use Rattle.dcsctp_delivery_associations.specs.Laws.{AsksLittle, AreEnds}
-use Rattle.dcsctp_delivery_associations.specs.Reads.{Read, reads_after}
+use Rattle.dcsctp_delivery_associations.specs.Reads.{reads_after}
 use Rattle.dcsctp_delivery_sockets.specs.Acts.{queued_through, AreNewPeers}
 use Rattle.dcsctp_delivery_sockets.specs.Packets.{reads_through, AreNewTags}
 use Rattle.dcsctp_delivery_sockets.specs.UserMessages.{sent_of}
@@ -40,7 +41,7 @@ queued_of options turns = queued_through (fresh_endpoint options) turns []
 abbrev pub packets_of : List Turned → List Emission
 packets_of turns = packets_in (events_of turns)
 
-abbrev pub reads_of : Options → List Turned → List Read
+abbrev pub reads_of : Options → List Turned → List MessageContent
 reads_of options turns = reads_through (fresh_endpoint options) turns []
 
 -- the direction from the one to the other
@@ -52,7 +53,7 @@ queued_more : (e : Endpoint) (turns more : List Turned) (queued : List Message) 
 queued_more e [] more queued = refl
 queued_more e (t ∷ turns) more queued = queued_more t.outcome.after turns more (queued_after e t.input queued)
 
-reads_more : (e : Endpoint) (turns more : List Turned) (reads : List Read) → reads_through e (turns ++ more) reads ≡ reads_through (after_all e turns) more (reads_through e turns reads)
+reads_more : (e : Endpoint) (turns more : List Turned) (reads : List MessageContent) → reads_through e (turns ++ more) reads ≡ reads_through (after_all e turns) more (reads_through e turns reads)
 reads_more e [] more reads = refl
 reads_more e (t ∷ turns) more reads = reads_more t.outcome.after turns more (reads_after e t.input reads)
 
@@ -69,7 +70,7 @@ few_queued options turns little = (let same = queued_same options turns in let f
 
 -- ---- the sender acts
 
-module _ (theirs : Options) (d : Endpoint) (their_past : List Effect) (reads : List Read) where
+module _ (theirs : Options) (d : Endpoint) (their_past : List Effect) (reads : List MessageContent) where
   same_sender : (e e' : Endpoint) (queued queued' : List Message) (past past' : List Effect) (packets packets' : List Emission) → e ≡ e' → queued ≡ queued' → past ≡ past' → packets ≡ packets'
       → AreEnds theirs e queued past packets d their_past reads → AreEnds theirs e' queued' past' packets' d their_past reads
   same_sender e e' queued queued' past past' packets packets' same_e same_queued same_past same_packets h =
@@ -98,12 +99,12 @@ sender_more mine theirs turns others more h known matched performed calls opens 
 -- ---- the receiver acts
 
 module _ (theirs : Options) (e : Endpoint) (queued : List Message) (past : List Effect) (packets : List Emission) where
-  same_receiver : (d d' : Endpoint) (their_past their_past' : List Effect) (reads reads' : List Read) → d ≡ d' → their_past ≡ their_past' → reads ≡ reads'
+  same_receiver : (d d' : Endpoint) (their_past their_past' : List Effect) (reads reads' : List MessageContent) → d ≡ d' → their_past ≡ their_past' → reads ≡ reads'
       → AreEnds theirs e queued past packets d their_past reads → AreEnds theirs e queued past packets d' their_past' reads'
   same_receiver d d' their_past their_past' reads reads' same_d same_past same_reads h =
       subst (λ (x : Endpoint). AreEnds theirs e queued past packets x their_past' reads') same_d
       (subst (λ (x : List Effect). AreEnds theirs e queued past packets d x reads') same_past
-      (subst (λ (x : List Read). AreEnds theirs e queued past packets d their_past x) same_reads h))
+      (subst (λ (x : List MessageContent). AreEnds theirs e queued past packets d their_past x) same_reads h))
 
 module _ (mine theirs : Options) (turns others more : List Turned) (h : Stand mine theirs turns others) (known : SideKnown theirs (others ++ more)) (matched : MatchByTags (noted_past turns) (noted_past (others ++ more)))
     (little : SendsLittle mine turns) where

@@ -3,10 +3,10 @@ use Rattle.std.proofs.Common.{◌≡◌, ℕ, zero, suc, List, [], ◌∷◌, �
 use Rattle.std.specs.Prelude.{Option, None, Some, slice_get}
 use Rattle.std.proofs.lemmas.List.{append-nil, length-append}
 use Rattle.dcsctp_spec_lemmas.specs.spec.endpoint.CallTurns.{Turned}
-use Rattle.dcsctp_spec_lemmas.specs.spec.endpoint.Endpoint.{Endpoint, own_tag}
+use Rattle.dcsctp_spec_lemmas.specs.spec.endpoint.DataOutcomes.{ready_where}
+use Rattle.dcsctp_spec_lemmas.specs.spec.endpoint.Endpoint.{Endpoint}
 use Rattle.dcsctp_spec_lemmas.specs.spec.endpoint.Turn.{Input, arrival, refusal, packet_begins, chunk_input, packet_ends, act_input, user_sets, user_sends, user_resets, user_takes, timer_expires, time_passes, restores}
 use Rattle.dcsctp_spec_lemmas.specs.types.queues.Messages.{MessageContent}
-use Rattle.dcsctp_spec_lemmas.specs.spec.queues.Transfer.{Transfer}
 use Rattle.dcsctp_spec_lemmas.specs.spec.endpoint.MessageOutcomes.{MessageRefusal, Sending, sending_refusal, queue_one}
 use Rattle.dcsctp_delivery_sending.specs.Log.{Message}
 use Rattle.dcsctp_delivery_sending.specs.Places.{at_place}
@@ -14,11 +14,11 @@ use Rattle.dcsctp_delivery_sending.specs.Queueing.{message_of}
 use Rattle.dcsctp_delivery_sending.proofs.Places.{at_cases}
 use Rattle.dcsctp_delivery_receiving.specs.Ready.{WereQueued}
 use Rattle.dcsctp_delivery_directions.specs.Directions.{Delivered}
-use Rattle.dcsctp_delivery_turns.specs.Actions.{queued_where, queued_together, queued_after}
-use Rattle.dcsctp_delivery_associations.specs.Reads.{Read, and_first, reads_where, reads_after, messages_of}
+use Rattle.dcsctp_delivery_turns.specs.Actions.{queued_where, queued_together, queued_after, with_first}
+use Rattle.dcsctp_delivery_associations.specs.Reads.{reads_after}
 use Rattle.dcsctp_delivery_sockets.specs.Acts.{queued_through}
 use Rattle.dcsctp_delivery_sockets.specs.Packets.{reads_through}
-use Rattle.dcsctp_delivery_sockets.specs.UserMessages.{accepted_where, accepted, sent_in, sent_of, first_of, ready_in, read_in, read_of, WereSent, IsDelivered}
+use Rattle.dcsctp_delivery_sockets.specs.UserMessages.{accepted_where, accepted, sent_in, sent_of, first_of, read_in, read_of, WereSent, IsDelivered}
 
 -- ---- lists
 
@@ -100,38 +100,30 @@ turns_same e (turn ∷ turns) queued sent h =
 
 -- ---- read
 
-messages_append : (reads : List Read) (read : Read) → messages_of (reads ++ read ∷ []) ≡ messages_of reads ++ read.message ∷ []
-messages_append [] read = refl
-messages_append (r ∷ reads) read = ap (λ (l : List MessageContent). r.message ∷ l) (messages_append reads read)
+first_read : (ready reads : List MessageContent) → with_first ready reads ≡ reads ++ first_of ready
+first_read [] reads = sym (append-nil reads)
+first_read (message ∷ ready) reads = refl
 
-first_read : (tag : ℕ) (ready : List MessageContent) (reads : List Read) → messages_of (and_first tag ready reads) ≡ messages_of reads ++ first_of ready
-first_read tag [] reads = sym (append-nil (messages_of reads))
-first_read tag (message ∷ ready) reads = messages_append reads (record { tag = tag; message = message })
+input_read : (e : Endpoint) (input : Input) (reads : List MessageContent) → reads_after e input reads ≡ reads ++ read_in e input
+input_read e user_takes reads = first_read (ready_where e.left e.below.transfer) reads
+input_read e (user_sends sendings) reads = sym (append-nil reads)
+input_read e arrival reads = sym (append-nil reads)
+input_read e (refusal text) reads = sym (append-nil reads)
+input_read e (packet_begins contents) reads = sym (append-nil reads)
+input_read e (chunk_input tag content) reads = sym (append-nil reads)
+input_read e packet_ends reads = sym (append-nil reads)
+input_read e (act_input act) reads = sym (append-nil reads)
+input_read e (user_sets setting) reads = sym (append-nil reads)
+input_read e (user_resets ids) reads = sym (append-nil reads)
+input_read e (timer_expires timer) reads = sym (append-nil reads)
+input_read e (time_passes moment) reads = sym (append-nil reads)
+input_read e (restores state) reads = sym (append-nil reads)
 
-where_read : (tag : ℕ) (transfer : Option Transfer) (reads : List Read) → messages_of (reads_where tag transfer reads) ≡ messages_of reads ++ first_of (ready_in transfer)
-where_read tag None reads = sym (append-nil (messages_of reads))
-where_read tag (Some transfer) reads = first_read tag transfer.reassembly.incoming.ready reads
-
-input_read : (e : Endpoint) (input : Input) (reads : List Read) → messages_of (reads_after e input reads) ≡ messages_of reads ++ read_in e input
-input_read e user_takes reads = where_read (own_tag e.core) e.below.transfer reads
-input_read e (user_sends sendings) reads = sym (append-nil (messages_of reads))
-input_read e arrival reads = sym (append-nil (messages_of reads))
-input_read e (refusal text) reads = sym (append-nil (messages_of reads))
-input_read e (packet_begins contents) reads = sym (append-nil (messages_of reads))
-input_read e (chunk_input tag content) reads = sym (append-nil (messages_of reads))
-input_read e packet_ends reads = sym (append-nil (messages_of reads))
-input_read e (act_input act) reads = sym (append-nil (messages_of reads))
-input_read e (user_sets setting) reads = sym (append-nil (messages_of reads))
-input_read e (user_resets ids) reads = sym (append-nil (messages_of reads))
-input_read e (timer_expires timer) reads = sym (append-nil (messages_of reads))
-input_read e (time_passes moment) reads = sym (append-nil (messages_of reads))
-input_read e (restores state) reads = sym (append-nil (messages_of reads))
-
-pub turns_read : (e : Endpoint) (turns : List Turned) (reads : List Read) → messages_of (reads_through e turns reads) ≡ messages_of reads ++ read_of e turns
-turns_read e [] reads = sym (append-nil (messages_of reads))
+pub turns_read : (e : Endpoint) (turns : List Turned) (reads : List MessageContent) → reads_through e turns reads ≡ reads ++ read_of e turns
+turns_read e [] reads = sym (append-nil reads)
 turns_read e (turn ∷ turns) reads =
     turns_read turn.outcome.after turns (reads_after e turn.input reads) ∙ ap (λ (l : List MessageContent). l ++ read_of turn.outcome.after turns) (input_read e turn.input reads)
-    ∙ append_assoc (messages_of reads) (read_in e turn.input) (read_of turn.outcome.after turns)
+    ∙ append_assoc reads (read_in e turn.input) (read_of turn.outcome.after turns)
 
 -- ---- both
 

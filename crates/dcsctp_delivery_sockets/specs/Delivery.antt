@@ -87,7 +87,7 @@ pub record TurnsAllowDelivery (options : Both Options) (turns : Both (List Turne
   pub little : (side : Side) → SendsLittle (of_side side options) (of_side side turns)
   pub refused : NoneRefused options turns
 
--- What this side's user read is what the other's user sent, and no message was read twice, in any association.
+-- What this side's user read is what the other's user sent, and no message was read twice, in any association or after it has ended.
 abbrev pub Delivers : Both Options → Both (List Turned) → Side → Type 0
 Delivers options turns side =
     IsDelivered (sent_of (fresh_endpoint (of_other side options)) (of_other side turns)) (read_of (fresh_endpoint (of_side side options)) (of_side side turns))

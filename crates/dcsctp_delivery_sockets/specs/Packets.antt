@@ -6,6 +6,7 @@ use Rattle.dcsctp_spec_lemmas.specs.spec.Admission.{admits}
 use Rattle.dcsctp_spec_lemmas.specs.spec.endpoint.CallTurns.{Turned, AdmittedTurns, after_all, effects_of}
 use Rattle.dcsctp_spec_lemmas.specs.spec.endpoint.Endpoint.{Endpoint}
 use Rattle.dcsctp_spec_lemmas.specs.spec.Packet.{Emission}
+use Rattle.dcsctp_spec_lemmas.specs.types.queues.Messages.{MessageContent}
 use Rattle.dcsctp_spec_runs.specs.Past.{Has}
 use Rattle.dcsctp_spec_runs.specs.World.{after_effects}
 use Rattle.dcsctp_spec_lemmas.specs.spec.association.Effect.{Link, Effect, holds, link_of, link_in}
@@ -16,11 +17,11 @@ use Rattle.dcsctp_delivery_turns.specs.PeerRequests.{KnowsPeerIn}
 use Rattle.dcsctp_delivery_associations.specs.Answered.{AreAnswered}
 use Rattle.dcsctp_delivery_associations.specs.Ends.{Ends, NewTag, Between}
 use Rattle.dcsctp_delivery_associations.specs.Laws.{AsksLittle, AreEnds}
-use Rattle.dcsctp_delivery_associations.specs.Reads.{Read, reads_after}
+use Rattle.dcsctp_delivery_associations.specs.Reads.{Read, reads_after, messages_of}
 use Rattle.dcsctp_delivery_sockets.specs.Echoes.{GoesToMaker}
 
 -- the messages that were read, with those that these turns read
-abbrev pub reads_through : Endpoint → List Turned → List Read → List Read
+abbrev pub reads_through : Endpoint → List Turned → List MessageContent → List MessageContent
 reads_through e [] reads = reads
 reads_through e (turn ∷ turns) reads = reads_through turn.outcome.after turns (reads_after e turn.input reads)
 
@@ -39,4 +40,4 @@ PacketsKeepEnds =
     (options : Options) (ends : Ends) (e : Endpoint) (queued : List Message) (past : List Effect) (packets : List Emission) (other : Endpoint) (their_past : List Effect) (reads : List Read) (emission : Emission)
     (turns : List Turned) → Between options ends e queued past packets other their_past reads → AreAnswered ends e past other their_past → length queued < 2 ^ 64 → AsksLittle packets → places.Has emission packets
     → GoesToMaker emission → AreNewTags options their_past past other turns → AdmittedTurns other emission.packet (admits other.core emission.packet) turns
-    → AreEnds options e queued past packets (after_all other turns) (after_effects (effects_of turns) their_past) (reads_through other turns reads)
+    → AreEnds options e queued past packets (after_all other turns) (after_effects (effects_of turns) their_past) (reads_through other turns (messages_of reads))

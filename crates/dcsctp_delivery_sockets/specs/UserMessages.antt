@@ -1,10 +1,10 @@
 -- What the user of a socket sends and reads, turn by turn, and when what one user read is what the other sent.
 use Rattle.std.specs.Prelude.{◌≡◌, ℕ, Option, None, Some, List, [], ◌∷◌, ◌++◌, slice_get}
 use Rattle.dcsctp_spec_lemmas.specs.spec.endpoint.CallTurns.{Turned}
+use Rattle.dcsctp_spec_lemmas.specs.spec.endpoint.DataOutcomes.{ready_where}
 use Rattle.dcsctp_spec_lemmas.specs.spec.endpoint.Endpoint.{Endpoint}
 use Rattle.dcsctp_spec_lemmas.specs.spec.endpoint.Turn.{Input, user_sends, user_takes}
 use Rattle.dcsctp_spec_lemmas.specs.types.queues.Messages.{MessageContent}
-use Rattle.dcsctp_spec_lemmas.specs.spec.queues.Transfer.{Transfer}
 use Rattle.dcsctp_spec_lemmas.specs.spec.endpoint.MessageOutcomes.{MessageRefusal, Sending, sending_refusal, queue_one}
 use Rattle.dcsctp_delivery_receiving.specs.Ready.{AreDistinct}
 
@@ -30,17 +30,13 @@ sent_of e (turn ∷ turns) = sent_in e turn.input ++ sent_of turn.outcome.after 
 
 -- ---- read
 
--- what a call reads: the first message that is ready, if one is
+-- what a call reads: the first message that can be taken, if there is one; also one that an association left when it ended
 abbrev pub first_of : List MessageContent → List MessageContent
 first_of [] = []
 first_of (message ∷ messages) = message ∷ []
 
-abbrev pub ready_in : Option Transfer → List MessageContent
-ready_in None = []
-ready_in (Some transfer) = transfer.reassembly.incoming.ready
-
 abbrev pub read_in : Endpoint → Input → List MessageContent
-read_in e user_takes = first_of (ready_in e.below.transfer)
+read_in e user_takes = first_of (ready_where e.left e.below.transfer)
 read_in e input = []
 
 -- all messages that the user of this socket read in these turns, in order

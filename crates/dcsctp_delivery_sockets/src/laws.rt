@@ -42,11 +42,11 @@ pub fn acts_keep_ends()
     ensures handles { ReceiversHandle }
 {}
 
-/// What a user reads is what its peer's user sent, and no message is read twice, in any association. So it is over
-/// every schedule that loses, repeats, delays and reorders packets, as long as no act comes from outside, no tag is
-/// drawn twice, each verification tag serves one association, fewer than 2^30 chunks of data and fewer than 2^32 - 1
-/// requests to reset streams go to each, each counted as often as it is sent, a side sends fewer than 2^64 messages,
-/// and none of these requests fails in an association with interleaving (RFC 8260).
+/// What a user reads is what its peer's user sent, and no message is read twice, in any association or after it has
+/// ended. So it is over every schedule that loses, repeats, delays and reorders packets, as long as no act comes from
+/// outside, no tag is drawn twice, each verification tag serves one association, fewer than 2^30 chunks of data and
+/// fewer than 2^32 - 1 requests to reset streams go to each, each counted as often as it is sent, a side sends fewer
+/// than 2^64 messages, and none of these requests fails in an association with interleaving (RFC 8260).
 pub fn sockets_deliver()
     ensures { SocketsDeliver }
 {

@@ -11,7 +11,7 @@ use Rattle.dcsctp_spec_lemmas.specs.types.queues.Messages.{MessageContent}
 use Rattle.dcsctp_spec_lemmas.specs.spec.queues.OwnResets.{prepared_all, prepare_all_events}
 use Rattle.dcsctp_spec_lemmas.specs.spec.queues.Tracker.{hastened}
 use Rattle.dcsctp_spec_lemmas.specs.spec.queues.Transfer.{Transfer}
-use Rattle.dcsctp_spec_lemmas.specs.spec.endpoint.DataOutcomes.{opens_window, told_open, with_messages, TakeWhere, TakeTurn}
+use Rattle.dcsctp_spec_lemmas.specs.spec.endpoint.DataOutcomes.{opens_window, told_open, with_messages, TakeWhere, TakeLeft, TakeTurn}
 use Rattle.dcsctp_spec_lemmas.specs.spec.endpoint.FlushOutcomes.{Answer}
 use Rattle.dcsctp_spec_lemmas.specs.spec.endpoint.MessageOutcomes.{MessageRefusal, empty_payload, sending_refusal, Sending, name_of, queue_by, queue_one, queue_all, takes_any, SendAnswers, send_by, SendTurn}
 use Rattle.dcsctp_spec_lemmas.specs.spec.endpoint.PreparedResets.{ResetRefusal, reset_refusal, with_queue, OwnResetsWhere, OwnResetsTurn}
@@ -62,8 +62,13 @@ module _ (came : Option Content) (calm : IsCalm came) (to : ℕ) where
       made_of came to (inside e) _ queued queued sent read (read ++ message ∷ []) tsn asking fit
       (taken_told (opens_window e.options transfer (with_messages messages transfer)) e.moment (ledger_of queued e.below sent read asking) transfer message messages known ready)))
 
+  -- What was left is none of an association's.
+  take_left_goes : (e : Endpoint) (left : List MessageContent) (o : Outcome) → TakeLeft e left o → Becomes came to (λ queued. queued) (read_where None) e o
+  take_left_goes e [] o turn = subst (Becomes came to (λ queued. queued) (read_where None) e) (sym turn) (goes_on calm refl (rests came to (inside e)))
+  take_left_goes e (message ∷ messages) o turn = subst (Becomes came to (λ queued. queued) (read_where None) e) (sym turn) (goes_on calm refl (rests came to (inside e)))
+
   pub take_goes : (e : Endpoint) (transfer : Option Transfer) (o : Outcome) → e.below.transfer ≡ transfer → TakeTurn e transfer o → Becomes came to (λ queued. queued) (read_where transfer) e o
-  take_goes e None o known turn = subst (Becomes came to (λ queued. queued) (read_where None) e) (sym turn) (goes_on calm refl (rests came to (inside e)))
+  take_goes e None o known turn = take_left_goes e e.left o turn
   take_goes e (Some transfer) o known turn = take_where_goes e transfer transfer.reassembly.incoming.ready o known refl turn
 
   not_empty : (payload : List ℕ) (rest : Option MessageRefusal) → (if length payload == 0 then Some empty_payload else rest) ≡ None → 0 < length payload

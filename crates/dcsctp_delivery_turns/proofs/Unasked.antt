@@ -15,7 +15,7 @@ use Rattle.dcsctp_spec_lemmas.specs.spec.queues.Reassembly.{ReassemblyState}
 use Rattle.dcsctp_spec_lemmas.specs.spec.queues.Retransmission.{has_fast_retransmit}
 use Rattle.dcsctp_spec_lemmas.specs.spec.queues.Tracker.{TrackerState, after_packet_end, is_acknowledgement_due, sacked}
 use Rattle.dcsctp_spec_lemmas.specs.spec.queues.Transfer.{Transfer, Below}
-use Rattle.dcsctp_spec_lemmas.specs.spec.endpoint.DataOutcomes.{with_transfer, with_tracker, flush_by, AnswersTo, FlushTurn, no_user_data_outcome, ReceiveTurn, DataWhere, ForwardTurn, FastRetransmits, sack_taken, AcknowledgesBy, SackWhere, SackBy, SackTurn, acknowledging, EndWhere, EndsBy, opens_window, told_open, with_messages, taken_to, TakeWhere, TakeTurn, delay_outcome, LossTurn}
+use Rattle.dcsctp_spec_lemmas.specs.spec.endpoint.DataOutcomes.{with_transfer, with_tracker, flush_by, AnswersTo, FlushTurn, no_user_data_outcome, ReceiveTurn, DataWhere, ForwardTurn, FastRetransmits, sack_taken, AcknowledgesBy, SackWhere, SackBy, SackTurn, acknowledging, EndWhere, EndsBy, opens_window, told_open, with_messages, taken_to, TakeWhere, TakeLeft, TakeTurn, delay_outcome, LossTurn}
 use Rattle.dcsctp_spec_lemmas.specs.spec.endpoint.FlushOutcomes.{own_sack, Answer, draft_to}
 use Rattle.dcsctp_spec_lemmas.specs.spec.endpoint.MessageOutcomes.{MessageRefusal, Sending, sending_refusal, queue_by, queue_one, queue_all, takes_any, SendAnswers, send_by, SendTurn}
 use Rattle.dcsctp_spec_lemmas.specs.spec.endpoint.PreparedResets.{ResetRefusal, reset_refusal, with_queue, OwnResetsWhere, OwnResetsTurn}
@@ -127,8 +127,12 @@ take_where_asks e transfer (message ∷ messages) o known turn =
     let left : Transfer = with_messages messages transfer in
     as_this e.below.transfer o _ turn (turns_to e transfer (taken_to e.options e.moment messages transfer) known (told_waits (opens_window e.options transfer left) e.moment left))
 
+take_left_asks : (e : Endpoint) (left : List MessageContent) (o : Outcome) → TakeLeft e left o → AsksNothing e.below.transfer o
+take_left_asks e [] o turn = as_this e.below.transfer o _ turn (rests e)
+take_left_asks e (message ∷ messages) o turn = as_this e.below.transfer o _ turn (record { none = tt; waits = all_wait e.below.transfer })
+
 pub take_asks : (e : Endpoint) (transfer : Option Transfer) (o : Outcome) → e.below.transfer ≡ transfer → TakeTurn e transfer o → AsksNothing e.below.transfer o
-take_asks e None o known turn = as_this e.below.transfer o _ turn (rests e)
+take_asks e None o known turn = take_left_asks e e.left o turn
 take_asks e (Some transfer) o known turn = take_where_asks e transfer transfer.reassembly.incoming.ready o known turn
 
 pub delay_asks : (e : Endpoint) (transfer : Option Transfer) → e.below.transfer ≡ transfer → AsksNothing e.below.transfer (delay_outcome e transfer)

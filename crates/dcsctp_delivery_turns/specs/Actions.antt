@@ -131,7 +131,7 @@ abbrev pub queued_after : Endpoint → Input → List Message → List Message
 queued_after e (user_sends sendings) queued = queued_together e sendings queued
 queued_after e input queued = queued
 
--- the messages that were read, oldest first, with the one that this call reads: the first that is ready
+-- the messages that were read in an association, oldest first, with the one that this call reads in it: the first that is ready
 abbrev pub with_first : List MessageContent → List MessageContent → List MessageContent
 with_first [] read = read
 with_first (message ∷ messages) read = read ++ message ∷ []

@@ -151,7 +151,7 @@ ReceiversGoOn =
     (is_known : Bool) (options : Options) (first size : ℕ) (direction : Direction) (transfer : Transfer) (e : Endpoint) (input : Input) (o : Outcome) → Run options first size (receiving direction transfer direction.read)
     → e.below.transfer ≡ Some transfer → WasSent direction.sent (came_by input) → (is_known ≡ true → PerformsNewest direction transfer (came_by input) o.effects) → SomeFit (own_of e) → OpensSmall e input o → IsCall input → Turn e input o → ReceiverTurns is_known options first size direction transfer e input o
 
--- Where there is no association, none is there after the turn, and nothing is read; or one begins.
+-- Where there is no association, none is there after the turn, and nothing is read in one; or one begins.
 pub data IdleTurns (e : Endpoint) (input : Input) (o : Outcome) : Type 0 where
   idle_stays : (link_in o.after.core ≡ None) ⊎ (link_in o.after.core ≡ link_in e.core) → o.after.below.transfer ≡ None → SomeFit (own_of o.after) → ((read : List MessageContent) → read_after e input read ≡ read) → IdleTurns e input o
   idle_begins : Opens e input o → IdleTurns e input o

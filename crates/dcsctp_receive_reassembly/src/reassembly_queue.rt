@@ -62,7 +62,7 @@ impl fmt::Debug for ReassemblyQueue {
 }
 
 impl ReassemblyQueue {
-    ghost use Rattle.std.specs.Prelude.{◌*◌, nat_le, ◌∷◌, IfSome, IfNone};
+    ghost use Rattle.std.specs.Prelude.{◌*◌, nat_le, ◌∷◌, IfSome, IfNone, map};
     ghost use Rattle.dcsctp_api.specs.spec.queues.Reassembly.{new_reassembly, is_above_watermark, bytes_to_watermark, with_ready, queued_bytes, remaining_bytes, can_count, is_deferred, with_deferred, AddsData, SkipsData, DeferralModel, ForwardsBeside, is_forward_deferred, deferring, Leaves, StaysDeferred};
     ghost use Rattle.dcsctp_api.specs.spec.queues.Readiness.{reassembly_readiness};
     ghost use Rattle.dcsctp_api.specs.spec.queues.ReceivedParts.{with_reassembly, RestoresReassembly};
@@ -87,6 +87,13 @@ impl ReassemblyQueue {
         ensures none { IfNone result ((self.old.incoming.ready ≡ []) × (self.new ≡ self.old)) }
     {
         self.incoming.next_message()
+    }
+
+    /// The messages that are ready to be taken, in order. All else is dropped. Allocates nothing.
+    pub fn into_ready_messages(self) -> VecDeque<Message>
+        ensures { map message_content result.items ≡ self.incoming.ready }
+    {
+        self.incoming.ready
     }
 
     /// How many messages are ready to be taken.

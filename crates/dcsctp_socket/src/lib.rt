@@ -28,7 +28,8 @@
 //!
 //! Packets go to the peer, other events to the application. Events come in the order in which they
 //! happened. A later call invalidates none of them. Messages that are ready are dropped when their
-//! association ends, so take them before the next call.
+//! association ends, so take them before the next call; with `Options::follow_rfc` they can be taken until the
+//! next association begins.
 //!
 //! The socket reads no clock. After each call ask `poll_timeout`, and call `advance_time` at that moment or
 //! earlier. A packet that the peer never answered is sent again then. Each call may move that moment.
@@ -40,11 +41,11 @@
 mod socket;
 
 pub use dcsctp_core::api::{
-    Association, BatchSendError, Capabilities, DcSctpSocket, ErrorKind, Events, HandoverError,
-    HandoverReadiness, Held, LifecycleId, Message, Metrics, Options, Pair, Phase, PpId,
-    ReconfigurationResponseResult, ResetStreamsError, RestoreError, SctpImplementation, SendError,
-    SendOptions, SocketEvent, SocketFault, SocketState, SocketTime, StateCookie, StreamId, Word,
-    ZERO_CHECKSUM_ALTERNATE_ERROR_DETECTION_METHOD_LOWER_LAYER_DTLS,
+    Association, BatchSendError, Capabilities, Counts, DcSctpSocket, ErrorKind, Events,
+    HandoverError, HandoverReadiness, Held, LifecycleId, Message, Metrics, Options, Pair, Phase,
+    PpId, ReconfigurationResponseResult, ResetStreamsError, RestoreError, SctpImplementation,
+    SendError, SendOptions, SocketEvent, SocketFault, SocketState, SocketTime, StateCookie,
+    StreamId, Word, ZERO_CHECKSUM_ALTERNATE_ERROR_DETECTION_METHOD_LOWER_LAYER_DTLS,
     ZERO_CHECKSUM_ALTERNATE_ERROR_DETECTION_METHOD_NONE, ZeroChecksumAlternateErrorDetectionMethod,
 };
 pub use dcsctp_core::{Context, State, TransmissionControlBlock, TxErrorCounter, api};

@@ -4,8 +4,8 @@ ghost use Rattle.dcsctp_socket.specs.SocketView.{Settles};
 
 use dcsctp_core::api::handover::SocketHandoverState;
 use dcsctp_core::api::{
-    Association, BatchSendError, DcSctpSocket, HandoverError, HandoverReadiness, Message, Metrics,
-    Options, Pair, ResetStreamsError, RestoreError, SendError, SendOptions, SocketEvent,
+    Association, BatchSendError, Counts, DcSctpSocket, HandoverError, HandoverReadiness, Message,
+    Metrics, Options, Pair, ResetStreamsError, RestoreError, SendError, SendOptions, SocketEvent,
     SocketFault, SocketState, SocketTime, StreamId, Word,
 };
 use dcsctp_core::{Context, Deadlines, is_quiet, list_deadlines, poll_timeout};
@@ -72,6 +72,7 @@ fn settled<T>(failed: &mut bool, outcome: Result<T, AllocError>) -> Result<T, So
 impl<R: Rng + Drop> Socket<R> {
     ghost use Rattle.std.specs.Prelude.{◌≡◌, IfOk, IsOkUnless};
     ghost use Rattle.dcsctp_core.specs.spec.endpoint.Endpoint.{association_of, own_tag};
+    ghost use Rattle.dcsctp_core.specs.api.Metrics.{counts_of};
     ghost use Rattle.dcsctp_core.specs.types.Settings.{IsValid};
     ghost use Rattle.dcsctp_socket.specs.SocketView.{fresh_socket};
 
@@ -111,6 +112,13 @@ impl<R: Rng + Drop> Socket<R> {
         ensures { result ≡ own_tag self.now.view.endpoint.core }
     {
         self.context.state.verification_tag()
+    }
+
+    /// What was counted over the socket's life, also while there is no association. Allocates nothing.
+    pub fn get_counts(&self) -> Counts
+        ensures { counts_of result ≡ self.now.view.endpoint.counts }
+    {
+        self.context.counts()
     }
 
     /// The pairs of a tag and a first TSN that the last call of this socket drew, in order. They are our own
@@ -354,7 +362,7 @@ impl<R: Rng + Drop> DcSctpSocket for Socket<R> {
 
     fn messages_ready_count(&self) -> usize {
         match self.context.state.tcb() {
-            None => 0,
+            None => self.context.left.len(),
             Some(tcb) => tcb.transfer.messages_ready_count(),
         }
     }

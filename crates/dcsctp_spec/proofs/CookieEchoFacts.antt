@@ -31,6 +31,7 @@ made e waiting packets_sent =
       outstanding = None;
       timers = record stopped_timers { heartbeat_interval = heartbeats_due 35_000_000_000 30_000_000_000; heartbeat_timeout = e.timers.heartbeat_timeout };
       below = record { queue = waiting; transfer = transfer_begun 1191 11910 4764 };
+      left = [];
     }
 
 -- ---- no peer is held

@@ -4,7 +4,7 @@ use Rattle.std.proofs.Common.{◌≡◌, ◌^◌, ◌-◌, ℕ, zero, suc, Bool,
 use Rattle.dcsctp_types.specs.declared.options.Options.{Options}
 use Rattle.dcsctp_types.specs.declared.tracking.TsnRange.{TsnRange}
 use Rattle.dcsctp_types.specs.declared.tracking.AckState.TheVariants.{Idle, Immediate, BecomingDelayed, Delayed}
-use Rattle.dcsctp_types.specs.declared.sending.Turn.{Turn}
+use Rattle.dcsctp_types.specs.declared.sending.Turn as sending
 use Rattle.dcsctp_types.specs.queues.Messages.{MessageContent}
 use Rattle.dcsctp_types.specs.queues.SendStreams.{comes_after}
 use Rattle.dcsctp_spec.specs.endpoint.Timers.{running_deadline}
@@ -14,7 +14,11 @@ use Rattle.dcsctp_spec.specs.queues.Sending.{next_turn}
 use Rattle.dcsctp_spec.specs.queues.Tracker.{TrackerState, observed, hastened, is_below_highest}
 use Rattle.dcsctp_spec.specs.queues.Transfer.{Transfer, window_told}
 use Rattle.dcsctp_spec.specs.endpoint.DataOutcomes.{heeds_window, opens_window, taken_to}
+use Rattle.dcsctp_spec.specs.endpoint.Endpoint.{Endpoint}
+use Rattle.dcsctp_spec.specs.endpoint.EndOutcomes.{closed_after}
+use Rattle.dcsctp_spec.specs.endpoint.Outcome.{Outcome, still}
 use Rattle.dcsctp_spec.specs.endpoint.TransferMoves.{has_room, dropping}
+use Rattle.dcsctp_spec.specs.endpoint.Turn.{user_takes, Turn}
 
 -- ---- what is received
 
@@ -111,7 +115,7 @@ answered_by_port options = refl
 -- ---- streams of equal priority
 
 -- a stream that had this turn last
-abbrev turn : ℕ → ℕ → ℕ → Turn
+abbrev turn : ℕ → ℕ → ℕ → sending.Turn
 turn priority last id = record { priority = priority; last_turn = last; stream_id = record { 0 = id } }
 
 -- Stream 1 had the second turn and stream 2 the first, so stream 2 is asked before stream 1.
@@ -150,3 +154,26 @@ none_by_port queue = refl
 
 by_option : (options : Options) → (empty_queue options).takes_turns ≡ options.follow_rfc
 by_option options = refl
+
+-- ---- messages that the association leaves when it ends
+
+-- an association with two messages that are ready, and none that an earlier one left
+abbrev ending : Bool → Endpoint → Transfer → Endpoint
+ending follows e transfer =
+    record e { options = record e.options { follow_rfc = follows }; below = record e.below { transfer = Some (full follows transfer) }; left = [] }
+
+both_are_left : (e : Endpoint) (transfer : Transfer) → (closed_after (ending true e transfer)).left ≡ message 5 ∷ message 4 ∷ []
+both_are_left e transfer = refl
+
+none_is_left_by_port : (e : Endpoint) (transfer : Transfer) → (closed_after (ending false e transfer)).left ≡ []
+none_is_left_by_port e transfer = refl
+
+-- An association that wasn't there leaves those of the one before.
+earlier_are_left : (e : Endpoint) → (closed_after (record e { below = record e.below { transfer = None }; left = message 5 ∷ [] })).left ≡ message 5 ∷ []
+earlier_are_left e = refl
+
+-- The older one is taken first.
+left_is_taken : (e : Endpoint) (o : Outcome)
+    → Turn (record e { below = record e.below { transfer = None }; left = message 5 ∷ message 4 ∷ [] }) user_takes o
+    → o ≡ still (record e { below = record e.below { transfer = None }; left = message 4 ∷ [] })
+left_is_taken e o taken = taken

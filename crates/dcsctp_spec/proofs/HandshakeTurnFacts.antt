@@ -244,6 +244,7 @@ echoing e mtu max_burst cwnd least packets_sent =
       timers = record e.timers { t1 = t1_due 7_000_000_000 2_000_000_000; reconfiguration = None };
       peer_implementation = DcsctpCc;
       below = record { queue = queue_at_start; transfer = transfer_begun mtu cwnd least };
+      left = [];
     }
 
 -- COOKIE ECHO has a checksum, whatever was agreed.

@@ -28,7 +28,7 @@ use Rattle.dcsctp_spec_lemmas.specs.spec.endpoint.MessageOutcomes.{sending_refus
 use Rattle.dcsctp_spec_lemmas.specs.spec.endpoint.PreparedResets.{ResetRefusal, reset_refusal, with_queue, PreparesResets, OwnResetsWhere, OwnResetsTurn}
 use Rattle.dcsctp_spec_lemmas.specs.types.declared.arrivals.SkippedTo.{SkippedTo}
 use Rattle.dcsctp_spec_lemmas.specs.spec.queues.Arrivals.{Arrival}
-use Rattle.dcsctp_spec_lemmas.specs.spec.endpoint.DataOutcomes.{DataWhere, with_transfer, with_tracker, flush_by, AnswersTo, FlushTurn, no_user_data_text, no_user_data_outcome, not_connected_text, ReceiveTurn, DataTurn, ForwardTurn, acknowledging, EndWhere, EndsBy, taken_to, TakeWhere, TakeTurn, delay_outcome, LossTurn}
+use Rattle.dcsctp_spec_lemmas.specs.spec.endpoint.DataOutcomes.{DataWhere, with_transfer, with_tracker, flush_by, AnswersTo, FlushTurn, no_user_data_text, no_user_data_outcome, not_connected_text, ReceiveTurn, DataTurn, ForwardTurn, acknowledging, EndWhere, EndsBy, taken_to, TakeWhere, TakeLeft, TakeTurn, delay_outcome, LossTurn}
 use Rattle.dcsctp_spec_lemmas.proofs.ControlHandshake.{no_choices, ControlledAt}
 use Rattle.dcsctp_spec_lemmas.proofs.FlushKeeps.{IsPeerTag, all_chunks, begun_by, filling_of, flush_effects, IsBegun, flush_is, first_begins, Rebuilds, rebuilds_open, rebuilds_echoed, FlushesTo, flush_controlled, further_then, further_notes_then, told_signs, signs_append}
 use Rattle.dcsctp_spec_lemmas.specs.spec.endpoint.BegunResets.{BegunReset, request_contents, begun_effects, held_begun}
@@ -232,8 +232,13 @@ take_where_at e transfer [] o turn = flushed_as e e.core o (still e) turn (still
 take_where_at e transfer (message ∷ messages) o turn =
     let left = with_transfer e (taken_to e.options e.moment messages transfer) in flushed_as e e.core o (still left) turn (still_at e left e.core refl refl)
 
+take_left_at : (e : Endpoint) (messages : List MessageContent) (o : Outcome) → TakeLeft e messages o → FlushedAt e e.core o
+take_left_at e [] o turn = flushed_as e e.core o (still e) turn (still_at e e e.core refl refl)
+take_left_at e (message ∷ messages) o turn =
+    let taken : Endpoint = record e { left = messages } in flushed_as e e.core o (still taken) turn (still_at e taken e.core refl refl)
+
 pub take_at : (e : Endpoint) (transfer : Option Transfer) (o : Outcome) → TakeTurn e transfer o → FlushedAt e e.core o
-take_at e None o turn = flushed_as e e.core o (still e) turn (still_at e e e.core refl refl)
+take_at e None o turn = take_left_at e e.left o turn
 take_at e (Some transfer) o turn = take_where_at e transfer transfer.reassembly.incoming.ready o turn
 
 -- what a list of messages leaves

@@ -5,6 +5,11 @@ pub mod ControlRestores
 pub mod DataLemmas
 pub mod HeardShutdownLemmas
 pub mod HeartbeatLemmas
+pub mod LeftActs
+pub mod LeftChunks
+pub mod LeftData
+pub mod LeftLemmas
+pub mod LeftTurns
 pub mod PlainLemmas
 pub mod QueuedValidityLemmas
 pub mod ReconfigurationLemmas

@@ -1,2 +1,3 @@
+pub mod LeftLaws
 pub mod SoundnessLaws
 pub mod TurnLaws

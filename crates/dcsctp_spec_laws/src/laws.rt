@@ -2,6 +2,7 @@
 
 ghost use Rattle.std.specs.Prelude.{◌^◌};
 ghost use Rattle.dcsctp_spec_laws.specs.TurnLaws.{InitLeavesAssociation, ChunksAreControlled, ActsAreControlled, TimersAreControlled};
+ghost use Rattle.dcsctp_spec_laws.specs.LeftLaws.{MessagesLeftStay};
 ghost use Rattle.dcsctp_spec_laws.specs.SoundnessLaws.{CallsKeepSoundness, SnapshotsAreValid};
 ghost use Rattle.dcsctp_spec_lemmas.specs.spec.endpoint.TimeTurns.{TimePassesQuietly};
 
@@ -46,4 +47,10 @@ pub fn calls_keep_soundness()
 /// has bytes or is abandoned, and there are fewer than 2^31 items of it. Each incoming stream stands once.
 pub fn snapshots_are_valid()
     ensures { SnapshotsAreValid }
+{}
+
+/// What an association leaves when it ends stays until it is taken or the next one begins: with
+/// `Options::follow_rfc` all messages that were ready before that turn.
+pub fn messages_left_stay()
+    ensures { MessagesLeftStay }
 {}

@@ -6,5 +6,5 @@ mod laws;
 
 pub use laws::{
     acts_are_controlled, calls_keep_soundness, chunks_are_controlled, init_leaves_association,
-    snapshots_are_valid, time_passes_quietly, timers_are_controlled,
+    messages_left_stay, snapshots_are_valid, time_passes_quietly, timers_are_controlled,
 };

@@ -21,7 +21,7 @@ use Rattle.dcsctp_spec_lemmas.specs.spec.queues.OwnResets.{prepared_all, prepare
 use Rattle.dcsctp_spec_lemmas.specs.spec.queues.Retransmission.{has_fast_retransmit}
 use Rattle.dcsctp_spec_lemmas.specs.spec.queues.Tracker.{TrackerState, after_packet_end, is_acknowledgement_due}
 use Rattle.dcsctp_spec_lemmas.specs.spec.queues.Transfer.{Transfer}
-use Rattle.dcsctp_spec_lemmas.specs.spec.endpoint.DataOutcomes.{DataWhere, with_transfer, flush_by, AnswersTo, FlushTurn, no_user_data_outcome, ReceiveTurn, DataTurn, ForwardTurn, FastRetransmits, sack_taken, AcknowledgesBy, SackWhere, SackBy, SackTurn, EndWhere, EndsBy, TakeWhere, TakeTurn, delay_outcome, LossTurn}
+use Rattle.dcsctp_spec_lemmas.specs.spec.endpoint.DataOutcomes.{DataWhere, with_transfer, flush_by, AnswersTo, FlushTurn, no_user_data_outcome, ReceiveTurn, DataTurn, ForwardTurn, FastRetransmits, sack_taken, AcknowledgesBy, SackWhere, SackBy, SackTurn, EndWhere, EndsBy, TakeWhere, TakeLeft, TakeTurn, delay_outcome, LossTurn}
 use Rattle.dcsctp_spec_lemmas.specs.spec.endpoint.FlushOutcomes.{Answer, told_event, goes_out, draft_to, flush_of}
 use Rattle.dcsctp_spec_lemmas.specs.spec.endpoint.MessageOutcomes.{MessageRefusal, refusal_events, Sending, sending_refusal, name_of, queue_by, queue_one, queue_all, takes_any, SendAnswers, send_by, SendTurn}
 use Rattle.dcsctp_spec_lemmas.specs.spec.endpoint.PreparedResets.{ResetRefusal, reset_refusal, with_queue, OwnResetsWhere, OwnResetsTurn}
@@ -165,8 +165,12 @@ take_where_few : (e : Endpoint) (transfer : Transfer) (messages : List MessageCo
 take_where_few e transfer [] o turn = subst (Few 0) (sym turn) (none 0)
 take_where_few e transfer (message ∷ messages) o turn = subst (Few 0) (sym turn) (none 0)
 
+take_left_few : (e : Endpoint) (messages : List MessageContent) (o : Outcome) → TakeLeft e messages o → Few 0 o
+take_left_few e [] o turn = subst (Few 0) (sym turn) (none 0)
+take_left_few e (message ∷ messages) o turn = subst (Few 0) (sym turn) (none 0)
+
 pub take_few : (e : Endpoint) (transfer : Option Transfer) (o : Outcome) → TakeTurn e transfer o → Few 0 o
-take_few e None o turn = subst (Few 0) (sym turn) (none 0)
+take_few e None o turn = take_left_few e e.left o turn
 take_few e (Some transfer) o turn = take_where_few e transfer transfer.reassembly.incoming.ready o turn
 
 -- A message that waits or is refused is no packet.

@@ -23,7 +23,7 @@ use Rattle.dcsctp_spec_lemmas.specs.spec.endpoint.MessageOutcomes.{MessageRefusa
 use Rattle.dcsctp_spec_lemmas.specs.spec.endpoint.PreparedResets.{ResetRefusal, reset_refusal, with_queue, PreparesResets, OwnResetsWhere, OwnResetsTurn}
 use Rattle.dcsctp_spec_lemmas.specs.types.declared.arrivals.SkippedTo.{SkippedTo}
 use Rattle.dcsctp_spec_lemmas.specs.spec.queues.Arrivals.{Arrival}
-use Rattle.dcsctp_spec_lemmas.specs.spec.endpoint.DataOutcomes.{DataWhere, taken_to, TakeWhere, TakeTurn, with_transfer, with_tracker, flush_by, AnswersTo, FlushTurn, no_user_data_text, no_user_data_outcome, ReceiveTurn, DataTurn, ForwardTurn, SendsLost, FastRetransmits, sack_taken, AcknowledgesBy, SackWhere, SackBy, SackTurn, acknowledging, AnswersPacket, EndWhere, EndsBy, delay_outcome, LossTurn}
+use Rattle.dcsctp_spec_lemmas.specs.spec.endpoint.DataOutcomes.{DataWhere, taken_to, TakeWhere, TakeLeft, TakeTurn, with_transfer, with_tracker, flush_by, AnswersTo, FlushTurn, no_user_data_text, no_user_data_outcome, ReceiveTurn, DataTurn, ForwardTurn, SendsLost, FastRetransmits, sack_taken, AcknowledgesBy, SackWhere, SackBy, SackTurn, acknowledging, AnswersPacket, EndWhere, EndsBy, delay_outcome, LossTurn}
 use Rattle.dcsctp_spec_lemmas.specs.spec.queues.Acknowledging.{is_sack_valid}
 use Rattle.dcsctp_spec_runs.specs.Fitting.{AllSent, FitsHeld, FitsEndpoint, IsSendable, Sendable, TurnFits}
 use Rattle.dcsctp_spec_runs.proofs.KindLemmas.{chunks_are_data}
@@ -170,8 +170,15 @@ take_where_fits : (e : Endpoint) (transfer : Transfer) (messages : List MessageC
 take_where_fits e transfer [] o turn h = subst TurnFits (sym turn) (still_fits e h)
 take_where_fits e transfer (message ∷ messages) o turn h = subst TurnFits (sym turn) (moved_fits e (taken_to e.options e.moment messages transfer) h)
 
+left_fits : (e : Endpoint) (left : List MessageContent) → FitsEndpoint e → FitsEndpoint (record e { left = left })
+left_fits e left h = record { valid = h.valid; options = h.options; core = h.core; t1 = h.t1 }
+
+take_left_fits : (e : Endpoint) (messages : List MessageContent) (o : Outcome) → TakeLeft e messages o → FitsEndpoint e → TurnFits o
+take_left_fits e [] o turn h = subst TurnFits (sym turn) (still_fits e h)
+take_left_fits e (message ∷ messages) o turn h = subst TurnFits (sym turn) (still_fits (record e { left = messages }) (left_fits e messages h))
+
 pub take_fits : (e : Endpoint) (transfer : Option Transfer) (o : Outcome) → TakeTurn e transfer o → FitsEndpoint e → TurnFits o
-take_fits e None o turn h = subst TurnFits (sym turn) (still_fits e h)
+take_fits e None o turn h = take_left_fits e e.left o turn h
 take_fits e (Some transfer) o turn h = take_where_fits e transfer transfer.reassembly.incoming.ready o turn h
 
 refused_sends_nothing : (refusal : MessageRefusal) (lifecycle : Option ℕ) → AllSent IsSendable (refusal_events refusal lifecycle)

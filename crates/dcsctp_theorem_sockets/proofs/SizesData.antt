@@ -23,7 +23,7 @@ use Rattle.dcsctp_spec_lemmas.specs.spec.queues.Acknowledging.{ends_delivery, to
 use Rattle.dcsctp_spec_lemmas.specs.spec.queues.Items.{Item}
 use Rattle.dcsctp_spec_lemmas.specs.spec.queues.Outstanding.{acknowledged_by}
 use Rattle.dcsctp_spec_lemmas.specs.spec.queues.Retransmission.{has_fast_retransmit}
-use Rattle.dcsctp_spec_lemmas.specs.spec.endpoint.DataOutcomes.{DataWhere, with_transfer, with_tracker, flush_by, AnswersTo, FlushTurn, no_user_data_outcome, ReceiveTurn, DataTurn, ForwardTurn, SendsLost, FastRetransmits, sack_taken, AcknowledgesBy, SackWhere, SackBy, SackTurn, acknowledging, EndWhere, EndsBy, TakeWhere, TakeTurn, delay_outcome, LossTurn}
+use Rattle.dcsctp_spec_lemmas.specs.spec.endpoint.DataOutcomes.{DataWhere, with_transfer, with_tracker, flush_by, AnswersTo, FlushTurn, no_user_data_outcome, ReceiveTurn, DataTurn, ForwardTurn, SendsLost, FastRetransmits, sack_taken, AcknowledgesBy, SackWhere, SackBy, SackTurn, acknowledging, EndWhere, EndsBy, TakeWhere, TakeLeft, TakeTurn, delay_outcome, LossTurn}
 use Rattle.dcsctp_spec_lemmas.specs.spec.queues.Acknowledging.{is_sack_valid}
 use Rattle.dcsctp_theorem_sockets.proofs.Sizes.{AtLimit, IsShort, AllShort, TurnSizes, short_append, emits_sizes, flush_sizes}
 use Rattle.dcsctp_theorem_sockets.proofs.SizesShutdown.{step_sizes}
@@ -151,8 +151,12 @@ take_where_sizes : (limit : ℕ) (e : Endpoint) (transfer : Transfer) (messages 
 take_where_sizes limit e transfer [] o turn h = subst (TurnSizes limit) (sym turn) (h, tt)
 take_where_sizes limit e transfer (message ∷ messages) o turn h = subst (TurnSizes limit) (sym turn) (h, tt)
 
+take_left_sizes : (limit : ℕ) (e : Endpoint) (messages : List MessageContent) (o : Outcome) → TakeLeft e messages o → AtLimit limit e → TurnSizes limit o
+take_left_sizes limit e [] o turn h = subst (TurnSizes limit) (sym turn) (h, tt)
+take_left_sizes limit e (message ∷ messages) o turn h = subst (TurnSizes limit) (sym turn) (h, tt)
+
 pub take_sizes : (limit : ℕ) (e : Endpoint) (transfer : Option Transfer) (o : Outcome) → TakeTurn e transfer o → AtLimit limit e → TurnSizes limit o
-take_sizes limit e None o turn h = subst (TurnSizes limit) (sym turn) (h, tt)
+take_sizes limit e None o turn h = take_left_sizes limit e e.left o turn h
 take_sizes limit e (Some transfer) o turn h = take_where_sizes limit e transfer transfer.reassembly.incoming.ready o turn h
 
 refusal_short : (limit : ℕ) (refusal : MessageRefusal) (lifecycle : Option ℕ) → AllShort limit (refusal_events refusal lifecycle)

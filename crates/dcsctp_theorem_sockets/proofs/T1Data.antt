@@ -18,7 +18,7 @@ use Rattle.dcsctp_spec_lemmas.specs.spec.endpoint.MessageOutcomes.{MessageRefusa
 use Rattle.dcsctp_spec_lemmas.specs.spec.endpoint.PreparedResets.{ResetRefusal, reset_refusal, with_queue, OwnResetsWhere, OwnResetsTurn}
 use Rattle.dcsctp_spec_lemmas.specs.types.declared.arrivals.SkippedTo.{SkippedTo}
 use Rattle.dcsctp_spec_lemmas.specs.spec.queues.Arrivals.{Arrival}
-use Rattle.dcsctp_spec_lemmas.specs.spec.endpoint.DataOutcomes.{DataWhere, with_transfer, with_tracker, flush_by, AnswersTo, FlushTurn, no_user_data_text, no_user_data_outcome, ReceiveTurn, DataTurn, ForwardTurn, FastRetransmits, sack_taken, AcknowledgesBy, SackWhere, SackBy, SackTurn, acknowledging, EndWhere, EndsBy, TakeWhere, TakeTurn, delay_outcome, LossTurn}
+use Rattle.dcsctp_spec_lemmas.specs.spec.endpoint.DataOutcomes.{DataWhere, with_transfer, with_tracker, flush_by, AnswersTo, FlushTurn, no_user_data_text, no_user_data_outcome, ReceiveTurn, DataTurn, ForwardTurn, FastRetransmits, sack_taken, AcknowledgesBy, SackWhere, SackBy, SackTurn, acknowledging, EndWhere, EndsBy, TakeWhere, TakeLeft, TakeTurn, delay_outcome, LossTurn}
 use Rattle.dcsctp_spec_lemmas.specs.spec.queues.Acknowledging.{is_sack_valid}
 use Rattle.dcsctp_spec_lemmas.proofs.FlushKeeps.{goes_out_keeps}
 use Rattle.dcsctp_theorem_sockets.proofs.T1Shutdown.{step_up}
@@ -106,8 +106,12 @@ take_where_up : (e : Endpoint) (transfer : Transfer) (messages : List MessageCon
 take_where_up e transfer [] o turn h = subst UpAfter (sym turn) h
 take_where_up e transfer (message ∷ messages) o turn h = subst UpAfter (sym turn) h
 
+take_left_up : (e : Endpoint) (messages : List MessageContent) (o : Outcome) → TakeLeft e messages o → Up e → UpAfter o
+take_left_up e [] o turn h = subst UpAfter (sym turn) h
+take_left_up e (message ∷ messages) o turn h = subst UpAfter (sym turn) h
+
 pub take_up : (e : Endpoint) (transfer : Option Transfer) (o : Outcome) → TakeTurn e transfer o → Up e → UpAfter o
-take_up e None o turn h = subst UpAfter (sym turn) h
+take_up e None o turn h = take_left_up e e.left o turn h
 take_up e (Some transfer) o turn h = take_where_up e transfer transfer.reassembly.incoming.ready o turn h
 
 queue_one_up : (e : Endpoint) (message : Sending) (refusal : Option MessageRefusal) → Up e → UpAfter (queue_by e message refusal)

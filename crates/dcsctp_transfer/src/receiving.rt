@@ -1,7 +1,7 @@
 //! What is received: data and what the peer skips (RFC 9260, sections 6.2 and 6.5; RFC 3758, section 3.6).
 //! Also when it is acknowledged, and the messages that a user takes.
 
-ghost use Rattle.std.specs.Prelude.{◌≡◌, ◌∷◌, ◌&&◌, nat_lt, [], length, true, false, if◌then◌else◌, OnOk, OnErr, IsSome, IfSome, IfNone};
+ghost use Rattle.std.specs.Prelude.{◌≡◌, map, ◌∷◌, ◌&&◌, nat_lt, [], length, true, false, if◌then◌else◌, OnOk, OnErr, IsSome, IfSome, IfNone};
 ghost use Rattle.dcsctp_send_retransmission.specs.spec.endpoint.TimeTurns.{has_come};
 ghost use Rattle.dcsctp_send_retransmission.specs.spec.endpoint.TransferMoves.{has_room, dropping, ReceivesData, MovesForward};
 ghost use Rattle.dcsctp_send_retransmission.specs.spec.endpoint.DataOutcomes.{open_window, taken_to};
@@ -12,10 +12,11 @@ ghost use Rattle.dcsctp_send_retransmission.specs.spec.queues.Tracker.{after_pac
 
 use crate::transfer::Transfer;
 use crate::windows::open_window;
-use dcsctp_receive_reassembly::{Data, SkippedTo};
+use dcsctp_receive_reassembly::{Data, ReassemblyQueue, SkippedTo};
 use dcsctp_send_retransmission::api::Message;
 use dcsctp_send_retransmission::types::{Options, SocketTime};
 use std::alloc::AllocError;
+use std::collections::VecDeque;
 
 impl Transfer {
     // Is there room for data with this TSN: are less than nine tenths of the receive window in use? With
@@ -140,6 +141,15 @@ impl Transfer {
             self.data_tracker.hasten_acknowledgement(now);
         }
         Some(message)
+    }
+
+    /// The messages that are ready to be taken, in order. What was received is as in a new association then.
+    /// Allocates nothing.
+    pub fn take_ready_messages(&mut self, options: &Options) -> VecDeque<Message>
+        ensures { map message_content result.items ≡ self.old.reassembly.incoming.ready }
+    {
+        let empty = ReassemblyQueue::new(self.alloc, options.max_receiver_window_buffer_size);
+        std::mem::replace(&mut self.reassembly_queue, empty).into_ready_messages()
     }
 
     // Is the window that a SACK tells too small to be worth telling? Only with `Options::follow_rfc`.

@@ -15,11 +15,10 @@ use Rattle.dcsctp_core.specs.spec.endpoint.UserTurns.{UserTurns}
 use Rattle.dcsctp_core.specs.spec.endpoint.Turn.{Input, act_input, user_sets, user_sends, user_resets, user_takes}
 use Rattle.dcsctp_core.specs.spec.association.Acts.{connect, shut_down, abort_with}
 use Rattle.dcsctp_core.specs.types.queues.Messages.{MessageContent}
-use Rattle.dcsctp_core.specs.spec.queues.Transfer.{Transfer}
 use Rattle.dcsctp_core.specs.spec.endpoint.MessageOutcomes.{MessageRefusal, Sending, sending_of, sending_refusal, queue_one, RefusedMessage, refused_where, refused_from, message_refusal}
 use Rattle.dcsctp_core.specs.api.declared.errors.BatchSendError.{BatchSendError}
-use Rattle.dcsctp_core.specs.api.Messages.{IsBatchAnswer, ready_below, ready_messages, IsFirst}
-use Rattle.dcsctp_delivery_sockets.specs.UserMessages.{accepted_where, accepted, sent_in, sent_of, first_of, ready_in, read_in, read_of}
+use Rattle.dcsctp_core.specs.api.Messages.{IsBatchAnswer, ready_messages, IsFirst}
+use Rattle.dcsctp_delivery_sockets.specs.UserMessages.{accepted_where, accepted, sent_in, sent_of, first_of, read_in, read_of}
 use Rattle.dcsctp_world.specs.declared.act.Reply.{Reply}
 use Rattle.dcsctp_world.specs.declared.act.Reply.TheVariants.{NoCall, Done, Sent, SentMany, Reset, Taken, HandedOver, Restored}
 use Rattle.dcsctp_world.specs.Growth.{IsSent, IsSentMany, IsTaken, IsCallReply}
@@ -87,11 +86,11 @@ sent_alone e sendings (t ∷ []) taken = (
 )
 sent_alone e sendings (t ∷ next ∷ turns) taken = absurd taken.1
 
-read_alone : (e : Endpoint) (turns : List Turned) → Turns e (user_takes ∷ []) turns → (sent_of e turns ≡ []) × (read_of e turns ≡ first_of (ready_in e.below.transfer))
+read_alone : (e : Endpoint) (turns : List Turned) → Turns e (user_takes ∷ []) turns → (sent_of e turns ≡ []) × (read_of e turns ≡ first_of (ready_messages e))
 read_alone e [] taken = absurd taken
 read_alone e (t ∷ []) taken = (
   ap (λ (i : Input). sent_in e i ++ []) taken.0.is,
-  ap (λ (i : Input). read_in e i ++ []) taken.0.is ∙ append-nil (first_of (ready_in e.below.transfer)),
+  ap (λ (i : Input). read_in e i ++ []) taken.0.is ∙ append-nil (first_of (ready_messages e)),
 )
 read_alone e (t ∷ next ∷ turns) taken = absurd taken.1
 
@@ -120,10 +119,6 @@ said_among e options messages (Reset answer) is = absurd is
 said_among e options messages (Taken taken) is = absurd is
 said_among e options messages (HandedOver answer) is = absurd is
 said_among e options messages (Restored answer) is = absurd is
-
-same_ready : (found : Option Transfer) → ready_in found ≡ ready_below found
-same_ready None = refl
-same_ready (Some transfer) = refl
 
 said_first : (ready : List MessageContent) (taken : Option Message) → IsFirst ready taken → first_of ready ≡ taken_by (Taken taken)
 said_first ready None is = ap first_of is
@@ -161,6 +156,6 @@ call_says e (send_many_call messages options) reply turns taken is =
 call_says e (reset_call ids) reply turns taken is = let h = turns_quiet e (user_resets ids ∷ []) turns (tt, tt) taken in record { sent = h.sent; read = h.read }
 call_says e take_call reply turns taken is =
     let h = read_alone e turns taken in
-    record { sent = h.0; read = h.1 ∙ ap first_of (same_ready e.below.transfer) ∙ said_taken (ready_messages e) reply is }
+    record { sent = h.0; read = h.1 ∙ said_taken (ready_messages e) reply is }
 call_says e hand_over_call reply turns taken is =
     let h = turns_quiet e (inputs_of_handover (readiness_of e)) turns (handover_quiet (readiness_of e)) taken in record { sent = h.sent; read = h.read }

@@ -9,7 +9,7 @@ use Rattle.dcsctp_core.specs.spec.queues.Transfer.{Transfer}
 use Rattle.dcsctp_core.specs.spec.endpoint.Endpoint.{Endpoint}
 use Rattle.dcsctp_core.specs.spec.endpoint.Outcome.{Outcome, still}
 use Rattle.dcsctp_core.specs.spec.endpoint.Turn.{user_takes}
-use Rattle.dcsctp_core.specs.spec.endpoint.DataOutcomes.{TakeWhere, TakeTurn}
+use Rattle.dcsctp_core.specs.spec.endpoint.DataOutcomes.{TakeWhere, TakeLeft, TakeTurn}
 use Rattle.dcsctp_core.specs.spec.endpoint.CallTurns.{turned}
 use Rattle.dcsctp_core.specs.api.Calls.{UserView, Follows}
 use Rattle.dcsctp_core.specs.api.Messages.{TakesNext}
@@ -25,8 +25,12 @@ quiet_where : (e : Endpoint) (transfer : Transfer) (messages : List MessageConte
 quiet_where e transfer [] o turn = still_after e o turn
 quiet_where e transfer (message ∷ messages) o turn = still_after _ o turn
 
+quiet_left : (e : Endpoint) (messages : List MessageContent) (o : Outcome) → TakeLeft e messages o → o ≡ still o.after
+quiet_left e [] o turn = still_after e o turn
+quiet_left e (message ∷ messages) o turn = still_after _ o turn
+
 quiet : (e : Endpoint) (found : Option Transfer) (o : Outcome) → TakeTurn e found o → o ≡ still o.after
-quiet e None o turn = still_after e o turn
+quiet e None o turn = quiet_left e e.left o turn
 quiet e (Some transfer) o turn = quiet_where e transfer transfer.reassembly.incoming.ready o turn
 
 -- ---- the call

@@ -80,7 +80,7 @@ request_again_change (open_in phase my held) reset fits =
     record { core = open_in phase my held; effects = request_sent held held.own_outstanding reset fits; following = next_chunk }
 request_again_change core reset fits = unchanged core
 
--- Its number is given up, and the next one is begun (RFC 6525, section 5.2.7).
+-- Its number is given up, and the next one is begun.
 abbrev pub renewed_by : Held → Option ℕ → RequestedReset → Bool → Flushed
 renewed_by held None reset fits = record { held = held; effects = [] }
 renewed_by held (Some number) reset false = record { held = held; effects = [] }

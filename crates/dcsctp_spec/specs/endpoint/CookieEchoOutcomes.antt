@@ -74,6 +74,7 @@ established_by e cookie queue tie =
         queue = queue;
         transfer = Some (new_transfer e.options (held_by_cookie e.options cookie).capabilities cookie.maker.first_tsn cookie.addressee.first_tsn (window_by_cookie e.options cookie));
       };
+      left = [];
     }
 
 -- a packet that begins with COOKIE ACK to a cookie's addressee

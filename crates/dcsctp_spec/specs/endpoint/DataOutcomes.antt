@@ -166,6 +166,11 @@ EndsBy e (Some transfer) o =
 
 -- ---- what the user takes
 
+-- The messages that can be taken: those that are ready in the association. If there is none, those that the last one left.
+abbrev pub ready_where : List MessageContent → Option Transfer → List MessageContent
+ready_where left None = left
+ready_where left (Some transfer) = transfer.reassembly.incoming.ready
+
 -- the window that is worth telling: a packet, or half of all if that is less
 abbrev pub open_window : Options → ℕ
 open_window options = min (packet_size_limit options) (options.max_receiver_window_buffer_size / 2)
@@ -193,8 +198,14 @@ abbrev pub TakeWhere : Endpoint → Transfer → List MessageContent → Outcome
 TakeWhere e transfer [] o = o ≡ still e
 TakeWhere e transfer (message ∷ messages) o = o ≡ still (with_transfer e (taken_to e.options e.moment messages transfer))
 
+-- It is the first of those that the last association left.
+abbrev pub TakeLeft : Endpoint → List MessageContent → Outcome → Type 0
+TakeLeft e [] o = o ≡ still e
+TakeLeft e (message ∷ messages) o = o ≡ still (record e { left = messages })
+
+-- The first message that can be taken is taken.
 abbrev pub TakeTurn : Endpoint → Option Transfer → Outcome → Type 0
-TakeTurn e None o = o ≡ still e
+TakeTurn e None o = TakeLeft e e.left o
 TakeTurn e (Some transfer) o = TakeWhere e transfer transfer.reassembly.incoming.ready o
 
 -- ---- timers

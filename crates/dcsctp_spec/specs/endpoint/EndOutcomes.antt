@@ -1,23 +1,39 @@
 -- How an association ends, whatever ends it.
-use Rattle.std.specs.Prelude.{ℕ, true, false, None, List, [], ◌∷◌, ◌++◌, if◌then◌else◌}
+use Rattle.std.specs.Prelude.{ℕ, true, false, Option, None, Some, List, [], ◌∷◌, ◌++◌, if◌then◌else◌}
 use Rattle.dcsctp_types.specs.wire.Texts.{causes_text}
 use Rattle.dcsctp_types.specs.declared.association.Held.{Held}
 use Rattle.dcsctp_types.specs.declared.options.Options.{Options}
 use Rattle.dcsctp_types.specs.declared.ends.AbortReason.{AbortReason}
 use Rattle.dcsctp_types.specs.declared.ends.AbortReason.TheVariants as reasons
 use Rattle.dcsctp_types.specs.declared.kinds.ErrorKind.TheVariants.{PeerReported, ProtocolViolation, TooManyRetries}
+use Rattle.dcsctp_types.specs.queues.Messages.{MessageContent}
 use Rattle.dcsctp_spec.specs.endpoint.Cause.{Cause, reason_text, causes_of}
 use Rattle.dcsctp_spec.specs.endpoint.Event.{Event, aborted}
 use Rattle.dcsctp_spec.specs.endpoint.Event as events
 use Rattle.dcsctp_spec.specs.Packet.{Emission, abort, shutdown_complete}
 use Rattle.dcsctp_spec.specs.endpoint.Endpoint.{Endpoint, Core, closed, cookie_echoed, open_in, stopped_timers}
 use Rattle.dcsctp_spec.specs.association.Effect.{ends}
+use Rattle.dcsctp_spec.specs.queues.Transfer.{Transfer}
 use Rattle.dcsctp_spec.specs.endpoint.Outcome.{Outcome, still, quiet, to_peer, sends, emits}
 use Rattle.dcsctp_spec.specs.endpoint.Following.{Following, next_chunk, packet_end, dropped_rest}
 
+-- The messages that can be taken once the association has ended: by the RFCs' rules those that are ready, for their data was
+-- acknowledged. Without a peer there are no new ones.
+abbrev pub left_by : Options → Option Transfer → List MessageContent → List MessageContent
+left_by options None left = left
+left_by options (Some transfer) left = if options.follow_rfc then transfer.reassembly.incoming.ready else left
+
 -- No association, and no timer. What waits to be sent is kept, and so is the error count.
 abbrev pub closed_after : Endpoint → Endpoint
-closed_after e = record e { core = closed; tie = 0; outstanding = None; timers = stopped_timers; below = record e.below { transfer = None } }
+closed_after e =
+    record e {
+      core = closed;
+      tie = 0;
+      outstanding = None;
+      timers = stopped_timers;
+      below = record e.below { transfer = None };
+      left = left_by e.options e.below.transfer e.left;
+    }
 
 -- After this outcome the association ends with this event, and the rest of the packet is dropped.
 abbrev pub ended_outcome : Outcome → Event Emission → Outcome

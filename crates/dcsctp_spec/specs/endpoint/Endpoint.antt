@@ -1,5 +1,5 @@
 -- What a socket is between two turns (RFC 9260, sections 4 and 5).
-use Rattle.std.specs.Prelude.{◌==◌, ℕ, Bool, if◌then◌else◌, Option, None, Some, List}
+use Rattle.std.specs.Prelude.{◌==◌, ℕ, Bool, if◌then◌else◌, Option, None, Some, List, []}
 use Rattle.std.specs.Duration.{as_nanos}
 use Rattle.dcsctp_spec.specs.endpoint.Timers.{TimerSettings, RunningTimer, started}
 use Rattle.dcsctp_spec.specs.queues.Transfer.{Below, nothing_below}
@@ -12,6 +12,7 @@ use Rattle.dcsctp_types.specs.declared.kinds.BackoffAlgorithm.TheVariants.{Fixed
 use Rattle.dcsctp_types.specs.declared.kinds.SctpImplementation.{SctpImplementation}
 use Rattle.dcsctp_types.specs.declared.kinds.SctpImplementation.TheVariants.{Unknown}
 use Rattle.dcsctp_types.specs.declared.options.Options.{Options}
+use Rattle.dcsctp_types.specs.queues.Messages.{MessageContent}
 
 -- the phases in which an association is open: COOKIE ECHO or COOKIE ACK has come
 pub data OpenPhase : Type 0 where
@@ -109,6 +110,8 @@ pub record Endpoint : Type 0 where
   pub counts : Counts
   pub peer_implementation : SctpImplementation
   pub below : Below
+  -- the messages that were ready when the last association ended, and aren't taken yet
+  pub left : List MessageContent
 
 -- The heartbeat interval starts anew. One of zero switches heartbeats off.
 abbrev pub heartbeats_begun : Endpoint → Timers → Timers
@@ -132,4 +135,5 @@ fresh_endpoint options =
       counts = record { packets_received = 0; packets_sent = 0; messages_queued = 0 };
       peer_implementation = Unknown;
       below = nothing_below options;
+      left = [];
     }

@@ -161,6 +161,7 @@ awaits_cookie_ack e mine theirs cookie tie =
         queue = queue_anew e.below.queue held.capabilities.message_interleaving;
         transfer = Some (new_transfer e.options held.capabilities mine.first_tsn theirs.pair.first_tsn theirs.window);
       };
+      left = [];
     }
 
 -- COOKIE ECHO is sent under the peer's tag, with a checksum, if it fits; else nothing is sent.

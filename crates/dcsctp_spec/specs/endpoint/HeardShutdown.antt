@@ -16,7 +16,7 @@ use Rattle.dcsctp_spec.specs.endpoint.ShutdownOutcomes.{phase_at, shutdown_outco
 abbrev pub said_by_shutdown : ℕ → RetransmissionState → SackContent
 said_by_shutdown tsn state = record { cumulative_tsn_ack = tsn; a_rwnd = min state.peer_window (2 ^ 32 - 1); gap_ack_blocks = []; duplicate_tsns = [] }
 
--- Does its TSN count in this phase? Once SHUTDOWN or SHUTDOWN ACK was sent, SACKs alone acknowledge.
+-- Does the TSN of a SHUTDOWN count in this phase? Once SHUTDOWN or SHUTDOWN ACK was sent, SACKs alone acknowledge.
 abbrev pub may_have_sent : OpenPhase → Bool
 may_have_sent established = true
 may_have_sent shutdown_pending = true

@@ -22,7 +22,7 @@ abbrev pub request_emitted : Endpoint → Held → Option ℕ → RequestedReset
 request_emitted e held None reset = still e
 request_emitted e held (Some number) reset = emits e [] (to_peer held (reset_request number reset))
 
--- The next number takes the place of its number, if the packet fits; else nothing happens.
+-- The next number takes the place of its number, if the packet fits.
 abbrev pub renewed_where : Bool → Endpoint → Held → ℕ → Content → Outcome
 renewed_where false e held number request = still e
 renewed_where true e held number request =
@@ -34,8 +34,8 @@ request_renewed e held (Some number) reset =
     let request : Content = reset_request held.own_next reset in
     renewed_where (fits e (to_peer held request)) e held number request
 
--- By the RFCs a request that the peer has answered as in progress is sent under the next number: a peer that repeats its answer
--- to a number that it knows may then perform it (RFC 6525, section 5.2.7).
+-- With `follow_rfc` a request that the peer has answered as in progress (RFC 6525, section 5.2.7) is sent under the next number,
+-- as dcsctp in C++ does: a peer that repeats its answer to a number that it knows may then perform it.
 abbrev pub is_renewed : Endpoint → Option OutstandingRequest → Bool
 is_renewed e None = false
 is_renewed e (Some request) = e.options.follow_rfc && request.waits_for_retry

@@ -78,6 +78,7 @@ restored_endpoint e state transfer =
         queue = queue_restored e.moment state.tx (numbered_for state.capabilities.message_interleaving e.below.queue);
         transfer = Some transfer;
       };
+      left = [];
     }
 
 -- The user is told OnConnected.

@@ -9,8 +9,8 @@ use Rattle.dcsctp_core_handover.proofs.restoring.restore.Goals as goal
 
 pub returns : goal.returns
 returns g c =
-    restores g.R.Rng.stream c.args.context.now (snapshot c.args.state.now) c.in_ok-tcb.tcb c.add.new.self c.restore_from_state.new.self
-    c.requires.closed c.in_ok-tcb.ensures
+    restores g.R.Rng.stream (record c.args.context.now { left = c.new.result }) c.args.context.now (snapshot c.args.state.now) c.in_ok-tcb.tcb c.add.new.self c.restore_from_state.new.self
+    c.requires.closed c.new.ensures.items c.in_ok-tcb.ensures
     (c.in_ok-restore_from_state.ensures
     ∙ ap (λ (queue : SendQueueState). queue_restored c.args.context.now.moment (snapshot c.args.state.now).tx queue) c.enable_message_interleaving.ensures)
     (ap (map event_content) c.in_ok-add.ensures.ok ∙ map-append event_content c.args.context.now.events (_ ∷ []))

@@ -36,3 +36,8 @@ returns g c =
     refuses g.R.Rng.stream old tcb (view_of c.send_unless_empty.new.self) _ c.add-2.new.self _ c.in-Some.ensures
     (refusal_packet old.options (held_of tcb) _ c.in_ok-packet.packet c.add.new.self c.add-2.new.self c.in_ok-error.ensures c.in_ok-packet.ensures c.add.ensures c.add-2.ensures)
     c.in_ok-send_unless_empty.ensures.sends.0 c.in_ok-send_unless_empty.ensures.sends.1 (rw (sym c.in_ok-text.ensures.ok) c.in_ok-report.ensures)
+
+pub returns-in_err-send_unless_empty : goal.returns-in_err-send_unless_empty
+returns-in_err-send_unless_empty g c =
+    rw (err_from_is_err_and c.from_residual-in_err-send_unless_empty.result c.from_residual-in_err-send_unless_empty.ensures.1).1
+    (refusal_unmade (view_of c.args.context.now) _ (ap (λ (v : View g.row.R.Denot). v.events) c.in_err-send_unless_empty.ensures.sends))

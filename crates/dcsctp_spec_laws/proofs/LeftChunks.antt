@@ -1,0 +1,204 @@
+-- What the chunks of the association make of the messages that the last one left: they stay, or one begins, or it ends.
+use Rattle.std.proofs.Common.{◌≡◌, inl, inr, ℕ, Bool, true, false, Option, None, Some, Result, Ok, Err, List, [], ◌∷◌, refl, sym, subst, ap}
+use Rattle.std.specs.Prelude.{if◌then◌else◌}
+use Rattle.dcsctp_spec_lemmas.specs.types.declared.association.Pair.{Pair}
+use Rattle.dcsctp_spec_lemmas.specs.types.declared.association.Held.{Held}
+use Rattle.dcsctp_spec_lemmas.specs.types.declared.word.Word.{Word}
+use Rattle.dcsctp_spec_lemmas.specs.types.declared.word.Word.TheVariants.{U32, U64}
+use Rattle.dcsctp_spec_lemmas.specs.types.declared.kinds.ErrorKind.TheVariants.{ProtocolViolation}
+use Rattle.dcsctp_spec_lemmas.specs.spec.Cookie.{Cookie, cookie_at}
+use Rattle.dcsctp_spec_lemmas.specs.spec.Packet.{Introduction, cookie_echo, shutdown_ack, re_config, Emission}
+use Rattle.dcsctp_spec_lemmas.specs.spec.Reconfiguration.{RequestedReset, ResetParameter}
+use Rattle.dcsctp_spec_lemmas.specs.spec.association.CookieEchoChanges.{Resolution, establish_new, restart, simultaneous_init, discard, maintain_existing, invalid_tag, stale, held_by_cookie}
+use Rattle.dcsctp_spec_lemmas.specs.spec.association.ResetChanges.{WorkedParameters}
+use Rattle.dcsctp_spec_lemmas.specs.spec.queues.SendQueue.{SendQueueState}
+use Rattle.dcsctp_spec_lemmas.specs.spec.queues.Transfer.{Transfer}
+use Rattle.dcsctp_spec_lemmas.specs.spec.endpoint.Cause.{Cause}
+use Rattle.dcsctp_spec_lemmas.specs.spec.endpoint.Endpoint.{Endpoint, Core, closed, cookie_wait, cookie_echoed, open_in, OpenPhase, established, shutdown_pending, shutdown_sent, shutdown_received, shutdown_ack_sent}
+use Rattle.dcsctp_spec_lemmas.specs.spec.endpoint.Event.{Event, aborted, connected, connection_restarted}
+use Rattle.dcsctp_spec_lemmas.specs.spec.endpoint.Outcome.{Outcome, quiet, sends, fits, to_peer}
+use Rattle.dcsctp_spec_lemmas.specs.spec.endpoint.FlushOutcomes.{Answer, draft_to, flush_of, flush_answered}
+use Rattle.dcsctp_spec_lemmas.specs.spec.endpoint.EndOutcomes.{ended_outcome, abort_outcome}
+use Rattle.dcsctp_spec_lemmas.specs.spec.endpoint.HandshakeOutcomes.{pair_from, renewed_pair, init_ack_emission, init_outcome, InitTurn, no_cookie_text, abort_emission, awaits_cookie_ack, echo_emission, EchoAnswers, init_ack_by, InitAckAnswers, InitAckTurn, connected_after, cookie_ack_by, CookieAckAnswers, CookieAckTurn}
+use Rattle.dcsctp_spec_lemmas.specs.spec.endpoint.CookieEchoOutcomes.{established_by, acknowledgement, establish_by, queue_begun, queue_kept, restart_by_in, restart_by_where, maintain_by, resolved_by, resolved_now, cookie_echo_by, EstablishAnswers, RestartAnswersIn, RestartAnswers, MaintainAnswers, ResolvedAnswers, EchoedAnswers, CookieEchoTurn}
+use Rattle.dcsctp_spec_lemmas.specs.spec.endpoint.ResetOutcomes.{requested_in, has_reset, answers_in_progress, ResetsBelow, OwnAnswer, unanswered, retried, was_performed, has_failed, worked_in, answered_in, told_of, resets_worked, responses_outcome, responses_by, ResponseAnswers, WorksResets, ResetTurn}
+use Rattle.dcsctp_spec_lemmas.specs.spec.endpoint.ShutdownOutcomes.{shutdown_ack_outcome, shutdown_complete_outcome}
+use Rattle.dcsctp_spec_laws.proofs.LeftLemmas.{is_there, Stays, Ends, StaysIn, LeavesIn, unmoved, stays_then, begins_then, emits_stays, flush_stays}
+
+-- ---- INIT
+
+init_stays : (e : Endpoint) (theirs : Introduction) (core : Core) (word next : ℕ) → StaysIn e (init_outcome e theirs core word next)
+init_stays e theirs closed word next = emits_stays e (U32 word ∷ U32 next ∷ []) (init_ack_emission e theirs (pair_from word next) 0)
+init_stays e theirs (cookie_wait mine) word next = emits_stays e [] (init_ack_emission e theirs mine 0)
+init_stays e theirs (cookie_echoed mine held cookie) word next = emits_stays e [] (init_ack_emission e theirs mine 0)
+init_stays e theirs (open_in established mine held) word next = emits_stays e (U32 word ∷ []) (init_ack_emission e theirs (renewed_pair e word) e.tie)
+init_stays e theirs (open_in shutdown_pending mine held) word next = emits_stays e (U32 word ∷ []) (init_ack_emission e theirs (renewed_pair e word) e.tie)
+init_stays e theirs (open_in shutdown_sent mine held) word next = emits_stays e (U32 word ∷ []) (init_ack_emission e theirs (renewed_pair e word) e.tie)
+init_stays e theirs (open_in shutdown_received mine held) word next = emits_stays e (U32 word ∷ []) (init_ack_emission e theirs (renewed_pair e word) e.tie)
+init_stays e theirs (open_in shutdown_ack_sent mine held) word next = emits_stays e [] (to_peer held shutdown_ack)
+
+pub init_leaves : (e : Endpoint) (theirs : Introduction) (o : Outcome) → InitTurn e theirs o → LeavesIn e o
+init_leaves e theirs o turn = subst (LeavesIn e) (sym turn.2) (inl (init_stays e theirs e.core turn.0 turn.1))
+
+-- ---- INIT ACK
+
+refused_ends : (b : Bool) (e : Endpoint) (tag : ℕ)
+    → Ends e (ended_outcome (if b then sends e [] [] (abort_emission tag) else quiet e [] []) (aborted ProtocolViolation no_cookie_text)).after
+refused_ends true e tag = record { left = refl; none = refl }
+refused_ends false e tag = record { left = refl; none = refl }
+
+pub echo_stays : (b : Bool) (e : Endpoint) (words : List Word) (tag : ℕ) (cookie : List ℕ) (answers : List Answer) → EchoAnswers b e tag cookie answers
+    → StaysIn e (if b then flush_answered answers e words [] true tag (cookie_echo cookie ∷ []) else quiet e words [])
+echo_stays true e words tag cookie answers h = flush_stays e (echo_emission tag cookie) answers h
+echo_stays false e words tag cookie answers h = unmoved e
+
+init_ack_at : (e : Endpoint) (core : Core) (theirs : Introduction) (cookie : Option (List ℕ)) (word : ℕ) (answers : List Answer) → InitAckAnswers e theirs cookie core word answers
+    → LeavesIn e (init_ack_by (flush_answered answers) e theirs cookie core word)
+init_ack_at e closed theirs cookie word answers h = inl (unmoved e)
+init_ack_at e (cookie_wait mine) theirs None word answers h = inr (inr (refused_ends (fits e (abort_emission theirs.pair.tag)) e theirs.pair.tag))
+init_ack_at e (cookie_wait mine) theirs (Some cookie) word answers h =
+    let begun : Endpoint = awaits_cookie_ack e mine theirs cookie word in
+    inr (inl (begins_then begun _ (record { left = refl; there = refl })
+    (echo_stays (fits begun (echo_emission theirs.pair.tag cookie)) begun (U64 word ∷ []) theirs.pair.tag cookie answers h)))
+init_ack_at e (cookie_echoed mine held echoed) theirs cookie word answers h = inl (unmoved e)
+init_ack_at e (open_in phase mine held) theirs cookie word answers h = inl (unmoved e)
+
+pub init_ack_leaves : (e : Endpoint) (theirs : Introduction) (cookie : Option (List ℕ)) (o : Outcome) → InitAckTurn e theirs cookie o → LeavesIn e o
+init_ack_leaves e theirs cookie o turn = subst (LeavesIn e) (sym turn.3) (init_ack_at e e.core theirs cookie turn.0 turn.1 turn.2)
+
+-- ---- COOKIE ECHO
+
+established_begins : (e : Endpoint) (cookie : Cookie) (queue : SendQueueState) (tie : ℕ) (events : List (Event Emission)) (answers : List Answer) → EstablishAnswers e cookie queue tie answers
+    → LeavesIn e (establish_by (flush_answered answers) e cookie queue tie events)
+established_begins e cookie queue tie events answers h =
+    let begun : Endpoint = established_by e cookie queue tie in
+    inr (inl (begins_then begun _ (record { left = refl; there = refl }) (flush_stays begun (acknowledgement (held_by_cookie e.options cookie) cookie) answers h)))
+
+restart_in : (e : Endpoint) (cookie : Cookie) (tie : ℕ) (phase : OpenPhase) (held : Held) (answers : List Answer) → RestartAnswersIn e cookie tie phase answers
+    → LeavesIn e (restart_by_in (flush_answered answers) e cookie tie phase held)
+restart_in e cookie tie established held answers h = established_begins e cookie (queue_begun e cookie) tie (connection_restarted ∷ connected ∷ []) answers h
+restart_in e cookie tie shutdown_pending held answers h = established_begins e cookie (queue_begun e cookie) tie (connection_restarted ∷ connected ∷ []) answers h
+restart_in e cookie tie shutdown_sent held answers h = established_begins e cookie (queue_begun e cookie) tie (connection_restarted ∷ connected ∷ []) answers h
+restart_in e cookie tie shutdown_received held answers h = established_begins e cookie (queue_begun e cookie) tie (connection_restarted ∷ connected ∷ []) answers h
+restart_in e cookie tie shutdown_ack_sent held answers h = inl (record { left = refl; there = refl })
+
+restart_at : (e : Endpoint) (cookie : Cookie) (tie : ℕ) (core : Core) (answers : List Answer) → RestartAnswers e cookie tie core answers
+    → LeavesIn e (restart_by_where (flush_answered answers) e cookie tie core)
+restart_at e cookie tie closed answers h = established_begins e cookie (queue_begun e cookie) tie (connection_restarted ∷ connected ∷ []) answers h
+restart_at e cookie tie (cookie_wait mine) answers h = established_begins e cookie (queue_begun e cookie) tie (connection_restarted ∷ connected ∷ []) answers h
+restart_at e cookie tie (cookie_echoed mine held echoed) answers h = established_begins e cookie (queue_begun e cookie) tie (connection_restarted ∷ connected ∷ []) answers h
+restart_at e cookie tie (open_in phase mine held) answers h = restart_in e cookie tie phase held answers h
+
+connected_stays : (e : Endpoint) (mine : Pair) (held : Held) → Stays e (connected_after e mine held)
+connected_stays e mine held = record { left = refl; there = refl }
+
+maintain_stays : (e : Endpoint) (cookie : Cookie) (core : Core) (answers : List Answer) → MaintainAnswers e cookie core answers → StaysIn e (maintain_by (flush_answered answers) e cookie core)
+maintain_stays e cookie closed answers h = unmoved e
+maintain_stays e cookie (cookie_wait mine) answers h = unmoved e
+maintain_stays e cookie (cookie_echoed mine held echoed) answers h =
+    stays_then e (connected_after e mine held) _ (connected_stays e mine held) (flush_stays (connected_after e mine held) (acknowledgement held cookie) answers h)
+maintain_stays e cookie (open_in phase mine held) answers h = flush_stays e (acknowledgement held cookie) answers h
+
+resolved_leaves : (e : Endpoint) (cookie : Cookie) (core : Core) (word : ℕ) (resolution : Resolution) (answers : List Answer) → ResolvedAnswers e cookie core word resolution answers
+    → LeavesIn e (resolved_by (flush_answered answers) e cookie core word resolution)
+resolved_leaves e cookie core word establish_new answers h = established_begins e cookie (queue_kept e cookie) word (connected ∷ []) answers h
+resolved_leaves e cookie core word restart answers h = restart_at e cookie word core answers h
+resolved_leaves e cookie core word simultaneous_init answers h = established_begins e cookie (queue_begun e cookie) word (connected ∷ []) answers h
+resolved_leaves e cookie core word discard answers h = inl (unmoved e)
+resolved_leaves e cookie core word maintain_existing answers h = inl (maintain_stays e cookie core answers h)
+resolved_leaves e cookie core word invalid_tag answers h = inl (unmoved e)
+resolved_leaves e cookie core word stale answers h = inl (unmoved e)
+
+echoed_leaves : (e : Endpoint) (core : Core) (header : ℕ) (read : Result Cookie (List ℕ)) (word : ℕ) (answers : List Answer) → EchoedAnswers e core header read word answers
+    → LeavesIn e (cookie_echo_by (flush_answered answers) e core header read word)
+echoed_leaves e core header (Err text) word answers h = inl (unmoved e)
+echoed_leaves e core header (Ok cookie) word answers h = resolved_leaves e cookie core word (resolved_now e core header cookie) answers h
+
+pub cookie_echo_leaves : (e : Endpoint) (tag : ℕ) (bytes : List ℕ) (o : Outcome) → CookieEchoTurn e tag bytes o → LeavesIn e o
+cookie_echo_leaves e tag bytes o turn = subst (LeavesIn e) (sym turn.3) (echoed_leaves e e.core tag (cookie_at bytes) turn.0 turn.1 turn.2)
+
+-- ---- COOKIE ACK
+
+cookie_ack_stays : (e : Endpoint) (core : Core) (answers : List Answer) → CookieAckAnswers e core answers → StaysIn e (cookie_ack_by (flush_answered answers) e core)
+cookie_ack_stays e closed answers h = unmoved e
+cookie_ack_stays e (cookie_wait mine) answers h = unmoved e
+cookie_ack_stays e (cookie_echoed mine held cookie) answers h =
+    stays_then e (connected_after e mine held) _ (connected_stays e mine held) (flush_stays (connected_after e mine held) (draft_to held) answers h)
+cookie_ack_stays e (open_in phase mine held) answers h = unmoved e
+
+pub cookie_ack_leaves : (e : Endpoint) (o : Outcome) → CookieAckTurn e o → LeavesIn e o
+cookie_ack_leaves e o turn = subst (LeavesIn e) (sym turn.2) (inl (cookie_ack_stays e e.core turn.0 turn.1))
+
+-- ---- RE-CONFIG
+
+below_there : (performed in_progress : Bool) (reset : Option RequestedReset) (old new : Option Transfer) → ResetsBelow performed in_progress reset old new → is_there new ≡ is_there old
+below_there true in_progress (Some reset) (Some old) new h = ap is_there h.1
+below_there true in_progress (Some reset) None new h = ap is_there h
+below_there true in_progress None old new h = ap is_there h
+below_there false true (Some reset) (Some old) new h = ap is_there h
+below_there false true (Some reset) None new h = ap is_there h
+below_there false true None old new h = ap is_there h
+below_there false false reset old new h = ap is_there h
+
+worked_stays : (e : Endpoint) (answer : OwnAnswer) (held : Held) (left : Option Transfer) → is_there left ≡ is_there e.below.transfer → Stays e (resets_worked e answer held left)
+worked_stays e unanswered held left same = record { left = refl; there = same }
+worked_stays e retried held left same = record { left = refl; there = same }
+worked_stays e was_performed held left same = record { left = refl; there = same }
+worked_stays e has_failed held left same = record { left = refl; there = same }
+
+response_stays : (e : Endpoint) (held : Held) (responses : List ResetParameter) → StaysIn e (responses_outcome e held responses)
+response_stays e held [] = unmoved e
+response_stays e held (response ∷ responses) = emits_stays e [] (to_peer held (re_config (response ∷ responses)))
+
+responses_stay : (refused : Bool) (e : Endpoint) (told : List (Event Emission)) (held : Held) (parameters responses : List ResetParameter) (answers : List Answer)
+    → ResponseAnswers refused e held responses answers → StaysIn e (responses_by refused e told held parameters responses answers)
+responses_stay true e told held parameters responses answers h = unmoved e
+responses_stay false e told held parameters responses answers h =
+    let sent : Outcome = responses_outcome e held responses in
+    stays_then e sent.after (flush_of sent.after (draft_to held) answers).after (response_stays e held responses) (flush_stays sent.after (draft_to held) answers h)
+
+works_resets_stay : (e : Endpoint) (my : Pair) (held : Held) (parameters : List ResetParameter) (o : Outcome) → WorksResets e my held parameters o → StaysIn e o
+works_resets_stay e my held parameters o turn =
+    let w : WorkedParameters = worked_in e my held parameters in
+    let base : Endpoint = resets_worked e (answered_in held w parameters) w.held turn.left in
+    subst (StaysIn e) (sym turn.is)
+    (stays_then e base _
+    (worked_stays e (answered_in held w parameters) w.held turn.left (below_there (has_reset w.effects) (answers_in_progress w.answers) (requested_in parameters) e.below.transfer turn.left turn.below))
+    (responses_stay w.is_refused base (told_of e parameters w.effects) w.held parameters w.answers turn.answers turn.allowed))
+
+resets_stay : (e : Endpoint) (core : Core) (parameters : List ResetParameter) (o : Outcome) → ResetTurn e core parameters o → StaysIn e o
+resets_stay e closed parameters o turn = subst (StaysIn e) (sym turn) (unmoved e)
+resets_stay e (cookie_wait my) parameters o turn = subst (StaysIn e) (sym turn) (unmoved e)
+resets_stay e (cookie_echoed my held cookie) parameters o turn = works_resets_stay e my held parameters o turn
+resets_stay e (open_in phase my held) parameters o turn = works_resets_stay e my held parameters o turn
+
+pub reset_leaves : (e : Endpoint) (parameters : List ResetParameter) (o : Outcome) → ResetTurn e e.core parameters o → LeavesIn e o
+reset_leaves e parameters o turn = inl (resets_stay e e.core parameters o turn)
+
+-- ---- what ends an association
+
+pub abort_leaves : (e : Endpoint) (causes : List Cause) (core : Core) → LeavesIn e (abort_outcome e causes core)
+abort_leaves e causes closed = inl (unmoved e)
+abort_leaves e causes (cookie_wait my) = inl (unmoved e)
+abort_leaves e causes (cookie_echoed my held cookie) = inr (inr (record { left = refl; none = refl }))
+abort_leaves e causes (open_in phase my held) = inr (inr (record { left = refl; none = refl }))
+
+pub shutdown_ack_leaves : (e : Endpoint) (core : Core) (tag : ℕ) → LeavesIn e (shutdown_ack_outcome e core tag)
+shutdown_ack_leaves e closed tag = inl (record { left = refl; there = refl })
+shutdown_ack_leaves e (cookie_wait my) tag = inl (record { left = refl; there = refl })
+shutdown_ack_leaves e (cookie_echoed my held cookie) tag = inl (record { left = refl; there = refl })
+shutdown_ack_leaves e (open_in established my held) tag = inl (record { left = refl; there = refl })
+shutdown_ack_leaves e (open_in shutdown_pending my held) tag = inl (record { left = refl; there = refl })
+shutdown_ack_leaves e (open_in shutdown_sent my held) tag = inr (inr (record { left = refl; none = refl }))
+shutdown_ack_leaves e (open_in shutdown_received my held) tag = inl (record { left = refl; there = refl })
+shutdown_ack_leaves e (open_in shutdown_ack_sent my held) tag = inr (inr (record { left = refl; none = refl }))
+
+pub shutdown_complete_leaves : (e : Endpoint) (core : Core) → LeavesIn e (shutdown_complete_outcome e core)
+shutdown_complete_leaves e closed = inl (unmoved e)
+shutdown_complete_leaves e (cookie_wait my) = inl (unmoved e)
+shutdown_complete_leaves e (cookie_echoed my held cookie) = inl (unmoved e)
+shutdown_complete_leaves e (open_in established my held) = inl (unmoved e)
+shutdown_complete_leaves e (open_in shutdown_pending my held) = inl (unmoved e)
+shutdown_complete_leaves e (open_in shutdown_sent my held) = inl (unmoved e)
+shutdown_complete_leaves e (open_in shutdown_received my held) = inl (unmoved e)
+shutdown_complete_leaves e (open_in shutdown_ack_sent my held) = inr (inr (record { left = refl; none = refl }))
