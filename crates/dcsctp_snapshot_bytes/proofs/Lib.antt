@@ -3,6 +3,7 @@ pub mod Lists
 pub mod OutstandingLaws
 pub mod PartLaws
 pub mod QueuedLaws
+pub mod SealLaws
 pub mod SnapshotLaws
 pub mod StandardFacts
 pub mod StreamLaws

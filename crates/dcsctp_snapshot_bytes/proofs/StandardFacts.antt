@@ -1,12 +1,16 @@
 -- Examples written out by hand from the table of the format: a wrong rule in specs/ would not check here.
-use Rattle.std.proofs.Common.{◌≡◌, ℕ, ◌++◌, negsuc, true, List, [], ◌∷◌, Some, None, refl}
+use Rattle.std.proofs.Common.{◌≡◌, ℕ, ◌++◌, negsuc, true, false, List, [], ◌∷◌, Some, None, refl}
 use Rattle.std.specs.Prelude.{codes, replicate}
 use Rattle.std.specs.Int.{w32}
 use Rattle.dcsctp_types.specs.declared.snapshot.HandoverOutgoingStream.{HandoverOutgoingStream}
 use Rattle.dcsctp_types.specs.declared.snapshot.HandoverOrderedStream.{HandoverOrderedStream}
+use Rattle.dcsctp_types.specs.declared.kinds.ZeroChecksumAlternateErrorDetectionMethod.{ZeroChecksumAlternateErrorDetectionMethod}
+use Rattle.dcsctp_types.specs.declared.options.Options.{Options}
 use Rattle.dcsctp_types.specs.SnapshotItems.{QueuedPart}
 use Rattle.dcsctp_types.specs.Snapshot.{empty_snapshot}
+use Rattle.dcsctp_wire_checksum.specs.Crc32c.{bit_step, eight_bit_steps, byte_step, register_after, crc32c_of}
 use Rattle.dcsctp_snapshot_bytes.specs.Fields.{number_bytes, number_at, signed_bytes, signed_at, flag_bytes, flag_at, payload_bytes, payload_at, optional_bytes, optional_at, list_bytes, list_at, elements_at}
+use Rattle.dcsctp_snapshot_bytes.specs.Seal.{fingerprint, checked}
 use Rattle.dcsctp_snapshot_bytes.specs.Spelling.{magic, queued_bytes, outgoing_bytes, ordered_bytes, send_bytes, received_bytes, capabilities_bytes, snapshot_bytes}
 use Rattle.dcsctp_snapshot_bytes.specs.ReadingItems.{queued_at, limits_at, progress_at, ordered_at}
 use Rattle.dcsctp_snapshot_bytes.specs.Reading.{windows_at, send_progress_at, send_at, receive_numbers_at, received_at, capabilities_at, tags_at, content_at, after_header, read_snapshot}
@@ -109,3 +113,27 @@ other_version_is_refused = refl
 trailing_byte_is_refused : read_snapshot (empty_bytes ++ 0 ∷ []) ≡ None
 unfolding read_snapshot after_header content_at tags_at capabilities_at send_at windows_at send_progress_at received_at receive_numbers_at list_at elements_at number_at flag_at empty_bytes
 trailing_byte_is_refused = refl
+
+-- ---- the seal
+
+-- the check value of these digits that catalogues of checksums give
+digits_are_checked : checked (codes "123456789") ≡ codes "123456789" ++ 0xe3 ∷ 0x06 ∷ 0x92 ∷ 0x83 ∷ []
+unfolding checked number_bytes crc32c_of register_after byte_step eight_bit_steps bit_step
+digits_are_checked = refl
+
+offers : Options → ZeroChecksumAlternateErrorDetectionMethod → Options
+offers options method =
+    record options {
+      local_port = 0x0102;
+      remote_port = 0x0304;
+      announced_maximum_incoming_streams = 0x0506;
+      announced_maximum_outgoing_streams = 0x0708;
+      enable_partial_reliability = true;
+      enable_message_interleaving = false;
+      zero_checksum_alternate_error_detection_method = method;
+    }
+
+offers_are_spelled : (options : Options) (method : ZeroChecksumAlternateErrorDetectionMethod) → method.0 ≡ 0x090a0b0c
+    → fingerprint (offers options method) ≡ 1 ∷ 2 ∷ 3 ∷ 4 ∷ 5 ∷ 6 ∷ 7 ∷ 8 ∷ 1 ∷ 0 ∷ 9 ∷ 10 ∷ 11 ∷ 12 ∷ []
+unfolding fingerprint number_bytes flag_bytes offers
+offers_are_spelled options method is = rw is refl

@@ -4,4 +4,5 @@ pub mod Gives
 pub mod Laws
 pub mod Reading
 pub mod ReadingItems
+pub mod Seal
 pub mod Spelling

@@ -7,4 +7,6 @@ mod bytes;
 #[cfg(test)]
 mod reading;
 #[cfg(test)]
+mod sealing;
+#[cfg(test)]
 mod states;
