@@ -38,8 +38,9 @@
  * A call that hands something in, be it a packet, the time or a command, may add events and
  * messages, and move the deadline. A message that is taken may move it, too. So take all of them,
  * and then ask for the deadline, before you wait.
- * Take all messages before each packet that you hand in, and before dcsctp_close: what isn't taken
- * when its association ends is lost, though the peer was told that it was delivered.
+ * Take all messages before you begin another association, and before each packet, since a peer may
+ * begin one: what isn't taken by then is lost, though the peer was told that it was delivered.
+ * Without `follow_rfc` it is lost when its own association ends.
  * `packet` has room for the longest packet of either end (the greater `mtu`), and `buffer` for
  * `message.length` bytes: the peer says how long a message is.
  *
@@ -55,8 +56,11 @@
  *
  * Pointers. Each is valid, aligned, and not NULL, not even with a length of 0. Each points to as
  *   many elements as the number after it says, and a number may be 0. What a call writes to
- *   overlaps nothing else that it is given; a call writes to the socket, too. What is only written
- *   need not be initialised.
+ *   overlaps nothing else that it is given; a call writes to the socket, too, unless it is `const`.
+ *   What is only written need not be initialised.
+ *
+ * Queries. A call that takes a `const dcsctp_socket` changes nothing, and leaves where they are the
+ *   bytes that dcsctp_event_view and dcsctp_message_view have shown.
  *
  * Threads. A socket belongs to one call at a time, and a query is a call, too (a lock for readers
  *   isn't enough): use a mutex, or keep the socket on one thread. Calls on different sockets may
@@ -83,9 +87,10 @@
  *   an error changes nothing and writes nothing. A compiler warns if you ignore the result of a
  *   call that may be OUT_OF_MEMORY.
  *
- * Sizes. dcsctp_options and dcsctp_metrics begin with `size`: set it to the struct's sizeof before
- *   a call, as dcsctp_options_init does. If the struct has another size in the library, which then
- *   has another header, the call returns WRONG_SIZE, and reads and writes no other field.
+ * Sizes. dcsctp_options, dcsctp_metrics and dcsctp_counts begin with `size`: set it to the struct's
+ *   sizeof before a call, as dcsctp_options_init does. If the struct has another size in the
+ *   library, which then has another header, the call returns WRONG_SIZE, and reads and writes no
+ *   other field.
  *
  * Numbers. Calls and structs have whole numbers, which later versions may have more of. Their names
  *   are enumerators: a debugger shows them, and with a cast a compiler warns of a case that is
@@ -190,7 +195,7 @@ DCSCTP_ENUM(dcsctp_error, int32_t) {
     /* The socket can't be handed over now: dcsctp_get_handover_readiness says why. */
     DCSCTP_ERROR_NOT_READY = -14,
 
-    /* These bytes are no snapshot, or one that needs a `zero_checksum_method`. */
+    /* These bytes are no snapshot, or not all of them are as they were written. */
     DCSCTP_ERROR_INVALID_SNAPSHOT = -15,
 
     /* The socket has an association, or begins one. */
@@ -202,6 +207,9 @@ DCSCTP_ENUM(dcsctp_error, int32_t) {
     /* `size` isn't that of the library's struct: it wasn't set, or the caller was built with
      * another header than the library. */
     DCSCTP_ERROR_WRONG_SIZE = -18,
+
+    /* The snapshot is of a socket with other options: see dcsctp_restore_from_state. */
+    DCSCTP_ERROR_OTHER_OPTIONS = -19,
 };
 
 #ifndef DCSCTP_DECLARATIONS
@@ -246,6 +254,8 @@ static inline const char *dcsctp_error_text(int32_t result) {
         return "the message can't be sent with these options";
     case DCSCTP_ERROR_WRONG_SIZE:
         return "the struct has another size in the library";
+    case DCSCTP_ERROR_OTHER_OPTIONS:
+        return "the snapshot is of a socket with other options";
     default:
         return result > 0 ? "no error" : "unknown";
     }
@@ -301,8 +311,9 @@ typedef struct dcsctp_socket {
  * `follow_rfc`: rules of the RFCs hold that dcsctp 0.1.16 doesn't keep. A shutdown sends first what
  *   waits, data that finds no room or fills a gap is answered at once, the peer is told when a full
  *   receive window opens, a peer's SHUTDOWN acknowledges data, streams of equal priority take
- *   turns, and a reset that is in progress is asked for under the next number. At 0 all is as in
- *   dcsctp 0.1.16. docs/DIFFERENCES.md has a row for each rule. */
+ *   turns, a reset that is in progress is asked for under the next number, and messages that are
+ *   ready can be taken when their association has ended. At 0 all is as in dcsctp 0.1.16.
+ *   docs/DIFFERENCES.md has a row for each rule. */
 typedef struct dcsctp_options {
     size_t size;                                         /* sizeof(dcsctp_options) */
     size_t mtu;                                          /* longest packet that is sent: 1,191 */
@@ -386,8 +397,9 @@ int32_t dcsctp_connect(dcsctp_socket *socket) DCSCTP_CHECKED_CALL;
 int32_t dcsctp_shutdown(dcsctp_socket *socket) DCSCTP_CHECKED_CALL;
 
 /* Ends the association at once: an ABORT goes to the peer if it is known, and the last event is
- * DCSCTP_EVENT_CLOSED. Messages that weren't taken are lost, here and at the peer. On a closed
- * socket it changes nothing. Errors: NO_SOCKET, FAILED, OUT_OF_MEMORY. */
+ * DCSCTP_EVENT_CLOSED. What is on its way is lost. Messages that are ready can still be taken, also
+ * at the peer if it keeps this rule; without `follow_rfc` they are lost. On a closed socket it
+ * changes nothing. Errors: NO_SOCKET, FAILED, OUT_OF_MEMORY. */
 int32_t dcsctp_close(dcsctp_socket *socket) DCSCTP_CHECKED_CALL;
 
 /* ---- Packets and time ----------------------------------------------------------------------- */
@@ -407,7 +419,7 @@ int32_t dcsctp_advance_time(dcsctp_socket *socket, uint64_t now) DCSCTP_CHECKED_
 
 /* Writes the next deadline, by which dcsctp_advance_time has to be called: a moment that is never
  * before the last one told, or DCSCTP_NEVER. Error: NO_SOCKET. */
-int32_t dcsctp_poll_timeout(dcsctp_socket *socket, uint64_t *moment) DCSCTP_CALL;
+int32_t dcsctp_poll_timeout(const dcsctp_socket *socket, uint64_t *moment) DCSCTP_CALL;
 
 /* ---- Events --------------------------------------------------------------------------------- */
 
@@ -506,12 +518,19 @@ int32_t dcsctp_poll_event(dcsctp_socket *socket, dcsctp_event *event) DCSCTP_CAL
 /* Copies the packet or the text of the event that was taken last, and writes its length. A text is
  * UTF-8, has no zero at its end, and may be empty.
  * Errors: NO_SOCKET, BUFFER_TOO_SMALL, NOTHING_TO_COPY. */
-int32_t dcsctp_event_bytes(dcsctp_socket *socket, uint8_t *buffer, size_t capacity,
+int32_t dcsctp_event_bytes(const dcsctp_socket *socket, uint8_t *buffer, size_t capacity,
                            size_t *length) DCSCTP_CHECKED_CALL;
+
+/* Writes where the packet lies of the event that was taken last, and its length. Nothing is copied.
+ * It lies there until a call that takes this socket without `const`. NOTHING_TO_COPY: the event is
+ * no DCSCTP_EVENT_SEND_PACKET, or none was taken; then `bytes` isn't written.
+ * Errors: NO_SOCKET, NOTHING_TO_COPY. */
+int32_t dcsctp_event_view(const dcsctp_socket *socket, const uint8_t **bytes, size_t *length)
+    DCSCTP_CHECKED_CALL;
 
 /* Copies the streams of the event that was taken last, and writes how many there are. `capacity`
  * counts streams, too. Errors: NO_SOCKET, BUFFER_TOO_SMALL, NOTHING_TO_COPY. */
-int32_t dcsctp_event_streams(dcsctp_socket *socket, uint16_t *buffer, size_t capacity,
+int32_t dcsctp_event_streams(const dcsctp_socket *socket, uint16_t *buffer, size_t capacity,
                              size_t *count) DCSCTP_CHECKED_CALL;
 
 /* ---- Messages ------------------------------------------------------------------------------- */
@@ -524,25 +543,32 @@ typedef struct dcsctp_message {
 } dcsctp_message;
 
 /* Writes how many messages are ready to be taken. Error: NO_SOCKET. */
-int32_t dcsctp_messages_ready_count(dcsctp_socket *socket, size_t *count) DCSCTP_CALL;
+int32_t dcsctp_messages_ready_count(const dcsctp_socket *socket, size_t *count) DCSCTP_CALL;
 
 /* Takes the message that became ready first and writes what it is: 1. Where none is ready: 0, and
  * its length is 0. Its bytes leave the receive window. They can be copied until the next call of
  * dcsctp_get_next_message. With `follow_rfc` the deadline is the present moment once a full window
  * opens, so that dcsctp_advance_time tells the peer.
  *
- * A message that isn't taken is lost when its association ends, by a shutdown, ABORT or close of
- * either end or because the peer is silent, and when the peer begins anew. That it was acknowledged
- * doesn't matter. So take all messages before the next packet is handed in. One that comes in the
- * same packet as an ABORT can't be taken.
+ * Messages that are ready when their association ends, by a shutdown, ABORT or close of either end
+ * or because the peer is silent, can be taken until the next one begins. Then they are lost, though
+ * they were acknowledged, and so they are when the peer begins anew. Without `follow_rfc` they are
+ * lost when their own ends, even one that comes in the same packet as an ABORT. So take all
+ * messages before the next packet is handed in.
  *
  * It allocates nothing. Error: NO_SOCKET. */
 int32_t dcsctp_get_next_message(dcsctp_socket *socket, dcsctp_message *message) DCSCTP_CALL;
 
 /* Copies the bytes of the message that was taken last, and writes its length.
  * Errors: NO_SOCKET, BUFFER_TOO_SMALL, NOTHING_TO_COPY. */
-int32_t dcsctp_message_bytes(dcsctp_socket *socket, uint8_t *buffer, size_t capacity,
+int32_t dcsctp_message_bytes(const dcsctp_socket *socket, uint8_t *buffer, size_t capacity,
                              size_t *length) DCSCTP_CHECKED_CALL;
+
+/* Writes where the bytes lie of the message that was taken last, and how many there are. Nothing is
+ * copied. They lie there until a call that takes this socket without `const`. NOTHING_TO_COPY: none
+ * was taken; then `bytes` isn't written. Errors: NO_SOCKET, NOTHING_TO_COPY. */
+int32_t dcsctp_message_view(const dcsctp_socket *socket, const uint8_t **bytes, size_t *length)
+    DCSCTP_CHECKED_CALL;
 
 /* The peer may be given the message out of order. */
 #define DCSCTP_SEND_UNORDERED 1u
@@ -636,13 +662,13 @@ int32_t dcsctp_reset_streams(dcsctp_socket *socket, const uint16_t *stream_ids, 
     DCSCTP_CHECKED_CALL;
 
 /* Writes how many bytes wait to be sent on a stream. Error: NO_SOCKET. */
-int32_t dcsctp_buffered_amount(dcsctp_socket *socket, uint16_t stream_id, size_t *bytes)
+int32_t dcsctp_buffered_amount(const dcsctp_socket *socket, uint16_t stream_id, size_t *bytes)
     DCSCTP_CALL;
 
 /* The low threshold of a stream: DCSCTP_EVENT_BUFFERED_AMOUNT_LOW comes when what waits on it falls
  * from above the threshold to it or below. It outlasts an association.
  * Errors: NO_SOCKET, and where it is set FAILED and OUT_OF_MEMORY, too. */
-int32_t dcsctp_buffered_amount_low_threshold(dcsctp_socket *socket, uint16_t stream_id,
+int32_t dcsctp_buffered_amount_low_threshold(const dcsctp_socket *socket, uint16_t stream_id,
                                              size_t *bytes) DCSCTP_CALL;
 int32_t dcsctp_set_buffered_amount_low_threshold(dcsctp_socket *socket, uint16_t stream_id,
                                                  size_t bytes) DCSCTP_CHECKED_CALL;
@@ -652,8 +678,8 @@ int32_t dcsctp_set_buffered_amount_low_threshold(dcsctp_socket *socket, uint16_t
  * messages.
  * So give a stream that must not wait a greater priority. It outlasts an association.
  * Errors: NO_SOCKET, and where it is set FAILED and OUT_OF_MEMORY, too. */
-int32_t dcsctp_get_stream_priority(dcsctp_socket *socket, uint16_t stream_id, uint16_t *priority)
-    DCSCTP_CALL;
+int32_t dcsctp_get_stream_priority(const dcsctp_socket *socket, uint16_t stream_id,
+                                   uint16_t *priority) DCSCTP_CALL;
 int32_t dcsctp_set_stream_priority(dcsctp_socket *socket, uint16_t stream_id, uint16_t priority)
     DCSCTP_CHECKED_CALL;
 
@@ -667,17 +693,17 @@ DCSCTP_ENUM(dcsctp_socket_state, int32_t) {
 };
 
 /* The state: DCSCTP_STATE_.. Error: NO_SOCKET. */
-int32_t dcsctp_state(dcsctp_socket *socket) DCSCTP_CALL;
+int32_t dcsctp_state(const dcsctp_socket *socket) DCSCTP_CALL;
 
 /* Has an allocation failed, so that the socket is of no more use? 1 or 0. Error: NO_SOCKET. */
-int32_t dcsctp_has_failed(dcsctp_socket *socket) DCSCTP_CALL;
+int32_t dcsctp_has_failed(const dcsctp_socket *socket) DCSCTP_CALL;
 
 /* Sets how long a message may be from now on. Error: NO_SOCKET. */
 int32_t dcsctp_set_max_message_size(dcsctp_socket *socket, size_t bytes) DCSCTP_CALL;
 
 /* Writes the options of the socket, where `size` is set. `max_message_size` is as it was set last,
  * a switch is 0 or 1, and `reserved` is 0. Errors: WRONG_SIZE, NO_SOCKET. */
-int32_t dcsctp_get_options(dcsctp_socket *socket, dcsctp_options *options) DCSCTP_CALL;
+int32_t dcsctp_get_options(const dcsctp_socket *socket, dcsctp_options *options) DCSCTP_CALL;
 
 DCSCTP_ENUM(dcsctp_peer, uint32_t) {
     DCSCTP_PEER_UNKNOWN = 0,   /* its cookie doesn't tell, or it sent no INIT ACK */
@@ -710,7 +736,19 @@ typedef struct dcsctp_metrics {
 
 /* Writes the metrics, where `size` is set: 1. Where the peer isn't known: 0, and nothing is
  * written. Errors: WRONG_SIZE, NO_SOCKET. */
-int32_t dcsctp_get_metrics(dcsctp_socket *socket, dcsctp_metrics *metrics) DCSCTP_CALL;
+int32_t dcsctp_get_metrics(const dcsctp_socket *socket, dcsctp_metrics *metrics) DCSCTP_CALL;
+
+/* What a socket has counted in its whole life. */
+typedef struct dcsctp_counts {
+    size_t size;              /* sizeof(dcsctp_counts) */
+    size_t rx_packets_count;  /* packets handed in, readable or not */
+    size_t tx_packets_count;  /* packets sent */
+    size_t tx_messages_count; /* messages that dcsctp_send took */
+} dcsctp_counts;
+
+/* Writes the counts, where `size` is set, whatever the state: an association that has ended doesn't
+ * matter. Errors: WRONG_SIZE, NO_SOCKET. */
+int32_t dcsctp_get_counts(const dcsctp_socket *socket, dcsctp_counts *counts) DCSCTP_CALL;
 
 /* ---- Handover to another process ------------------------------------------------------------ */
 
@@ -728,10 +766,10 @@ int32_t dcsctp_get_metrics(dcsctp_socket *socket, dcsctp_metrics *metrics) DCSCT
 
 /* Writes the reasons why the socket can't be handed over now, added up; 0: it can. A closed socket
  * can. With `enable_handover_with_outstanding_data`, data that is sent may be unfinished. Messages
- * that are ready are no reason, but a handover loses them: take them first. While a peer sends long
- * messages and some packets are lost, it is 0 only now and then: ask after each packet.
+ * that are ready are no reason, but the snapshot lacks them: take them first. While a peer sends
+ * long messages and some packets are lost, it is 0 only now and then: ask after each packet.
  * Error: NO_SOCKET. */
-int32_t dcsctp_get_handover_readiness(dcsctp_socket *socket, uint32_t *reasons) DCSCTP_CALL;
+int32_t dcsctp_get_handover_readiness(const dcsctp_socket *socket, uint32_t *reasons) DCSCTP_CALL;
 
 /* Takes a snapshot of the socket, from which dcsctp_restore_from_state goes on in another process,
  * and ends the association here. The peer isn't told, and the last event is DCSCTP_EVENT_CLOSED; on
@@ -742,11 +780,12 @@ int32_t dcsctp_get_handover_readiness(dcsctp_socket *socket, uint32_t *reasons) 
 int32_t dcsctp_get_handover_state_and_close(dcsctp_socket *socket) DCSCTP_CHECKED_CALL;
 
 /* Copies the snapshot that was taken last, and writes its length. Its bytes are for a socket of the
- * same version of this library. Keep them as secret as the messages.
+ * same version of this library. They end with some of the options, and with a check value, CRC32c.
+ * Keep them as secret as the messages.
  *
  * Errors: NO_SOCKET, BUFFER_TOO_SMALL, NOTHING_TO_COPY, OUT_OF_MEMORY. After OUT_OF_MEMORY nothing
  * has changed, and the call may be tried again. */
-int32_t dcsctp_handover_bytes(dcsctp_socket *socket, uint8_t *buffer, size_t capacity,
+int32_t dcsctp_handover_bytes(const dcsctp_socket *socket, uint8_t *buffer, size_t capacity,
                               size_t *length) DCSCTP_CHECKED_CALL;
 
 /* Goes on from a snapshot that another socket with these options gave: DCSCTP_EVENT_CONNECTED
@@ -756,12 +795,13 @@ int32_t dcsctp_handover_bytes(dcsctp_socket *socket, uint8_t *buffer, size_t cap
  * before may be judged too young or too old. Restore only what you trust: a forged
  * snapshot can make an association, and can take long to check.
  *
- * That the options are the same is up to you. One alone is compared: INVALID_SNAPSHOT if
- * `zero_checksum_method` is 0, and the association goes without checksums. The others count from
- * now on, but what was negotiated stays. With other ports the peer reads no packet, or this end.
+ * OTHER_OPTIONS: this socket has other ports, announces another number of streams, or differs in
+ * `enable_partial_reliability`, `enable_message_interleaving` or `zero_checksum_method`. The other
+ * options aren't compared, and count from now on. INVALID_SNAPSHOT: a byte was changed, is missing
+ * or was added. The check value finds what goes wrong on the way, but not who means to change it.
  *
- * Errors: NO_SOCKET, NOT_CLOSED, INVALID_SNAPSHOT, FAILED, OUT_OF_MEMORY. If there is no memory to
- * read the bytes, nothing has changed, and the call may be tried again. */
+ * Errors: NO_SOCKET, NOT_CLOSED, INVALID_SNAPSHOT, OTHER_OPTIONS, FAILED, OUT_OF_MEMORY. If there
+ * is no memory to read the bytes, nothing has changed, and the call may be tried again. */
 int32_t dcsctp_restore_from_state(dcsctp_socket *socket, const uint8_t *bytes, size_t length)
     DCSCTP_CHECKED_CALL;
 

@@ -14,6 +14,8 @@ static void calls_without_socket(const char *name, dcsctp_socket *socket) {
     dcsctp_message message;
     dcsctp_options options;
     dcsctp_metrics metrics;
+    dcsctp_counts counts;
+    const uint8_t *view = before;
     size_t size = 77;
     uint64_t moment = 77;
     uint16_t priority = 77;
@@ -26,8 +28,11 @@ static void calls_without_socket(const char *name, dcsctp_socket *socket) {
     memset(&metrics, 77, sizeof metrics);
     options.size = sizeof options;
     metrics.size = sizeof metrics;
+    memset(&counts, 77, sizeof counts);
+    counts.size = sizeof counts;
     const dcsctp_options options_before = options;
     const dcsctp_metrics metrics_before = metrics;
+    const dcsctp_counts counts_before = counts;
     const int32_t results[] = {
         dcsctp_connect(socket),
         dcsctp_shutdown(socket),
@@ -37,10 +42,12 @@ static void calls_without_socket(const char *name, dcsctp_socket *socket) {
         dcsctp_poll_timeout(socket, &moment),
         dcsctp_poll_event(socket, &event),
         dcsctp_event_bytes(socket, bytes, sizeof bytes, &size),
+        dcsctp_event_view(socket, &view, &size),
         dcsctp_event_streams(socket, streams, 2, &size),
         dcsctp_messages_ready_count(socket, &size),
         dcsctp_get_next_message(socket, &message),
         dcsctp_message_bytes(socket, bytes, sizeof bytes, &size),
+        dcsctp_message_view(socket, &view, &size),
         dcsctp_send(socket, 1, 51, before, 5, &how),
         dcsctp_send_many(socket, &outgoing, 1, &how, &result, 1),
         dcsctp_reset_streams(socket, &one_stream, 1),
@@ -54,13 +61,14 @@ static void calls_without_socket(const char *name, dcsctp_socket *socket) {
         dcsctp_set_max_message_size(socket, 5),
         dcsctp_get_options(socket, &options),
         dcsctp_get_metrics(socket, &metrics),
+        dcsctp_get_counts(socket, &counts),
         dcsctp_get_handover_readiness(socket, &reasons),
         dcsctp_get_handover_state_and_close(socket),
         dcsctp_handover_bytes(socket, bytes, sizeof bytes, &size),
         dcsctp_restore_from_state(socket, before, sizeof before),
     };
-    /* All 33, but for version, get_default_options, create and destroy. */
-    EQUAL(name, sizeof results / sizeof results[0], 29);
+    /* All 36, but for version, get_default_options, create and destroy. */
+    EQUAL(name, sizeof results / sizeof results[0], 32);
     for (size_t i = 0; i < sizeof results / sizeof results[0]; i++)
         EQUAL(name, results[i], DCSCTP_ERROR_NO_SOCKET);
     EQUAL(name, size, 77);
@@ -75,6 +83,8 @@ static void calls_without_socket(const char *name, dcsctp_socket *socket) {
     EQUAL(name, memcmp(&message, before, sizeof message), 0);
     EQUAL(name, memcmp(&options, &options_before, sizeof options), 0);
     EQUAL(name, memcmp(&metrics, &metrics_before, sizeof metrics), 0);
+    EQUAL(name, memcmp(&counts, &counts_before, sizeof counts), 0);
+    EQUAL(name, view == before, 1);
     dcsctp_destroy(socket);
 }
 

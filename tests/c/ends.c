@@ -169,10 +169,11 @@ static size_t ready_count(struct end *end) {
 
 /* Connects, and sends two messages to B, the second of which is `last` bytes long. A is told that
  * both were delivered. */
-static void deliver_two(size_t last) {
-    const dcsctp_options options = quiet_options();
+static void deliver_two(size_t last, uint32_t follow_rfc) {
+    dcsctp_options options = quiet_options();
     const dcsctp_send_options how = {.lifecycle_id = 7};
     static const uint8_t bytes[100];
+    options.follow_rfc = follow_rfc;
     connect_pair(&pair, &options, &options);
     EQUAL("send", dcsctp_send(&pair.a.socket, 1, 51, bytes, 10, &how), DCSCTP_OK);
     EQUAL("send", dcsctp_send(&pair.a.socket, 1, 51, bytes, last, &how), DCSCTP_OK);
@@ -183,9 +184,9 @@ static void deliver_two(size_t last) {
     EQUAL("both are ready", ready_count(&pair.b), 2);
 }
 
-/* Of two messages one is taken, and the other isn't: that one is gone once the association has
- * ended, or the peer began anew. The bytes of the first can still be copied. */
-static void untaken_messages(void) {
+/* Of two messages one is taken, and the other isn't. That one is gone once the association has ended,
+ * but by `follow_rfc` only once the peer began anew. The bytes of the first can still be copied. */
+static void untaken_messages(uint32_t follow_rfc) {
     const struct {
         const char *name;
         void (*end)(void);
@@ -202,24 +203,27 @@ static void untaken_messages(void) {
         uint8_t bytes[100];
         dcsctp_message message;
         size_t length = 77;
-        deliver_two(20);
+        const int is_kept = follow_rfc && rows[i].state == DCSCTP_STATE_CLOSED;
+        deliver_two(20, follow_rfc);
         EQUAL(rows[i].name, dcsctp_get_next_message(&pair.b.socket, &message), 1);
         rows[i].end();
         EQUAL(rows[i].name, dcsctp_state(&pair.b.socket), rows[i].state);
-        EQUAL(rows[i].name, ready_count(&pair.b), 0);
+        EQUAL(rows[i].name, ready_count(&pair.b), (size_t)is_kept);
         EQUAL(rows[i].name, dcsctp_message_bytes(&pair.b.socket, bytes, 100, &length), DCSCTP_OK);
         EQUAL(rows[i].name, length, 10);
-        EQUAL(rows[i].name, dcsctp_get_next_message(&pair.b.socket, &message), 0);
+        EQUAL(rows[i].name, dcsctp_get_next_message(&pair.b.socket, &message), is_kept);
+        EQUAL(rows[i].name, message.length, is_kept ? 20 : 0);
         destroy_pair(&pair);
     }
 }
 
 /* A message and an ABORT arrive one after the other. The message is there if it is taken between
- * the two. If both come in one packet, it can't be. */
-static void message_before_an_abort(void) {
+ * the two. If both come in one packet, it is by `follow_rfc` alone. */
+static void message_before_an_abort(uint32_t follow_rfc) {
     static const uint8_t abort_chunk[] = {6, 0, 0, 4};
-    const dcsctp_options options = quiet_options();
+    dcsctp_options options = quiet_options();
     uint8_t packet[100];
+    options.follow_rfc = follow_rfc;
     for (int together = 0; together <= 1; together++) {
         connect_pair(&pair, &options, &options);
         EQUAL("send", send_bytes(&pair.a, 1, 10), DCSCTP_OK);
@@ -232,7 +236,7 @@ static void message_before_an_abort(void) {
             put_checksum(packet, length);
         }
         EQUAL("handled", dcsctp_handle_input(&pair.b.socket, packet, length), DCSCTP_OK);
-        EQUAL("the message", take_messages(&pair.b, 10), together ? 0 : 1);
+        EQUAL("the message", take_messages(&pair.b, 10), !together || follow_rfc);
         if (!together)
             EQUAL("ABORT", forge(&pair.b, packet, abort_chunk, sizeof abort_chunk), DCSCTP_OK);
         EQUAL("closed", dcsctp_state(&pair.b.socket), DCSCTP_STATE_CLOSED);
@@ -247,8 +251,10 @@ int main(void) {
     data_before_a_round_trip();
     data_after_a_round_trip();
     no_end_of_a_shutdown();
-    untaken_messages();
-    message_before_an_abort();
+    for (uint32_t follow_rfc = 0; follow_rfc <= 1; follow_rfc++) {
+        untaken_messages(follow_rfc);
+        message_before_an_abort(follow_rfc);
+    }
     puts("ends: as dcsctp.h says");
     return 0;
 }

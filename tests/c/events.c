@@ -55,23 +55,6 @@ static void shut_down(void) {
     destroy_pair(&pair);
 }
 
-/* A message that wasn't taken goes with its association. */
-static void untaken(void) {
-    const dcsctp_options options = quiet_options();
-    size_t count = 77;
-    connect_pair(&pair, &options, &options);
-    EQUAL("send", send_bytes(&pair.a, 1, 10), DCSCTP_OK);
-    settle(&pair);
-    EQUAL("count", dcsctp_messages_ready_count(&pair.b.socket, &count), DCSCTP_OK);
-    EQUAL("ready", count, 1);
-    EQUAL("close", dcsctp_close(&pair.a.socket), DCSCTP_OK);
-    settle(&pair);
-    EQUAL("count", dcsctp_messages_ready_count(&pair.b.socket, &count), DCSCTP_OK);
-    EQUAL("lost", count, 0);
-    EQUAL("none to take", take_messages(&pair.b, 10), 0);
-    destroy_pair(&pair);
-}
-
 /* An ABORT (RFC 9260, section 9.1). */
 static void closed(void) {
     const dcsctp_options options = quiet_options();
@@ -510,7 +493,6 @@ static void reset_while_messages_wait(void) {
 int main(void) {
     connected();
     shut_down();
-    untaken();
     closed();
     restarted();
     errors();

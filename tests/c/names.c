@@ -39,6 +39,7 @@ static void errors(void) {
         {DCSCTP_ERROR_NOT_CLOSED, -16, "the socket isn't closed"},
         {DCSCTP_ERROR_INVALID_SEND_OPTIONS, -17, "the message can't be sent with these options"},
         {DCSCTP_ERROR_WRONG_SIZE, -18, "the struct has another size in the library"},
+        {DCSCTP_ERROR_OTHER_OPTIONS, -19, "the snapshot is of a socket with other options"},
     };
     for (size_t i = 0; i < COUNT(rows); i++) {
         EQUAL(rows[i].text, rows[i].name, rows[i].number);

@@ -205,6 +205,7 @@ static void other_sizes(void) {
         {"metrics without size", sizeof(dcsctp_metrics) - sizeof(size_t)},
         {"a field more in the options", sizeof(dcsctp_options) + sizeof(uint64_t)},
         {"a field more in the metrics", sizeof(dcsctp_metrics) + sizeof(uint64_t)},
+        {"a field more in the counts", sizeof(dcsctp_counts) + sizeof(uint64_t)},
         {"mtu in the place of size", 1191},
         {"the greatest", SIZE_MAX},
     };
@@ -224,8 +225,10 @@ static void other_sizes(void) {
         EQUAL("a second socket", dcsctp_create(of_a, at, seed, BEGIN), DCSCTP_ERROR_ALREADY_CREATED);
         EQUAL(rows[i].name, dcsctp_get_options(of_a, at), DCSCTP_ERROR_WRONG_SIZE);
         EQUAL(rows[i].name, dcsctp_get_metrics(of_a, at), DCSCTP_ERROR_WRONG_SIZE);
+        EQUAL(rows[i].name, dcsctp_get_counts(of_a, at), DCSCTP_ERROR_WRONG_SIZE);
         EQUAL("no socket", dcsctp_get_options(&none, at), DCSCTP_ERROR_WRONG_SIZE);
         EQUAL("no socket", dcsctp_get_metrics(&none, at), DCSCTP_ERROR_WRONG_SIZE);
+        EQUAL("no socket", dcsctp_get_counts(&none, at), DCSCTP_ERROR_WRONG_SIZE);
         EQUAL("as before", memcmp(at, &rows[i].size, sizeof(size_t)), 0);
     }
     destroy_pair(&pair);
@@ -236,26 +239,33 @@ static void other_sizes(void) {
 static void all_sizes(void) {
     dcsctp_options defaults, given, own, options_before;
     dcsctp_metrics metrics, metrics_before;
+    dcsctp_counts counts, counts_before;
     struct end end;
     memset(&options_before, 77, sizeof options_before);
     memset(&metrics_before, 77, sizeof metrics_before);
+    memset(&counts_before, 77, sizeof counts_before);
     dcsctp_options_init(&defaults);
     connect_pair(&pair, &defaults, &defaults);
     for (size_t size = 0; size < 4096; size++) {
         const int is_options = size == sizeof given, is_metrics = size == sizeof metrics;
         const int32_t result = is_options ? DCSCTP_OK : DCSCTP_ERROR_WRONG_SIZE;
-        defaults.size = options_before.size = metrics_before.size = size;
+        const int32_t counted = size == sizeof counts ? DCSCTP_OK : DCSCTP_ERROR_WRONG_SIZE;
+        defaults.size = options_before.size = metrics_before.size = counts_before.size = size;
         given = own = options_before;
         metrics = metrics_before;
+        counts = counts_before;
         EQUAL("create", create(&end, &defaults, 1, BEGIN), result);
         EQUAL("default options", dcsctp_get_default_options(&given), result);
         EQUAL("options", dcsctp_get_options(&pair.a.socket, &own), result);
         EQUAL("metrics", dcsctp_get_metrics(&pair.a.socket, &metrics),
               is_metrics ? 1 : DCSCTP_ERROR_WRONG_SIZE);
+        EQUAL("counts", dcsctp_get_counts(&pair.a.socket, &counts), counted);
         EQUAL("size", given.size == size && own.size == size && metrics.size == size, 1);
+        EQUAL("size", counts.size, size);
         EQUAL("written", memcmp(&given, &options_before, sizeof given) != 0, is_options);
         EQUAL("written", memcmp(&own, &options_before, sizeof own) != 0, is_options);
         EQUAL("written", memcmp(&metrics, &metrics_before, sizeof metrics) != 0, is_metrics);
+        EQUAL("written", memcmp(&counts, &counts_before, sizeof counts) != 0, counted == DCSCTP_OK);
         dcsctp_destroy(&end.socket);
     }
     destroy_pair(&pair);

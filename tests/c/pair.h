@@ -109,6 +109,13 @@ static inline uint32_t take(struct end *end) {
     return event.kind;
 }
 
+/* Takes events until a packet comes, which has to. */
+static inline void take_packet(struct end *end) {
+    uint32_t kind;
+    while ((kind = take(end)) != DCSCTP_EVENT_SEND_PACKET)
+        EQUAL("an event before the packet", kind != DCSCTP_EVENT_NONE, 1);
+}
+
 /* Takes all events of an end. Its packets go to the other end, or are lost where that is NULL.
  * Returns how many packets there were. */
 static inline size_t carry(struct end *from, struct end *to) {
@@ -209,18 +216,28 @@ static inline void put_u32(uint8_t *bytes, uint32_t number) {
     put_u16(bytes + 2, number);
 }
 
-/* Puts the CRC32c of a packet into its header (RFC 9260, appendix A), bit by bit. */
-static inline void put_checksum(uint8_t *packet, size_t length) {
+/* The CRC32c of bytes (RFC 9260, appendix A), bit by bit. */
+static inline uint32_t crc32c(const uint8_t *bytes, size_t length) {
     uint32_t crc = 0xffffffff;
-    memset(packet + 8, 0, 4);
     for (size_t i = 0; i < length; i++) {
-        crc ^= packet[i];
+        crc ^= bytes[i];
         for (int bit = 0; bit < 8; bit++)
             crc = crc & 1 ? crc >> 1 ^ 0x82f63b78 : crc >> 1;
     }
-    crc = ~crc;
+    return ~crc;
+}
+
+/* Puts its CRC32c into the header of a packet. */
+static inline void put_checksum(uint8_t *packet, size_t length) {
+    memset(packet + 8, 0, 4);
+    uint32_t crc = crc32c(packet, length);
     for (int i = 0; i < 4; i++)
         packet[8 + i] = (uint8_t)(crc >> 8 * i);
+}
+
+/* Puts the right check value at the end of a snapshot that was changed. */
+static inline void put_check_value(uint8_t *snapshot, size_t length) {
+    put_u32(snapshot + length - 4, crc32c(snapshot, length - 4));
 }
 
 /* Hands an end a packet with one chunk. `sample` is a packet that came from its peer, or 12 bytes

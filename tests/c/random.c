@@ -46,7 +46,7 @@ static void check(struct side *side, const char *call, int32_t result, int32_t g
                   int is_command, long refused_before) {
     int32_t failed = dcsctp_has_failed(&side->socket);
     EQUAL(call, (result == DCSCTP_ERROR_NO_SOCKET) == !side->exists, 1);
-    EQUAL(call, result <= greatest && result >= DCSCTP_ERROR_NOT_CLOSED, 1);
+    EQUAL(call, result <= greatest && result >= DCSCTP_ERROR_OTHER_OPTIONS, 1);
     if (!side->exists)
         return;
     EQUAL(call, result != DCSCTP_ERROR_OUT_OF_MEMORY || refusals > refused_before, 1);
@@ -89,7 +89,8 @@ static void make(struct side *side) {
 }
 
 /* Copies by one of the calls that copy, to a buffer of random size. What is behind stays. */
-static void copy(struct side *side, int32_t (*call)(dcsctp_socket *, uint8_t *, size_t, size_t *),
+static void copy(struct side *side,
+                 int32_t (*call)(const dcsctp_socket *, uint8_t *, size_t, size_t *),
                  const char *name, size_t wanted) {
     static uint8_t buffer[ROOM];
     size_t capacity = below(2) ? ROOM : below(ROOM), length = 77;
@@ -205,17 +206,42 @@ static void hand_over(struct side *side) {
         snapshot_length = length;
 }
 
+/* Gives a snapshot the options of the socket that takes it, as far as they vary here. */
+static void fit_options(struct side *side, uint8_t *bytes) {
+    dcsctp_options options;
+    options.size = sizeof options;
+    if (dcsctp_get_options(&side->socket, &options) != DCSCTP_OK)
+        return;
+    bytes[snapshot_length - 9] = (uint8_t)options.enable_message_interleaving;
+    put_u32(bytes + snapshot_length - 8, options.zero_checksum_method);
+    put_check_value(bytes, snapshot_length);
+}
+
 static void restore(struct side *side) {
     static uint8_t bytes[sizeof snapshot];
     memcpy(bytes, snapshot, snapshot_length);
-    if (snapshot_length > 0 && below(3) == 0)
+    if (snapshot_length > 0 && below(2) == 0)
+        fit_options(side, bytes);
+    if (snapshot_length > 0 && below(3) == 0) {
         bytes[below(snapshot_length)] = (uint8_t)below(256);
+        if (below(4) > 0)
+            put_check_value(bytes, snapshot_length);
+    }
     long before = refusals;
     int32_t result = dcsctp_restore_from_state(&side->socket, bytes, snapshot_length);
     EQUAL("restore", result == DCSCTP_OK || result < 0, 1);
     /* bytes that are refused are so on a socket that has failed, too */
-    if (result != DCSCTP_ERROR_INVALID_SNAPSHOT)
+    if (result != DCSCTP_ERROR_INVALID_SNAPSHOT && result != DCSCTP_ERROR_OTHER_OPTIONS)
         check(side, "restore", result, 0, 1, before);
+}
+
+/* The message that is shown has the bytes that are copied. */
+static void compare_view(struct side *side, const uint8_t *bytes, size_t size, size_t wanted) {
+    static uint8_t copied[ROOM];
+    size_t length = 0;
+    EQUAL("the length of a view", size, wanted);
+    if (dcsctp_message_bytes(&side->socket, copied, ROOM, &length) == DCSCTP_OK)
+        EQUAL("the bytes of a view", memcmp(bytes, copied, length), 0);
 }
 
 static void query(struct side *side) {
@@ -223,18 +249,26 @@ static void query(struct side *side) {
     size_t size;
     uint32_t reasons;
     dcsctp_metrics metrics;
+    dcsctp_counts counts;
     dcsctp_options options;
     dcsctp_message message = {0, 0, 0, 0};
     metrics.size = sizeof metrics;
+    counts.size = sizeof counts;
     options.size = sizeof options;
     const long before = refusals;
     check(side, "poll_timeout", dcsctp_poll_timeout(&side->socket, &moment), 0, 0, before);
     check(side, "state", dcsctp_state(&side->socket), 3, 0, before);
     check(side, "ready", dcsctp_messages_ready_count(&side->socket, &size), 0, 0, before);
     check(side, "metrics", dcsctp_get_metrics(&side->socket, &metrics), 1, 0, before);
+    check(side, "counts", dcsctp_get_counts(&side->socket, &counts), 0, 0, before);
     check(side, "options", dcsctp_get_options(&side->socket, &options), 0, 0, before);
     check(side, "readiness", dcsctp_get_handover_readiness(&side->socket, &reasons), 0, 0, before);
     check(side, "message", dcsctp_get_next_message(&side->socket, &message), 1, 0, before);
+    const uint8_t *bytes = NULL;
+    int32_t result = dcsctp_message_view(&side->socket, &bytes, &size);
+    check(side, "message_view", result, 0, 0, before);
+    if (result == DCSCTP_OK && message.length > 0)
+        compare_view(side, bytes, size, message.length);
     EQUAL("no query allocates", refusals, before);
     if (side->exists)
         copy(side, dcsctp_message_bytes, "message_bytes", message.length);

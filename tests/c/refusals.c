@@ -44,6 +44,7 @@ static void check_failed(struct end *end) {
     uint32_t reasons;
     dcsctp_options options;
     dcsctp_metrics metrics;
+    dcsctp_counts counts;
     const int32_t commands[] = {
         dcsctp_connect(socket),
         dcsctp_shutdown(socket),
@@ -64,6 +65,7 @@ static void check_failed(struct end *end) {
           DCSCTP_ERROR_INVALID_SEND_OPTIONS);
     options.size = sizeof options;
     metrics.size = sizeof metrics;
+    counts.size = sizeof counts;
     const long before = allocations;
     EQUAL("has_failed", dcsctp_has_failed(socket), 1);
     EQUAL("state", dcsctp_state(socket) >= DCSCTP_STATE_CLOSED, 1);
@@ -75,6 +77,7 @@ static void check_failed(struct end *end) {
     EQUAL("options", dcsctp_get_options(socket, &options), DCSCTP_OK);
     EQUAL("a new limit", dcsctp_set_max_message_size(socket, 5), DCSCTP_OK);
     EQUAL("metrics", dcsctp_get_metrics(socket, &metrics) >= 0, 1);
+    EQUAL("counts", dcsctp_get_counts(socket, &counts), DCSCTP_OK);
     EQUAL("readiness", dcsctp_get_handover_readiness(socket, &reasons), DCSCTP_OK);
     carry(end, NULL);
     dcsctp_message message;
@@ -113,6 +116,10 @@ static int deliver(struct end *from, struct end *to, size_t *packets) {
     for (;;) {
         const long before = allocations;
         uint32_t kind = take(from);
+        const uint8_t *view;
+        size_t length;
+        if (kind == DCSCTP_EVENT_SEND_PACKET)
+            EQUAL("a view", dcsctp_event_view(&from->socket, &view, &length), DCSCTP_OK);
         EQUAL("nothing is allocated", allocations, before);
         if (kind == DCSCTP_EVENT_NONE)
             return 1;

@@ -3,7 +3,8 @@
 #include <dcsctp.h>
 
 static void results(dcsctp_socket *socket, const dcsctp_options *options, uint8_t *bytes,
-                    size_t *length, uint16_t *streams, const dcsctp_send_options *how) {
+                    const uint8_t **view, size_t *length, uint16_t *streams,
+                    const dcsctp_send_options *how) {
     const dcsctp_outgoing_message outgoing = {bytes, 5, 51, 1, 0};
     int32_t result;
     uint64_t moment;
@@ -16,8 +17,10 @@ static void results(dcsctp_socket *socket, const dcsctp_options *options, uint8_
     dcsctp_handle_input(socket, bytes, 5);                          /* warned */
     dcsctp_advance_time(socket, 5);                                 /* warned */
     dcsctp_event_bytes(socket, bytes, 5, length);                   /* warned */
+    dcsctp_event_view(socket, view, length);                        /* warned */
     dcsctp_event_streams(socket, streams, 5, length);               /* warned */
     dcsctp_message_bytes(socket, bytes, 5, length);                 /* warned */
+    dcsctp_message_view(socket, view, length);                      /* warned */
     dcsctp_send(socket, 1, 51, bytes, 5, how);                      /* warned */
     dcsctp_send_many(socket, &outgoing, 1, how, &result, 1);        /* warned */
     dcsctp_reset_streams(socket, streams, 5);                       /* warned */

@@ -1,1 +1,2 @@
 pub mod Exports
+pub mod Queries

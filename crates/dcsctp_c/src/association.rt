@@ -6,18 +6,18 @@ ghost use Rattle.dcsctp_session.specs.Calls.{Connected, ShutDown, Closed, InputH
 ghost use Rattle.dcsctp_session.specs.Many.{ManySent};
 ghost use Rattle.dcsctp_c.specs.Exports.{Exported, Written};
 
-use crate::answers::number;
-use dcsctp_handle::{Handle, with_session};
+use dcsctp_handle::Handle;
 use dcsctp_session::{OutgoingRecord, SendOptionsRecord, Status};
-use std::alloc::Global;
-use std::mem::replace;
 
 /// Begins an association.
 #[unsafe(no_mangle)]
 pub extern "C" fn dcsctp_connect(handle: &mut Handle) -> i32
     ensures { Exported Connected handle.old.slot.value result handle.new.slot.value }
 {
-    number(with_session(handle, |session| session.connect()))
+    if !handle.is_open() {
+        return Status::NoSocket.number();
+    }
+    handle.slot.session().connect().number()
 }
 
 /// Shuts the association down.
@@ -25,7 +25,10 @@ pub extern "C" fn dcsctp_connect(handle: &mut Handle) -> i32
 pub extern "C" fn dcsctp_shutdown(handle: &mut Handle) -> i32
     ensures { Exported ShutDown handle.old.slot.value result handle.new.slot.value }
 {
-    number(with_session(handle, |session| session.shutdown()))
+    if !handle.is_open() {
+        return Status::NoSocket.number();
+    }
+    handle.slot.session().shutdown().number()
 }
 
 /// Ends the association at once.
@@ -33,7 +36,10 @@ pub extern "C" fn dcsctp_shutdown(handle: &mut Handle) -> i32
 pub extern "C" fn dcsctp_close(handle: &mut Handle) -> i32
     ensures { Exported Closed handle.old.slot.value result handle.new.slot.value }
 {
-    number(with_session(handle, |session| session.close()))
+    if !handle.is_open() {
+        return Status::NoSocket.number();
+    }
+    handle.slot.session().close().number()
 }
 
 /// Handles a packet from the peer.
@@ -41,7 +47,10 @@ pub extern "C" fn dcsctp_close(handle: &mut Handle) -> i32
 pub extern "C" fn dcsctp_handle_input(handle: &mut Handle, packet: &[u8]) -> i32
     ensures { Exported (InputHandled packet.now) handle.old.slot.value result handle.new.slot.value }
 {
-    number(with_session(handle, |session| session.handle_input(packet)))
+    if !handle.is_open() {
+        return Status::NoSocket.number();
+    }
+    handle.slot.session().handle_input(packet).number()
 }
 
 /// Sets the clock, and handles what is due.
@@ -49,7 +58,10 @@ pub extern "C" fn dcsctp_handle_input(handle: &mut Handle, packet: &[u8]) -> i32
 pub extern "C" fn dcsctp_advance_time(handle: &mut Handle, now: u64) -> i32
     ensures { Exported (Advanced now) handle.old.slot.value result handle.new.slot.value }
 {
-    number(with_session(handle, |session| session.advance_time(now)))
+    if !handle.is_open() {
+        return Status::NoSocket.number();
+    }
+    handle.slot.session().advance_time(now).number()
 }
 
 /// Sends a message.
@@ -64,16 +76,19 @@ pub extern "C" fn dcsctp_send(
     ensures { Exported (MessageSent (record { stream = stream_id; ppid = ppid; payload = payload.now }) options.now)
         handle.old.slot.value result handle.new.slot.value }
 {
-    number(with_session(
-        handle,
-        |session| session.send(stream_id, ppid, payload, options),
-    ))
+    if !handle.is_open() {
+        return Status::NoSocket.number();
+    }
+    handle
+        .slot
+        .session()
+        .send(stream_id, ppid, payload, options)
+        .number()
 }
 
 /// Sends several messages, and writes what became of each.
 #[unsafe(no_mangle)]
 pub extern "C" fn dcsctp_send_many(
-    alloc: Global,
     handle: &mut Handle,
     messages: &[OutgoingRecord],
     options: &SendOptionsRecord,
@@ -85,11 +100,8 @@ pub extern "C" fn dcsctp_send_many(
     if !handle.is_open() {
         return Status::NoSocket.number();
     }
-    // Not by `with_session`: a closure could say nothing of the results.
-    let mut session = replace(handle, Handle::closed(alloc)).into_session();
-    let status = session.send_many(messages, options, results);
-    *handle = Handle::of_box(session);
-    status.number()
+    let session = handle.slot.session();
+    session.send_many(messages, options, results).number()
 }
 
 /// Resets streams.
@@ -97,7 +109,10 @@ pub extern "C" fn dcsctp_send_many(
 pub extern "C" fn dcsctp_reset_streams(handle: &mut Handle, stream_ids: &[u16]) -> i32
     ensures { Exported (StreamsReset stream_ids.now) handle.old.slot.value result handle.new.slot.value }
 {
-    number(with_session(handle, |session| session.reset_streams(stream_ids)))
+    if !handle.is_open() {
+        return Status::NoSocket.number();
+    }
+    handle.slot.session().reset_streams(stream_ids).number()
 }
 
 /// Sets the priority of a stream.
@@ -110,10 +125,14 @@ pub extern "C" fn dcsctp_set_stream_priority(
     ensures { Exported (SettingMade (stream_priority stream_id priority)) handle.old.slot.value result
         handle.new.slot.value }
 {
-    number(with_session(
-        handle,
-        |session| session.set_stream_priority(stream_id, priority),
-    ))
+    if !handle.is_open() {
+        return Status::NoSocket.number();
+    }
+    handle
+        .slot
+        .session()
+        .set_stream_priority(stream_id, priority)
+        .number()
 }
 
 /// Sets the low threshold of a stream.
@@ -126,10 +145,14 @@ pub extern "C" fn dcsctp_set_buffered_amount_low_threshold(
     ensures { Exported (SettingMade (stream_low_threshold stream_id bytes)) handle.old.slot.value result
         handle.new.slot.value }
 {
-    number(with_session(
-        handle,
-        |session| session.set_buffered_amount_low_threshold(stream_id, bytes),
-    ))
+    if !handle.is_open() {
+        return Status::NoSocket.number();
+    }
+    handle
+        .slot
+        .session()
+        .set_buffered_amount_low_threshold(stream_id, bytes)
+        .number()
 }
 
 /// Sets how many bytes a message may have from now on.
@@ -137,5 +160,8 @@ pub extern "C" fn dcsctp_set_buffered_amount_low_threshold(
 pub extern "C" fn dcsctp_set_max_message_size(handle: &mut Handle, bytes: usize) -> i32
     ensures { Exported (SizeLimited bytes) handle.old.slot.value result handle.new.slot.value }
 {
-    number(with_session(handle, |session| session.set_max_message_size(bytes)))
+    if !handle.is_open() {
+        return Status::NoSocket.number();
+    }
+    handle.slot.session().set_max_message_size(bytes).number()
 }

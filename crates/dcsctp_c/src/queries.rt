@@ -1,4 +1,4 @@
-//! Queries.
+//! Queries. Each leaves its handle as it was, the two words too, so the header takes the socket as `const`.
 
 ghost use Rattle.std.specs.Prelude.{◌≡◌, min, length};
 ghost use Rattle.dcsctp_api.specs.spec.endpoint.TimeTurns.{next_moment};
@@ -6,59 +6,71 @@ ghost use Rattle.dcsctp_api.specs.Calls.{stream_shown};
 ghost use Rattle.dcsctp_api.specs.Messages.{ready_messages};
 ghost use Rattle.dcsctp_session.specs.Options.{never};
 ghost use Rattle.dcsctp_session.specs.Views.{view};
-ghost use Rattle.dcsctp_c.specs.Exports.{Written, Tells, AmountIs, ReadinessIs, WritesOptions, OptionsGiven, WritesMetrics, MetricsGiven, ReturnsState, ReturnsFailed};
+ghost use Rattle.dcsctp_c.specs.Queries.{Asked, Tells, AmountIs, ReadinessIs, TellsOptions, OptionsGiven, TellsMetrics, MetricsGiven, TellsCounts, CountsGiven, ReturnsState, ReturnsFailed};
 
-use crate::answers::{state_number, take, tell};
-use dcsctp_handle::{Handle, with_session};
-use dcsctp_session::{MetricsRecord, OptionsRecord, Status};
+use crate::answers::{state_number, take};
+use dcsctp_handle::Handle;
+use dcsctp_session::{CountsRecord, MetricsRecord, OptionsRecord, Status};
 
 /// The state of the association.
 #[unsafe(no_mangle)]
 pub extern "C" fn dcsctp_state(handle: &mut Handle) -> i32
-    ensures { ReturnsState handle.old.slot.value result handle.new.slot.value }
+    ensures answer { ReturnsState handle.old.slot.value result }
+    ensures same { handle.new ≡ handle.old }
 {
-    match with_session(handle, |session| session.state()) {
-        Some(state) => state_number(state),
-        None => Status::NoSocket.number(),
+    if !handle.is_open() {
+        return Status::NoSocket.number();
     }
+    state_number(handle.slot.session().state())
 }
 
 /// Did an allocation fail in an earlier call?
 #[unsafe(no_mangle)]
 pub extern "C" fn dcsctp_has_failed(handle: &mut Handle) -> i32
-    ensures { ReturnsFailed handle.old.slot.value result handle.new.slot.value }
+    ensures answer { ReturnsFailed handle.old.slot.value result }
+    ensures same { handle.new ≡ handle.old }
 {
-    match with_session(handle, |session| session.has_failed()) {
-        Some(true) => 1,
-        Some(false) => 0,
-        None => Status::NoSocket.number(),
+    if !handle.is_open() {
+        return Status::NoSocket.number();
+    }
+    if handle.slot.session().has_failed() {
+        1
+    } else {
+        0
     }
 }
 
 /// The socket's next deadline.
 #[unsafe(no_mangle)]
 pub extern "C" fn dcsctp_poll_timeout(handle: &mut Handle, moment: &mut u64) -> i32
-    ensures { Written (Tells (λ session told. told ≡ min (next_moment (view session).endpoint) never))
-        handle.old.slot.value moment.old result moment.new handle.new.slot.value }
+    ensures answer { Asked (Tells (λ session told. told ≡ min (next_moment (view session).endpoint) never))
+        handle.old.slot.value moment.old result moment.new }
+    ensures same { handle.new ≡ handle.old }
 {
-    tell(
-        with_session(handle, |session| session.poll_timeout()),
-        moment,
-    )
+    if !handle.is_open() {
+        return Status::NoSocket.number();
+    }
+    *moment = handle.slot.session().poll_timeout();
+    Status::Done.number()
 }
 
 // Writes the options of the socket, whatever the size that the record says.
 fn write_options(handle: &mut Handle, options: &mut OptionsRecord) -> i32
-    ensures { Written WritesOptions handle.old.slot.value options.old result options.new
-        handle.new.slot.value }
+    ensures answer { Asked TellsOptions handle.old.slot.value options.old result options.new }
+    ensures same { handle.new ≡ handle.old }
 {
-    tell(with_session(handle, |session| session.options()), options)
+    if !handle.is_open() {
+        return Status::NoSocket.number();
+    }
+    *options = handle.slot.session().options();
+    Status::Done.number()
 }
 
 /// The options of the socket, if the record has the size of the library's.
 #[unsafe(no_mangle)]
 pub extern "C" fn dcsctp_get_options(handle: &mut Handle, options: &mut OptionsRecord) -> i32
-    ensures { OptionsGiven handle.old.slot.value options.old result options.new handle.new.slot.value }
+    ensures answer { OptionsGiven handle.old.slot.value options.old result options.new }
+    ensures same { handle.new ≡ handle.old }
 {
     if !options.is_sized() {
         return Status::WrongSize.number();
@@ -73,13 +85,14 @@ pub extern "C" fn dcsctp_buffered_amount(
     stream_id: u16,
     bytes: &mut usize,
 ) -> i32
-    ensures { Written (Tells (AmountIs stream_id))
-        handle.old.slot.value bytes.old result bytes.new handle.new.slot.value }
+    ensures answer { Asked (Tells (AmountIs stream_id)) handle.old.slot.value bytes.old result bytes.new }
+    ensures same { handle.new ≡ handle.old }
 {
-    tell(
-        with_session(handle, |session| session.buffered_amount(stream_id)),
-        bytes,
-    )
+    if !handle.is_open() {
+        return Status::NoSocket.number();
+    }
+    *bytes = handle.slot.session().buffered_amount(stream_id);
+    Status::Done.number()
 }
 
 /// The low threshold of a stream.
@@ -89,16 +102,18 @@ pub extern "C" fn dcsctp_buffered_amount_low_threshold(
     stream_id: u16,
     bytes: &mut usize,
 ) -> i32
-    ensures { Written (Tells (λ session told. told ≡ (stream_shown (view session) stream_id).threshold))
-        handle.old.slot.value bytes.old result bytes.new handle.new.slot.value }
+    ensures answer { Asked (Tells (λ session told. told ≡ (stream_shown (view session) stream_id).threshold))
+        handle.old.slot.value bytes.old result bytes.new }
+    ensures same { handle.new ≡ handle.old }
 {
-    tell(
-        with_session(
-            handle,
-            |session| session.buffered_amount_low_threshold(stream_id),
-        ),
-        bytes,
-    )
+    if !handle.is_open() {
+        return Status::NoSocket.number();
+    }
+    *bytes = handle
+        .slot
+        .session()
+        .buffered_amount_low_threshold(stream_id);
+    Status::Done.number()
 }
 
 /// The priority of a stream.
@@ -108,41 +123,47 @@ pub extern "C" fn dcsctp_get_stream_priority(
     stream_id: u16,
     priority: &mut u16,
 ) -> i32
-    ensures { Written (Tells (λ session told. told ≡ (stream_shown (view session) stream_id).priority))
-        handle.old.slot.value priority.old result priority.new handle.new.slot.value }
+    ensures answer { Asked (Tells (λ session told. told ≡ (stream_shown (view session) stream_id).priority))
+        handle.old.slot.value priority.old result priority.new }
+    ensures same { handle.new ≡ handle.old }
 {
-    tell(
-        with_session(handle, |session| session.stream_priority(stream_id)),
-        priority,
-    )
+    if !handle.is_open() {
+        return Status::NoSocket.number();
+    }
+    *priority = handle.slot.session().stream_priority(stream_id);
+    Status::Done.number()
 }
 
 /// How many messages are ready to be taken.
 #[unsafe(no_mangle)]
 pub extern "C" fn dcsctp_messages_ready_count(handle: &mut Handle, count: &mut usize) -> i32
-    ensures { Written (Tells (λ session told. told ≡ length (ready_messages (view session).endpoint)))
-        handle.old.slot.value count.old result count.new handle.new.slot.value }
+    ensures answer { Asked (Tells (λ session told. told ≡ length (ready_messages (view session).endpoint)))
+        handle.old.slot.value count.old result count.new }
+    ensures same { handle.new ≡ handle.old }
 {
-    tell(
-        with_session(handle, |session| session.messages_ready_count()),
-        count,
-    )
+    if !handle.is_open() {
+        return Status::NoSocket.number();
+    }
+    *count = handle.slot.session().messages_ready_count();
+    Status::Done.number()
 }
 
 // Writes the metrics, where the peer is known, whatever the size that the record says.
-#[tactic(auto, using(crate::proofs::ExportLemmas::taken))]
 fn write_metrics(handle: &mut Handle, metrics: &mut MetricsRecord) -> i32
-    ensures { Written WritesMetrics handle.old.slot.value metrics.old result metrics.new
-        handle.new.slot.value }
+    ensures answer { Asked TellsMetrics handle.old.slot.value metrics.old result metrics.new }
+    ensures same { handle.new ≡ handle.old }
 {
-    let told = with_session(handle, |session| session.metrics());
-    take(told, *metrics, metrics)
+    if !handle.is_open() {
+        return Status::NoSocket.number();
+    }
+    take(handle.slot.session().metrics(), *metrics, metrics)
 }
 
 /// The metrics, where the peer is known, if the record has the size of the library's.
 #[unsafe(no_mangle)]
 pub extern "C" fn dcsctp_get_metrics(handle: &mut Handle, metrics: &mut MetricsRecord) -> i32
-    ensures { MetricsGiven handle.old.slot.value metrics.old result metrics.new handle.new.slot.value }
+    ensures answer { MetricsGiven handle.old.slot.value metrics.old result metrics.new }
+    ensures same { handle.new ≡ handle.old }
 {
     if !metrics.is_sized() {
         return Status::WrongSize.number();
@@ -150,14 +171,39 @@ pub extern "C" fn dcsctp_get_metrics(handle: &mut Handle, metrics: &mut MetricsR
     write_metrics(handle, metrics)
 }
 
+// Writes the counts, whatever the size that the record says.
+fn write_counts(handle: &mut Handle, counts: &mut CountsRecord) -> i32
+    ensures answer { Asked TellsCounts handle.old.slot.value counts.old result counts.new }
+    ensures same { handle.new ≡ handle.old }
+{
+    if !handle.is_open() {
+        return Status::NoSocket.number();
+    }
+    *counts = handle.slot.session().counts();
+    Status::Done.number()
+}
+
+/// What the socket has counted in its life, if the record has the size of the library's.
+#[unsafe(no_mangle)]
+pub extern "C" fn dcsctp_get_counts(handle: &mut Handle, counts: &mut CountsRecord) -> i32
+    ensures answer { CountsGiven handle.old.slot.value counts.old result counts.new }
+    ensures same { handle.new ≡ handle.old }
+{
+    if !counts.is_sized() {
+        return Status::WrongSize.number();
+    }
+    write_counts(handle, counts)
+}
+
 /// Why the socket can't be handed over now.
 #[unsafe(no_mangle)]
 pub extern "C" fn dcsctp_get_handover_readiness(handle: &mut Handle, reasons: &mut u32) -> i32
-    ensures { Written (Tells ReadinessIs)
-        handle.old.slot.value reasons.old result reasons.new handle.new.slot.value }
+    ensures answer { Asked (Tells ReadinessIs) handle.old.slot.value reasons.old result reasons.new }
+    ensures same { handle.new ≡ handle.old }
 {
-    tell(
-        with_session(handle, |session| session.handover_readiness()),
-        reasons,
-    )
+    if !handle.is_open() {
+        return Status::NoSocket.number();
+    }
+    *reasons = handle.slot.session().handover_readiness();
+    Status::Done.number()
 }

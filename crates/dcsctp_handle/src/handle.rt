@@ -1,12 +1,9 @@
 //! What a C or Rust caller has of a session.
 
 ghost use Rattle.std.specs.Prelude.{◌≡◌, ◌↔◌, true, Some, None, IsSome, IfOk};
-ghost use Rattle.std.specs.Fn.{FnOnceReturnsAtMut};
-ghost use Rattle.dcsctp_handle.specs.Calls.{OnSession};
 
 use crate::slot::Slot;
 use crate::words::Words;
-use core::mem::replace_with;
 use dcsctp_session::Session;
 use std::alloc::{AllocFailed, Global};
 
@@ -58,15 +55,6 @@ impl Handle {
     {
         self.mark == OPEN
     }
-
-    /// Its session. The handle is gone.
-    pub fn into_session(self) -> Box<Session>
-        requires { IsSome self.slot.value }
-        ensures { self.slot.value ≡ Some result.value }
-    {
-        let Handle { slot, mark: _ } = self;
-        slot.into_words().into_box()
-    }
 }
 
 /// Frees the session, too.
@@ -80,35 +68,4 @@ impl Drop for Handle {
             drop(slot.into_allocator());
         }
     }
-}
-
-// The call, on a handle by value: the handle afterwards, and the answer.
-fn on_session<R: Drop, F: FnOnce(&mut Session) -> R>(held: Handle, f: F) -> (Handle, Option<R>)
-    requires pre { (f : _) (x : _) → F.pre f x }
-    ensures { OnSession (λ old answer new. FnOnceReturnsAtMut F.FnOnce f old answer new)
-        held.slot.value result.1 result.0.slot.value }
-{
-    if !held.is_open() {
-        return (held, None);
-    }
-    let mut session = held.into_session();
-    let answer = f(&mut session);
-    (Handle::of_box(session), Some(answer))
-}
-
-/// Makes a call on the session of a handle, and gives its answer. `None`: the handle has no session.
-pub fn with_session<R: Drop, F: FnOnce(&mut Session) -> R>(handle: &mut Handle, f: F) -> Option<R>
-    requires pre { (f : _) (x : _) → F.pre f x }
-    ensures { OnSession (λ old answer new. FnOnceReturnsAtMut F.FnOnce f old answer new)
-        handle.old.slot.value result handle.new.slot.value }
-{
-    replace_with(
-        handle,
-        f,
-        |held, f|
-            requires { (f : _) (x : _) → F.pre f x }
-            ensures { OnSession (λ old answer new. FnOnceReturnsAtMut F.FnOnce f old answer new)
-                held.slot.value result.1 result.0.slot.value }
-        { on_session(held, f) },
-    )
 }

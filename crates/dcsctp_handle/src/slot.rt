@@ -1,6 +1,7 @@
 //! A box behind a raw pointer, or none.
 //!
-//! The four functions here and the two of `words` are all of the crate that is proved by hand.
+//! The four functions here, the two of `words` and the one of `lending` are all of the crate that is proved by
+//! hand.
 
 ghost use Rattle.std.specs.Prelude.{◌≡◌, Option, Some, None, IsSome};
 ghost use Rattle.dcsctp_session.specs.declared.session.Session.{Session};
@@ -14,7 +15,7 @@ use std::marker::Model;
 /// A pointer that owns a session, or owns nothing.
 #[repr(C)]
 pub struct Slot {
-    ptr: *mut u8,
+    pub(crate) ptr: *mut u8,
     alloc: Global,
     pub ghost value: { Option Session } by { slot_code },
 }

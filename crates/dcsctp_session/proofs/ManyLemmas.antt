@@ -48,6 +48,7 @@ fits statuses.NotConnected = refl
 fits statuses.NotSupported = refl
 fits statuses.NotReady = refl
 fits statuses.InvalidSnapshot = refl
+fits statuses.OtherOptions = refl
 fits statuses.NotClosed = refl
 fits statuses.InvalidSendOptions = refl
 fits statuses.WrongSize = refl

@@ -21,11 +21,12 @@ use Rattle.dcsctp_session.specs.declared.status.Status.{Status}
 use Rattle.dcsctp_session.specs.declared.status.Status.TheVariants as statuses
 use Rattle.dcsctp_session.specs.declared.options.OptionsRecord.{OptionsRecord}
 use Rattle.dcsctp_session.specs.declared.options.SendOptionsRecord.{SendOptionsRecord}
+use Rattle.dcsctp_session.specs.declared.records.CountsRecord.{CountsRecord}
 use Rattle.dcsctp_session.specs.declared.records.EventRecord.{EventRecord}
 use Rattle.dcsctp_session.specs.declared.records.MessageRecord.{MessageRecord}
 use Rattle.dcsctp_session.specs.declared.records.MetricsRecord.{MetricsRecord}
 use Rattle.dcsctp_session.specs.Options.{SaysOptions, SaysSendOptions, has_options_size, is_valid_sending}
-use Rattle.dcsctp_session.specs.Records.{event_record, message_record, SaysMetrics}
+use Rattle.dcsctp_session.specs.Records.{event_record, message_record, SaysMetrics, counts_size}
 use Rattle.dcsctp_session.specs.Status.{done_status, send_status, reset_status}
 use Rattle.dcsctp_session.specs.Views.{view, words_ahead, ahead, nothing_taken}
 
@@ -158,3 +159,10 @@ SaysShown (Some metrics) told = (numbers : MetricsRecord) × SaysMetrics numbers
 
 abbrev pub MetricsShown : Session → Option MetricsRecord → Type 0
 MetricsShown session told = (metrics : Option Metrics) × ShowsMetrics (view session).endpoint metrics × SaysShown metrics told
+
+-- The record says what was counted over the socket's life.
+pub record CountsShown (session : Session) (told : CountsRecord) : Type 0 where
+  pub size : told.size ≡ counts_size
+  pub received : told.rx_packets_count ≡ (view session).endpoint.counts.packets_received
+  pub sent : told.tx_packets_count ≡ (view session).endpoint.counts.packets_sent
+  pub queued : told.tx_messages_count ≡ (view session).endpoint.counts.messages_queued

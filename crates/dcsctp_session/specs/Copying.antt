@@ -1,5 +1,7 @@
 -- Copying to a buffer of the caller's, and from one.
 use Rattle.std.specs.Prelude.{◌≡◌, ◌<◌, ◌≤◌, ◌⊎◌, ◌++◌, ℕ, length, drop, List, Option, Some, None}
+use denote.RawPtr.{Ptr}
+use Rattle.std.specs.Global.{Vec}
 use Rattle.dcsctp_session.specs.declared.status.Status.{Status}
 use Rattle.dcsctp_session.specs.declared.status.Status.TheVariants as statuses
 
@@ -14,6 +16,11 @@ Copies numbers old status new told =
 abbrev pub CopiesTaken : Option (List ℕ) → List ℕ → Status → List ℕ → ℕ → Type 0
 CopiesTaken None old status new told = (status ≡ statuses.NothingToCopy) × (told ≡ 0) × (new ≡ old)
 CopiesTaken (Some numbers) old status new told = Copies numbers old status new told
+
+-- Where bytes lie is told, and how many there are: a `Vec` owns its items where its pointer is. Without any only a length of 0 is.
+abbrev pub ShowsPlace : Option (Vec ℕ) → Ptr → Status → Ptr → ℕ → Type 0
+ShowsPlace None old status new told = (status ≡ statuses.NothingToCopy) × (told ≡ 0) × (new ≡ old)
+ShowsPlace (Some bytes) old status new told = (status ≡ statuses.Done) × (told ≡ length bytes.items) × (new ≡ bytes.ptr)
 
 -- It is the whole of a message; or both are longer than a message may be, and then their length alone counts.
 abbrev pub IsFront : ℕ → List ℕ → List ℕ → Type 0

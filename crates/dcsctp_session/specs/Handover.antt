@@ -6,6 +6,8 @@ use Rattle.dcsctp_core.specs.types.Snapshot.{Snapshot, snapshot, is_valid_snapsh
 use Rattle.dcsctp_core.specs.types.declared.snapshot.SocketHandoverState.{SocketHandoverState}
 use Rattle.dcsctp_snapshot_bytes.specs.Spelling.{snapshot_bytes}
 use Rattle.dcsctp_snapshot_bytes.specs.Reading.{read_snapshot}
+use Rattle.dcsctp_snapshot_bytes.specs.Seal.{sealed, IsBroken, IsOfOthers}
+use Rattle.dcsctp_core.specs.types.declared.options.Options.{Options}
 use Rattle.dcsctp_core.specs.api.declared.errors.SocketFault.{SocketFault}
 use Rattle.dcsctp_core.specs.api.declared.errors.HandoverError.{HandoverError}
 use Rattle.dcsctp_core.specs.api.declared.errors.RestoreError.{RestoreError}
@@ -47,28 +49,52 @@ pub record HandedOver (old : Session) (status : Status) (new : Session) : Type 0
 abbrev pub IsReadBack : SocketHandoverState → Type 0
 IsReadBack state = read_snapshot (snapshot_bytes (snapshot state)) ≡ Some (snapshot state)
 
+-- the bytes of the snapshot with their seal, by the options of its socket
+abbrev pub snapshot_sealed : Options → SocketHandoverState → List ℕ
+snapshot_sealed options state = sealed options (snapshot_bytes (snapshot state))
+
 -- The bytes of the snapshot that was taken are copied, from which it can be restored; or an allocation failed, and nothing has
 -- changed.
-abbrev pub CopiesSnapshot : Option SocketHandoverState → List ℕ → ℕ → Status → List ℕ → ℕ → Type 0
-CopiesSnapshot None old before status new told = (status ≡ statuses.NothingToCopy) × (told ≡ 0) × (new ≡ old)
-CopiesSnapshot (Some state) old before status new told =
-    Copies (snapshot_bytes (snapshot state)) old status new told × IsReadBack state
+abbrev pub CopiesSnapshot : Options → Option SocketHandoverState → List ℕ → ℕ → Status → List ℕ → ℕ → Type 0
+CopiesSnapshot options None old before status new told = (status ≡ statuses.NothingToCopy) × (told ≡ 0) × (new ≡ old)
+CopiesSnapshot options (Some state) old before status new told =
+    Copies (snapshot_sealed options state) old status new told × IsReadBack state
     ⊎ (status ≡ statuses.OutOfMemory) × (told ≡ before) × (new ≡ old)
 
--- The bytes are refused, and nothing has changed.
-pub record SnapshotRefused (old : Session) (status : Status) (new : Session) : Type 0 where
-  pub told : status ≡ statuses.InvalidSnapshot
+-- The bytes are refused for this reason, and nothing has changed.
+pub record SnapshotRefused (why : Status) (old : Session) (status : Status) (new : Session) : Type 0 where
+  pub told : status ≡ why
   pub same : new ≡ old
 
 -- What is done by what the bytes say, and by whether that is valid.
 abbrev pub RestoredIf : Snapshot → Bool → Session → Status → Session → Type 0
-RestoredIf state false old status new = SnapshotRefused old status new
+RestoredIf state false old status new = SnapshotRefused statuses.InvalidSnapshot old status new
 RestoredIf state true old status new = Settled restore_status (RestoreCall state) old status new
 
 abbrev pub RestoredBy : Option Snapshot → Session → Status → Session → Type 0
-RestoredBy None old status new = SnapshotRefused old status new
+RestoredBy None old status new = SnapshotRefused statuses.InvalidSnapshot old status new
 RestoredBy (Some state) old status new = RestoredIf state (is_valid_snapshot (view old).endpoint.options state) old status new
 
--- The socket is restored from what the bytes say; or there was no memory to read them.
+-- The socket is restored from what the bytes of a snapshot say, without their seal; or there was no memory to read them.
+abbrev pub BodyRestored : List ℕ → Session → Status → Session → Type 0
+BodyRestored body old status new = CopyFailed old status new ⊎ RestoredBy (read_snapshot body) old status new
+
+-- The bytes have a seal by the options of this socket.
+pub record SealFits (bytes : List ℕ) (old : Session) (status : Status) (new : Session) : Type 0 where
+  pub body : List ℕ
+  pub whole : bytes ≡ sealed (view old).endpoint.options body
+  pub restored : BodyRestored body old status new
+
+-- They have none, or one byte of them is another.
+pub record SealBroken (bytes : List ℕ) (old : Session) (status : Status) (new : Session) : Type 0 where
+  pub broken : IsBroken bytes
+  pub refused : SnapshotRefused statuses.InvalidSnapshot old status new
+
+-- They have one by other options.
+pub record SealOfOthers (bytes : List ℕ) (old : Session) (status : Status) (new : Session) : Type 0 where
+  pub others : IsOfOthers (view old).endpoint.options bytes
+  pub refused : SnapshotRefused statuses.OtherOptions old status new
+
+-- The socket is restored from the bytes, by their seal.
 abbrev pub Restored : List ℕ → Session → Status → Session → Type 0
-Restored bytes old status new = CopyFailed old status new ⊎ RestoredBy (read_snapshot bytes) old status new
+Restored bytes old status new = SealFits bytes old status new ⊎ SealBroken bytes old status new ⊎ SealOfOthers bytes old status new

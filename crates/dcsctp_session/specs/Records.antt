@@ -8,8 +8,10 @@ use Rattle.dcsctp_core.specs.types.declared.kinds.SctpImplementation.TheVariants
 use Rattle.dcsctp_core.specs.types.declared.message.Message.{Message}
 use Rattle.dcsctp_core.specs.api.declared.events.SocketEvent.{SocketEvent}
 use Rattle.dcsctp_core.specs.api.declared.events.SocketEvent.TheVariants as events
+use Rattle.dcsctp_core.specs.api.declared.metrics.Counts.{Counts}
 use Rattle.dcsctp_core.specs.api.declared.metrics.Metrics.{Metrics}
 use Rattle.dcsctp_session.specs.Options.{time_number, flag_number}
+use Rattle.dcsctp_session.specs.declared.records.CountsRecord.{CountsRecord}
 use Rattle.dcsctp_session.specs.declared.records.EventRecord.{EventRecord}
 use Rattle.dcsctp_session.specs.declared.records.MessageRecord.{MessageRecord}
 use Rattle.dcsctp_session.specs.declared.records.MetricsRecord.{MetricsRecord}
@@ -101,3 +103,22 @@ pub record SaysMetrics (numbers : MetricsRecord) (metrics : Metrics) : Type 0 wh
   pub counts : SaysCounts numbers metrics
   pub association : SaysAssociation numbers metrics
   pub reserved : numbers.reserved ≡ 0
+
+-- ---- counts
+
+-- the bytes of a record of counts
+abbrev pub counts_size : ℕ
+counts_size = 32
+
+-- Does the record have that size? A caller may have that of another version.
+abbrev pub has_counts_size : CountsRecord → Bool
+has_counts_size numbers = numbers.size == counts_size
+
+abbrev pub counts_record : Counts → CountsRecord
+counts_record counts =
+    record {
+      size = counts_size;
+      rx_packets_count = counts.rx_packets_count;
+      tx_packets_count = counts.tx_packets_count;
+      tx_messages_count = counts.tx_messages_count;
+    }

@@ -11,6 +11,8 @@ use Rattle.dcsctp_core.specs.api.declared.errors.HandoverError.{HandoverError}
 use Rattle.dcsctp_core.specs.api.declared.errors.HandoverError.TheVariants as handovers
 use Rattle.dcsctp_core.specs.api.declared.errors.RestoreError.{RestoreError}
 use Rattle.dcsctp_core.specs.api.declared.errors.RestoreError.TheVariants as restores
+use Rattle.dcsctp_snapshot_bytes.specs.declared.sealing.SealError.{SealError}
+use Rattle.dcsctp_snapshot_bytes.specs.declared.sealing.SealError.TheVariants as seals
 use Rattle.dcsctp_core.specs.api.declared.state.SocketState.{SocketState}
 use Rattle.dcsctp_core.specs.api.declared.state.SocketState.TheVariants as states
 use Rattle.dcsctp_session.specs.declared.status.Status.{Status}
@@ -40,6 +42,7 @@ status_number statuses.InvalidSnapshot = negsuc 14
 status_number statuses.NotClosed = negsuc 15
 status_number statuses.InvalidSendOptions = negsuc 16
 status_number statuses.WrongSize = negsuc 17
+status_number statuses.OtherOptions = negsuc 18
 
 abbrev pub state_number : SocketState → ℤ
 state_number states.Closed = pos 0
@@ -84,6 +87,10 @@ handover_error_status (handovers.NotReady reasons) = statuses.NotReady
 
 abbrev pub handover_status : Result (Result SocketHandoverState HandoverError) SocketFault → Status
 handover_status = answer_status handover_error_status
+
+abbrev pub seal_error_status : SealError → Status
+seal_error_status seals.Broken = statuses.InvalidSnapshot
+seal_error_status seals.OtherOptions = statuses.OtherOptions
 
 abbrev pub restore_error_status : RestoreError → Status
 restore_error_status restores.SocketNotClosed = statuses.NotClosed

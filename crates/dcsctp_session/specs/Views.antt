@@ -1,5 +1,6 @@
 -- What a session shows: its socket, and what was taken from it last.
 use Rattle.std.specs.Prelude.{string_bytes, ℕ, List, Option, Some, None}
+use Rattle.std.specs.Global.{Vec}
 use Rattle.rand_core.specs.Stream.{Stream}
 use Rattle.rand_core.specs.Steps.{stream_of, steps_u32}
 use Rattle.rand_chacha.specs.ChaCha.{ChaCha, next_word}
@@ -38,6 +39,15 @@ abbrev pub bytes_in : Option SocketEvent → Option (List ℕ)
 bytes_in None = None
 bytes_in (Some event) = bytes_of event
 
+-- the packet of an event, as it lies in memory
+abbrev pub packet_of : SocketEvent → Option (Vec ℕ)
+packet_of (events.SendPacket packet) = Some packet
+packet_of event = None
+
+abbrev pub packet_in : Option SocketEvent → Option (Vec ℕ)
+packet_in None = None
+packet_in (Some event) = packet_of event
+
 -- the streams of an event
 abbrev pub streams_of : SocketEvent → Option (List ℕ)
 streams_of (events.OnStreamsResetFailed ids) = Some (stream_numbers ids.items)
@@ -53,3 +63,8 @@ streams_in (Some event) = streams_of event
 abbrev pub payload_in : Option Message → Option (List ℕ)
 payload_in None = None
 payload_in (Some message) = Some message.payload.items
+
+-- the same, as it lies in memory
+abbrev pub message_in : Option Message → Option (Vec ℕ)
+message_in None = None
+message_in (Some message) = Some message.payload

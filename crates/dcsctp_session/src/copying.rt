@@ -1,8 +1,8 @@
 //! Copying between buffers of the caller's and the socket's types.
 
-ghost use Rattle.std.specs.Prelude.{◌≡◌, IfOk};
+ghost use Rattle.std.specs.Prelude.{◌≡◌, IfOk, Some};
 ghost use Rattle.dcsctp_core.specs.types.Ids.{stream_numbers};
-ghost use Rattle.dcsctp_session.specs.Copying.{Copies, IsFront};
+ghost use Rattle.dcsctp_session.specs.Copying.{Copies, ShowsPlace, IsFront};
 
 use crate::status::Status;
 use dcsctp_socket::StreamId;
@@ -32,6 +32,15 @@ pub(crate) fn copy_streams(ids: &[StreamId], buffer: &mut [u16], count: &mut usi
     for (i, id) in ids.iter().enumerate() {
         buffer[i] = id.0;
     }
+    Status::Done
+}
+
+// Says where bytes lie, and how many there are.
+pub(crate) fn show_place(found: &Vec<u8>, bytes: &mut *const u8, length: &mut usize) -> Status
+    ensures { ShowsPlace (Some found.now) bytes.old result bytes.new length.new }
+{
+    *bytes = found.as_ptr();
+    *length = found.len();
     Status::Done
 }
 

@@ -17,6 +17,6 @@ mod taking;
 pub use dcsctp_socket::SocketState;
 pub use many::OutgoingRecord;
 pub use options::{OptionsRecord, SendOptionsRecord};
-pub use records::{EventRecord, MessageRecord, MetricsRecord};
+pub use records::{CountsRecord, EventRecord, MessageRecord, MetricsRecord};
 pub use session::{Session, Taken};
 pub use status::Status;

@@ -3,9 +3,9 @@
 ghost use Rattle.std.specs.Prelude.{◌≡◌, length};
 ghost use Rattle.std.specs.Duration.{as_nanos};
 ghost use Rattle.dcsctp_session.specs.Options.{time_number};
-ghost use Rattle.dcsctp_session.specs.Records.{error_number, plain_record, event_record, message_record, implementation_number, has_metrics_size, SaysMetrics};
+ghost use Rattle.dcsctp_session.specs.Records.{error_number, plain_record, event_record, message_record, implementation_number, has_metrics_size, SaysMetrics, has_counts_size, counts_record};
 
-use dcsctp_socket::{ErrorKind, Message, Metrics, SctpImplementation, SocketEvent};
+use dcsctp_socket::{Counts, ErrorKind, Message, Metrics, SctpImplementation, SocketEvent};
 
 /// What an event is. Its bytes and lists are copied by calls of their own; `length` counts them. A field that
 /// a kind of event doesn't have is 0.
@@ -55,6 +55,19 @@ pub struct MetricsRecord {
     pub negotiated_maximum_incoming_streams: u16,
     pub negotiated_maximum_outgoing_streams: u16,
     pub reserved: u32,
+}
+
+// The bytes of a `CountsRecord`.
+const COUNTS_SIZE: usize = size_of::<CountsRecord>();
+
+/// What a socket has counted in its life. `size` says how many bytes the caller's record has.
+#[repr(C)]
+#[derive(Clone, Copy, Debug)]
+pub struct CountsRecord {
+    pub size: usize,
+    pub rx_packets_count: usize,
+    pub tx_packets_count: usize,
+    pub tx_messages_count: usize,
 }
 
 // The number of a kind of error.
@@ -242,6 +255,27 @@ impl MetricsRecord {
             negotiated_maximum_incoming_streams: metrics.negotiated_maximum_incoming_streams,
             negotiated_maximum_outgoing_streams: metrics.negotiated_maximum_outgoing_streams,
             reserved: 0,
+        }
+    }
+}
+
+impl CountsRecord {
+    /// Is it a record of this library? The caller may have that of another version, of another size.
+    pub fn is_sized(&self) -> bool
+        ensures { result ≡ has_counts_size self.now }
+    {
+        self.size == COUNTS_SIZE
+    }
+
+    /// What the counts are.
+    pub fn of(counts: &Counts) -> CountsRecord
+        ensures { result ≡ counts_record counts.now }
+    {
+        CountsRecord {
+            size: COUNTS_SIZE,
+            rx_packets_count: counts.rx_packets_count,
+            tx_packets_count: counts.tx_packets_count,
+            tx_messages_count: counts.tx_messages_count,
         }
     }
 }

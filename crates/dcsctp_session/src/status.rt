@@ -1,8 +1,9 @@
 //! What a call of a session returns. C reads it as a number.
 
 ghost use Rattle.std.specs.Prelude.{◌≡◌};
-ghost use Rattle.dcsctp_session.specs.Status.{status_number, fault_status, done_status, send_error_status, send_status, reset_status, handover_error_status, restore_status};
+ghost use Rattle.dcsctp_session.specs.Status.{status_number, fault_status, done_status, send_error_status, send_status, reset_status, handover_error_status, seal_error_status, restore_status};
 
+use dcsctp_snapshot_bytes::SealError;
 use dcsctp_socket::{HandoverError, ResetStreamsError, RestoreError, SendError, SocketFault};
 
 /// What a call returns.
@@ -67,6 +68,9 @@ pub enum Status {
 
     /// A record has another size than that of this library.
     WrongSize,
+
+    /// The snapshot is of a socket with other options.
+    OtherOptions,
 }
 
 impl Status {
@@ -95,6 +99,7 @@ impl Status {
             Status::NotClosed => -16,
             Status::InvalidSendOptions => -17,
             Status::WrongSize => -18,
+            Status::OtherOptions => -19,
         }
     }
 
@@ -159,6 +164,16 @@ impl Status {
     {
         match error {
             HandoverError::NotReady(_) => Status::NotReady,
+        }
+    }
+
+    // Why the seal of a snapshot is refused.
+    pub(crate) fn of_seal_error(error: SealError) -> Status
+        ensures { result ≡ seal_error_status error }
+    {
+        match error {
+            SealError::Broken => Status::InvalidSnapshot,
+            SealError::OtherOptions => Status::OtherOptions,
         }
     }
 

@@ -1,11 +1,11 @@
 //! Taking events, messages and metrics from a session, and copying what they hold.
 
-ghost use Rattle.dcsctp_session.specs.Views.{bytes_in, streams_in, payload_in};
-ghost use Rattle.dcsctp_session.specs.Calls.{EventTaken, MessageTaken, MetricsShown};
-ghost use Rattle.dcsctp_session.specs.Copying.{CopiesTaken};
+ghost use Rattle.dcsctp_session.specs.Views.{bytes_in, packet_in, streams_in, payload_in, message_in};
+ghost use Rattle.dcsctp_session.specs.Calls.{EventTaken, MessageTaken, MetricsShown, CountsShown};
+ghost use Rattle.dcsctp_session.specs.Copying.{CopiesTaken, ShowsPlace};
 
-use crate::copying::{copy_bytes, copy_streams};
-use crate::records::{EventRecord, MessageRecord, MetricsRecord};
+use crate::copying::{copy_bytes, copy_streams, show_place};
+use crate::records::{CountsRecord, EventRecord, MessageRecord, MetricsRecord};
 use crate::session::Session;
 use crate::status::Status;
 use dcsctp_socket::{DcSctpSocket, SocketEvent};
@@ -30,6 +30,20 @@ impl Session {
             Some(SocketEvent::SendPacket(packet)) => copy_bytes(packet.as_slice(), buffer, length),
             Some(SocketEvent::OnAborted(_, text)) => copy_bytes(text.as_bytes(), buffer, length),
             Some(SocketEvent::OnError(_, text)) => copy_bytes(text.as_bytes(), buffer, length),
+            _ => {
+                *length = 0;
+                Status::NothingToCopy
+            }
+        }
+    }
+
+    /// Says where the packet of the event lies that was taken last, and how many bytes it has. It lies there until
+    /// the next event is taken. `Status::NothingToCopy`: it has none.
+    pub fn event_view(&self, bytes: &mut *const u8, length: &mut usize) -> Status
+        ensures { ShowsPlace (packet_in self.now.taken.event) bytes.old result bytes.new length.new }
+    {
+        match &self.taken.event {
+            Some(SocketEvent::SendPacket(packet)) => show_place(packet, bytes, length),
             _ => {
                 *length = 0;
                 Status::NothingToCopy
@@ -81,6 +95,27 @@ impl Session {
                 Status::NothingToCopy
             }
         }
+    }
+
+    /// Says where the payload of the message lies that was taken last, and how many bytes it has. It lies there
+    /// until the next message is taken. `Status::NothingToCopy`: no message was taken.
+    pub fn message_view(&self, bytes: &mut *const u8, length: &mut usize) -> Status
+        ensures { ShowsPlace (message_in self.now.taken.message) bytes.old result bytes.new length.new }
+    {
+        match &self.taken.message {
+            Some(message) => show_place(&message.payload, bytes, length),
+            None => {
+                *length = 0;
+                Status::NothingToCopy
+            }
+        }
+    }
+
+    /// What the socket has counted in its life.
+    pub fn counts(&self) -> CountsRecord
+        ensures { CountsShown self.now result }
+    {
+        CountsRecord::of(&self.socket.get_counts())
     }
 
     /// The metrics; none where the peer isn't known.

@@ -1,0 +1,115 @@
+-- What a query does: it reads the session of a handle, and its status is returned as a number. That the handle stays as it is
+-- stands beside it in each contract.
+use Rattle.std.specs.Prelude.{◌≡◌, ℕ, ℤ, pos, Bool, true, false, List, Option, Some, None}
+use denote.RawPtr.{Ptr}
+use Rattle.std.specs.Global.{Vec}
+use Rattle.dcsctp_api.specs.spec.Handover.{readiness_of}
+use Rattle.dcsctp_api.specs.spec.queues.Incoming.{AreInOrder}
+use Rattle.dcsctp_api.specs.spec.queues.SendQueue.{IsWellFormed}
+use Rattle.dcsctp_api.specs.Calls.{socket_state_of, stream_shown}
+use Rattle.dcsctp_api.specs.Messages.{incoming_streams}
+use Rattle.dcsctp_session.specs.declared.session.Session.{Session}
+use Rattle.dcsctp_session.specs.declared.status.Status.{Status}
+use Rattle.dcsctp_session.specs.declared.status.Status.TheVariants as statuses
+use Rattle.dcsctp_session.specs.declared.options.OptionsRecord.{OptionsRecord}
+use Rattle.dcsctp_session.specs.declared.records.MetricsRecord.{MetricsRecord}
+use Rattle.dcsctp_session.specs.declared.records.CountsRecord.{CountsRecord}
+use Rattle.dcsctp_session.specs.Calls.{MetricsShown, CountsShown}
+use Rattle.dcsctp_session.specs.Copying.{CopiesTaken, ShowsPlace}
+use Rattle.dcsctp_session.specs.Handover.{CopiesSnapshot}
+use Rattle.dcsctp_session.specs.Options.{ShowsOptions, has_options_size}
+use Rattle.dcsctp_session.specs.Records.{has_metrics_size, has_counts_size}
+use Rattle.dcsctp_session.specs.Status.{status_number, state_number, taken_status}
+use Rattle.dcsctp_session.specs.Views.{view}
+use Rattle.dcsctp_c.specs.Exports.{told_or}
+
+-- The query is made of the session, if there is one, and may write to a place of the caller's: before, and after.
+abbrev pub Asked : {T : Type 0} → (Session → T → Status → T → Type 0) → Option Session → T → ℤ → T → Type 0
+Asked Query None before result after = (result ≡ status_number statuses.NoSocket) × (after ≡ before)
+Asked Query (Some session) before result after = (status : Status) × Query session before status after × (result ≡ status_number status)
+
+-- The same where the place is a record: one that hasn't the size of the library's is refused, and nothing is written.
+abbrev pub AskedIf : {T : Type 0} → Bool → (Session → T → Status → T → Type 0) → Option Session → T → ℤ → T → Type 0
+AskedIf false Query held before result after = (result ≡ status_number statuses.WrongSize) × (after ≡ before)
+AskedIf true Query held before result after = Asked Query held before result after
+
+-- ---- what is written
+
+-- What is said of the session is written.
+abbrev pub Tells : {T : Type 0} → (Session → T → Type 0) → Session → T → Status → T → Type 0
+Tells Says session before status after = Says session after × (status ≡ statuses.Done)
+
+abbrev pub TellsOptions : Session → OptionsRecord → Status → OptionsRecord → Type 0
+TellsOptions = Tells (λ session told. ShowsOptions told (view session).endpoint.options)
+
+abbrev pub OptionsGiven : Option Session → OptionsRecord → ℤ → OptionsRecord → Type 0
+OptionsGiven held before result after = AskedIf (has_options_size before) TellsOptions held before result after
+
+-- the payload bytes that wait on a stream; each stream stands once in the queue
+abbrev pub AmountIs : ℕ → Session → ℕ → Type 0
+AmountIs stream session told = (told ≡ (stream_shown (view session) stream).amount) × IsWellFormed (view session).endpoint.below.queue
+
+-- why the socket can't be handed over; of what was received, each stream stands once
+abbrev pub ReadinessIs : Session → ℕ → Type 0
+ReadinessIs session told = (told ≡ readiness_of (view session).endpoint) × AreInOrder (incoming_streams (view session).endpoint)
+
+-- The metrics are written, if there are any.
+abbrev pub TellsMetrics : Session → MetricsRecord → Status → MetricsRecord → Type 0
+TellsMetrics session before status after =
+    (metrics : Option MetricsRecord) × MetricsShown session metrics × (status ≡ taken_status metrics) × (after ≡ told_or before metrics)
+
+abbrev pub MetricsGiven : Option Session → MetricsRecord → ℤ → MetricsRecord → Type 0
+MetricsGiven held before result after = AskedIf (has_metrics_size before) TellsMetrics held before result after
+
+-- The counts are written.
+abbrev pub TellsCounts : Session → CountsRecord → Status → CountsRecord → Type 0
+TellsCounts = Tells CountsShown
+
+abbrev pub CountsGiven : Option Session → CountsRecord → ℤ → CountsRecord → Type 0
+CountsGiven held before result after = AskedIf (has_counts_size before) TellsCounts held before result after
+
+-- ---- what is copied or shown
+
+-- a buffer of the caller's, and a place for a length
+pub record Buffer : Type 0 where
+  pub numbers : List ℕ
+  pub told : ℕ
+
+abbrev pub buffer_of : List ℕ → ℕ → Buffer
+buffer_of numbers told = record { numbers = numbers; told = told }
+
+-- What the session has is copied to the buffer.
+abbrev pub CopiesFrom : (Session → Option (List ℕ)) → Session → Buffer → Status → Buffer → Type 0
+CopiesFrom numbers_in session before status after = CopiesTaken (numbers_in session) before.numbers status after.numbers after.told
+
+-- The same of the bytes of a snapshot.
+abbrev pub CopiesSnapshotFrom : Session → Buffer → Status → Buffer → Type 0
+CopiesSnapshotFrom session before status after =
+    CopiesSnapshot (view session).endpoint.options session.taken.snapshot before.numbers before.told status after.numbers after.told
+
+-- a place for a pointer, and one for a length
+pub record Place : Type 0 where
+  pub at : Ptr
+  pub told : ℕ
+
+abbrev pub place_of : Ptr → ℕ → Place
+place_of at told = record { at = at; told = told }
+
+-- Where the session has bytes is written.
+abbrev pub ShowsFrom : (Session → Option (Vec ℕ)) → Session → Place → Status → Place → Type 0
+ShowsFrom bytes_of session before status after = ShowsPlace (bytes_of session) before.at status after.at after.told
+
+-- ---- what is returned by number
+
+abbrev pub ReturnsState : Option Session → ℤ → Type 0
+ReturnsState None result = result ≡ status_number statuses.NoSocket
+ReturnsState (Some session) result = result ≡ state_number (socket_state_of (view session).endpoint.core)
+
+abbrev pub failed_number : Bool → ℤ
+failed_number false = pos 0
+failed_number true = pos 1
+
+-- 1 is returned if an allocation failed in an earlier call, and else 0.
+abbrev pub ReturnsFailed : Option Session → ℤ → Type 0
+ReturnsFailed None result = result ≡ status_number statuses.NoSocket
+ReturnsFailed (Some session) result = result ≡ failed_number (view session).failed
