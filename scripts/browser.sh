@@ -1,0 +1,20 @@
+#!/usr/bin/env bash
+# Has a page in headless Chromium use data channels to a program over the C library: examples/browser. It needs these
+# packages, by their names in apt: chromium, python3-aiortc. Where one isn't installed it says so, and that is all.
+#
+#     scripts/browser.sh LIBRARY FOLDER        LIBRARY is the shared one; FOLDER gets channels.so and browser.png
+set -euo pipefail
+[ $# = 2 ] || { sed -n '5s/^# *//p' "$0" >&2; exit 2; }
+cd "$(dirname "$0")/.."
+missing=''
+command -v chromium >/dev/null || missing+=' chromium'
+# (Debian's packages are its own Python's, which may not be the first one)
+python=python3
+"$python" -c 'import aiortc' 2>/dev/null || python=/usr/bin/python3
+"$python" -c 'import aiortc' 2>/dev/null || missing+=' python3-aiortc'
+[ -z "$missing" ] || { echo "browser: it isn't run, since this isn't installed:$missing"; exit 0; }
+mkdir -p "$2"
+library=$(realpath "$1")
+${CC:-cc} -std=c11 -Wall -Wextra -Wshadow -pedantic -Werror -O2 -Iinclude -shared -fPIC examples/browser/channels.c \
+    examples/c/data_channel.c "$library" -Wl,-rpath,"$(dirname "$library")" -o "$2/channels.so"
+PYTHONDONTWRITEBYTECODE=1 timeout 150 "$python" examples/browser/browser.py "$2/channels.so" "$2/browser.png"
