@@ -2,10 +2,12 @@
 #
 #     make            builds out/libdcsctp.a and .so.0: rt proves crates/dcsctp_c and all below it
 #     make unproved   builds out/unproved/libdcsctp-unproved.a and .so.0, without proofs
-#     make check      checks it, by what is installed here: valgrind, sanitizers, cargo, cmake, cffi
+#     make check      checks it, by what is installed here: valgrind, sanitizers, cmake, cffi, and for
+#                     the bindings cargo, python3, a C++ compiler and go
+#     make check-browser   has a page in Chromium use it; isn't part of check (examples/browser)
 #     make install    copies it to PREFIX (/usr/local) and LIBDIR (PREFIX/lib), below DESTDIR
 #     make uninstall  removes what install has copied
-#     make dist       packs it into out/dcsctp-VERSION-linux-x86_64-v2.tar.gz
+#     make dist       packs it with the bindings into out/dcsctp-VERSION-linux-x86_64-v2.tar.gz
 #     make clean
 #
 # check, install and dist are of what was built last. ARCHIVE=FILE takes an archive that rt has built, and
@@ -43,8 +45,9 @@ PACKAGE = $(OUT)/$(NAME).pc $(OUT)/$(NAME)Config.cmake $(OUT)/$(NAME)ConfigVersi
 VERSION := $(shell awk '/define DCSCTP_VERSION_[MP]/ { v = v s $$3; s = "." } END { print v }' \
     include/dcsctp.h)
 
-TESTS = names calls many options events ends handover refusals random threads channels
-EXAMPLES = two_sockets file_transfer channels
+TESTS = names calls queries many options events ends kept handover refusals random threads channels \
+    deadlines
+EXAMPLES = two_sockets file_transfer channels server load
 WARNINGS = -Wall -Wextra -Wshadow -pedantic -Werror
 COMPILE = $(CC) -std=c11 $(WARNINGS) $(CFLAGS) -Iinclude
 
@@ -106,12 +109,15 @@ uninstall:
 	rm -rf $(NAMES:%=$(LIB_TO)/cmake/%)
 
 # The same bytes from the same files, wherever it is packed.
+BINDINGS = $(shell find bindings \( -name target -o -name __pycache__ \) -prune -o -type f -print)
 DIST = dcsctp-$(VERSION)$(MARK)-linux-x86_64-v2
 TAR = tar --sort=name --owner=0 --group=0 --numeric-owner --mtime=@0
 dist: all
 	rm -rf $(OUT)/$(DIST)
 	$(MAKE) -s install DESTDIR=$(abspath $(OUT)/$(DIST)) PREFIX= LIBDIR=/lib
 	install -m 644 LICENSE NOTICE $(OUT)/$(DIST)/
+	cp --parents $(BINDINGS) $(OUT)/$(DIST)/
+	chmod -R u=rwX,go=rX $(OUT)/$(DIST)/bindings
 	KIT=$(KIT) bash scripts/verdict.sh $(OUT)/$(DIST) >$(OUT)/VERDICT
 	mv $(OUT)/VERDICT $(OUT)/$(DIST)/
 	$(TAR) -C $(OUT) -c $(DIST) | gzip -n9 >$(OUT)/$(DIST).tar.gz
@@ -133,13 +139,15 @@ $(OUT)/examples/%: examples/c/%.c include/dcsctp.h $(LIBRARY)
 	@mkdir -p $(OUT)/examples
 	$(COMPILE) $(filter %.c,$^) $(LIBRARY) -o $@
 
-# Data channels are a file that users copy.
+# Data channels and deadlines are files that users copy.
 $(OUT)/tests/channels $(OUT)/examples/channels: examples/c/data_channel.c examples/c/data_channel.h
+$(OUT)/tests/deadlines $(OUT)/examples/server $(OUT)/examples/load: examples/c/deadlines.c \
+    examples/c/deadlines.h
 
 # ---- Checks -----------------------------------------------------------------------------------
 
 check: check-header check-symbols check-tests check-cpp check-cffi check-examples check-install check-dist \
-    check-valgrind check-sanitizers check-rust
+    check-valgrind check-sanitizers check-bindings check-rust
 
 # The header alone, in C and C++, and of which lines a compiler warns.
 WARNED = tests/c/warned.c 2>&1 | sed -n 's/^[^:]*warned.c:\([0-9]*\):.* warning: .*/\1/p' | sort -nu | \
@@ -193,10 +201,11 @@ check-cffi: check-symbols
 	python3 tests/c/declared.py $(OUT)/declarations $(SHARED); \
 	else echo "check: no cffi, so it doesn't read the header"; fi
 
-# The examples, and the file transfer with 20 of 1,000 packets lost in each direction. The first stands in
-# README or docs/C.md as a whole.
+# The examples, the file transfer with 20 of 1,000 packets lost in each direction, and the server with 100
+# associations. README has the loop of the first.
 check-examples: $(EXAMPLES:%=$(OUT)/examples/%)
-	cat README.md docs/C.md | sed -n '/^```c$$/,/^```$$/p' | sed '1d; $$d' | diff - examples/c/two_sockets.c
+	sed -n '/^static int drain/,/^}/p' examples/c/two_sockets.c >$(OUT)/drain
+	sed -n '/^```c$$/,/^```$$/p' README.md | sed '1d; $$d' | diff - $(OUT)/drain
 	$(OUT)/examples/two_sockets | diff examples/c/two_sockets.stdout -
 	$(OUT)/examples/channels | diff examples/c/channels.stdout -
 	@if command -v $(CXX) >/dev/null; then set -e; \
@@ -209,6 +218,7 @@ check-examples: $(EXAMPLES:%=$(OUT)/examples/%)
 	else echo "check: no C++ compiler, so nothing is linked in C++"; fi
 	timeout 120 $(OUT)/examples/file_transfer 2>/dev/null
 	timeout 120 $(OUT)/examples/file_transfer --loss 20 2>/dev/null
+	timeout 120 bash scripts/try-server.sh $(OUT)/examples
 
 # A caller finds both libraries where they were installed, also in a folder of the machine's kind, and where
 # what was packed has been unpacked elsewhere. What was installed can be removed.
@@ -240,6 +250,8 @@ check-valgrind: $(TESTS:%=$(OUT)/tests/%) $(EXAMPLES:%=$(OUT)/examples/%)
 	valgrind -q --tool=helgrind --error-exitcode=9 $(OUT)/tests/threads >/dev/null; \
 	echo "check: valgrind $(OUT)/examples/file_transfer"; timeout 300 $(VALGRIND) \
 	    --trace-children=yes $(OUT)/examples/file_transfer --loss 20 include/dcsctp.h >/dev/null; \
+	echo "check: valgrind $(OUT)/examples/server"; \
+	timeout 300 bash scripts/try-server.sh $(OUT)/examples $(VALGRIND); \
 	else echo "check: no valgrind, so nothing is run under it"; fi
 
 SANITIZE = -fsanitize=address,undefined -fno-sanitize-recover=all
@@ -251,16 +263,23 @@ check-sanitizers: $(LIBRARY)
 	    CFLAGS='-O1 -g $(SANITIZE)' check-tests check-examples; \
 	else echo "check: no sanitizers, so nothing is run under them"; fi
 
+# What is packed is enough for each binding.
+check-bindings: dist
+	CXX='$(CXX)' bash scripts/bindings.sh $(OUT)/$(DIST).tar.gz $(NAME)
+
 check-rust: $(LIBRARY)
 	@if command -v cargo >/dev/null; then set -e; cd examples/rust; echo "check: cargo"; \
 	export DCSCTP_LIB_DIR=$(abspath $(OUT)) DCSCTP_LIB_NAME=$(NAME) \
 	    CARGO_TARGET_DIR=$(abspath $(OUT)/cargo); \
-	cargo test --offline --quiet >/dev/null; \
 	timeout 120 cargo run --offline --quiet --release 2>/dev/null; \
 	timeout 120 cargo run --offline --quiet --release -- --loss 20 2>/dev/null; \
 	else echo "check: no cargo, so the Rust example isn't tried"; fi
 
+check-browser: $(SHARED)
+	CC='$(CC)' bash scripts/browser.sh $(SHARED) $(OUT)/browser
+
 # (dist and install write the same files)
 .NOTPARALLEL:
 .PHONY: FORCE all unproved install uninstall dist clean check check-header check-symbols check-tests \
-    check-cpp check-cffi check-examples check-install check-dist check-valgrind check-sanitizers check-rust
+    check-cpp check-cffi check-examples check-install check-dist check-valgrind check-sanitizers \
+    check-bindings check-rust check-browser

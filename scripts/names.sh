@@ -11,7 +11,7 @@ trap 'rm -rf "$folder"' EXIT
 
 # ---- the words of the tree
 
-git ls-files -z crates attacks scripts examples include tests packaging Makefile .ci crates.txt HANDLES > "$folder/files"
+git ls-files -z crates attacks scripts bindings examples include tests packaging Makefile .ci crates.txt HANDLES > "$folder/files"
 {
     xargs -0 -a "$folder/files" cat 2> /dev/null || true
     tr '\0/.' '\n\n\n' < "$folder/files"

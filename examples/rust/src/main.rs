@@ -2,20 +2,19 @@
 //! `cargo run -- [--loss PERMILLE] [BYTES]`, 10 MB where it isn't said. So many of 1,000 packets are lost at
 //! each end. This process starts the one that receives, which compares what has arrived.
 
-use dcsctp_example::{default_options, Event, Socket};
+use dcsctp::{random_seed, Event, Options, SendOptions, Socket};
 use std::error::Error;
-use std::io::{BufRead, BufReader, ErrorKind, Read, Write};
+use std::io::{BufRead, BufReader, ErrorKind, Write};
 use std::net::UdpSocket;
 use std::process::{Child, Command, ExitCode, Stdio};
 use std::time::{Duration, Instant};
-use std::{env, fs::File, io};
+use std::{env, io};
 
 const CHUNK: usize = 65536;
 const WAITING: usize = 8 * CHUNK;
 const STREAM: u16 = 1;
 const BINARY: u32 = 53;
 const LAST: u64 = 1;
-const DELIVERED: u32 = 15;
 
 /// How long a process waits at most before it looks again.
 const LONGEST: Duration = Duration::from_secs(1);
@@ -40,10 +39,8 @@ type Failure = Box<dyn Error + Send + Sync>;
 
 impl End {
     fn new(udp: UdpSocket, loss: u64) -> Result<End, Failure> {
-        let mut seed = [0; 32];
-        File::open("/dev/urandom")?.read_exact(&mut seed)?;
         Ok(End {
-            socket: Socket::new(&default_options(), &seed, Duration::ZERO)?,
+            socket: Socket::new(&Options::default(), &random_seed()?, Duration::ZERO)?,
             udp,
             epoch: Instant::now(),
             loss,
@@ -80,12 +77,12 @@ impl End {
                     self.closed = true;
                     self.ended = true;
                 }
-                Event::Aborted(kind, text) => {
-                    eprintln!("aborted, kind {kind}: {text}");
+                Event::Aborted { kind, text } => {
+                    eprintln!("aborted, {kind:?}: {text}");
                     self.ended = true;
                 }
-                Event::Error(kind, text) => eprintln!("error, kind {kind}: {text}"),
-                Event::Lifecycle(DELIVERED, LAST) => self.delivered = true,
+                Event::Error { kind, text } => eprintln!("error, {kind:?}: {text}"),
+                Event::LifecycleDelivered(LAST) => self.delivered = true,
                 _ => {}
             }
         }
@@ -155,7 +152,7 @@ fn send(end: &mut End, bytes: &[u8]) -> Result<Duration, Failure> {
         while end.connected && end.socket.buffered_amount(STREAM) < WAITING {
             let Some(chunk) = chunks.next() else { break };
             let name = if chunks.peek().is_none() { LAST } else { 0 };
-            end.socket.send(STREAM, BINARY, chunk, name)?;
+            end.socket.send(STREAM, BINARY, chunk, &SendOptions::default().lifecycle_id(name))?;
             taken += chunk.len();
             end.drain();
         }

@@ -1,0 +1,532 @@
+// dcsctp.hpp: dcsctp.h for C++17, in this header alone. A socket is a class that can be moved and not copied, and whose
+// destructor frees it. dcsctp.h describes each call, its errors and its rules.
+//
+//     dcsctp::socket socket;
+//     dcsctp::event event;                                     // taken again and again, so it keeps its memory
+//     dcsctp::message message;
+//     dcsctp::error error = socket.create(dcsctp::options(), now());
+//     if (error == dcsctp::error::ok)
+//         error = socket.connect();
+//     while (error == dcsctp::error::ok) {
+//         while (socket.poll_event(event))
+//             if (event.kind == dcsctp::event_kind::send_packet)
+//                 send(fd, event.bytes.data(), event.bytes.size(), 0);
+//         while (socket.get_next_message(message))
+//             use(message.stream_id, message.ppid, message.payload);
+//         wait_until_readable(fd, socket.poll_timeout());
+//         error = socket.advance_time(now());
+//         if (error == dcsctp::error::ok && (n = recv(fd, packet, sizeof packet, MSG_DONTWAIT)) >= 0)
+//             error = socket.handle_input({packet, static_cast<std::size_t>(n)});
+//     }
+//
+// Errors are codes, not exceptions: programs around WebRTC are often built without these, and a full send buffer is no
+// surprise. A compiler warns of one that is ignored. Each is a std::error_code, too, for those who throw it:
+//     if (auto error = socket.connect(); error != dcsctp::error::ok)
+//         throw std::system_error(error);
+// Of exceptions there is std::bad_alloc alone, where a vector here can't grow. What the library allocates is an error.
+//
+// An event is a struct, not a std::variant: so one object can be used for all of them, and its vectors grow but once.
+// Packets and messages can be used where they lie, too, without a copy:
+//     dcsctp::bytes_view packet;
+//     while (socket.poll_event(event, packet))
+//         if (event.kind == dcsctp::event_kind::send_packet)
+//             send(fd, packet.data(), packet.size(), 0);
+//
+// A socket that was not created, was destroyed or moved from is empty: commands return error::no_socket, polls have
+// nothing, and queries answer 0 or nothing. A socket belongs to one call at a time, also a query.
+#ifndef DCSCTP_HPP
+#define DCSCTP_HPP
+
+#include <dcsctp.h>
+
+#include <array>
+#include <chrono>
+#include <cstddef>
+#include <cstdint>
+#include <cstdio>
+#include <initializer_list>
+#include <iterator>
+#include <limits>
+#include <optional>
+#include <string>
+#include <string_view>
+#include <system_error>
+#include <type_traits>
+#include <utility>
+#include <vector>
+
+namespace dcsctp {
+
+// A moment is the time since any other moment, which is the same for all calls on a socket.
+using std::chrono::nanoseconds;
+
+// ---- Errors ---------------------------------------------------------------------------------------------------------
+
+// The numbers of dcsctp.h, and two of this header.
+enum class [[nodiscard]] error : std::int32_t {
+    ok = DCSCTP_OK,
+    out_of_memory = DCSCTP_ERROR_OUT_OF_MEMORY,
+    failed = DCSCTP_ERROR_FAILED,
+    no_socket = DCSCTP_ERROR_NO_SOCKET,
+    already_created = DCSCTP_ERROR_ALREADY_CREATED,
+    invalid_options = DCSCTP_ERROR_INVALID_OPTIONS,
+    buffer_too_small = DCSCTP_ERROR_BUFFER_TOO_SMALL,
+    nothing_to_copy = DCSCTP_ERROR_NOTHING_TO_COPY,
+    empty_payload = DCSCTP_ERROR_EMPTY_PAYLOAD,
+    message_too_large = DCSCTP_ERROR_MESSAGE_TOO_LARGE,
+    resource_exhaustion = DCSCTP_ERROR_RESOURCE_EXHAUSTION,
+    shutting_down = DCSCTP_ERROR_SHUTTING_DOWN,
+    not_connected = DCSCTP_ERROR_NOT_CONNECTED,
+    not_supported = DCSCTP_ERROR_NOT_SUPPORTED,
+    not_ready = DCSCTP_ERROR_NOT_READY,
+    invalid_snapshot = DCSCTP_ERROR_INVALID_SNAPSHOT,
+    not_closed = DCSCTP_ERROR_NOT_CLOSED,
+    invalid_send_options = DCSCTP_ERROR_INVALID_SEND_OPTIONS,
+    wrong_size = DCSCTP_ERROR_WRONG_SIZE,
+    other_options = DCSCTP_ERROR_OTHER_OPTIONS,
+    wrong_version = -1001, // the library has another version than dcsctp.h
+    no_seed = -1002,       // the system's generator can't be read
+};
+
+inline const char *text_of(error it) {
+    switch (it) {
+    case error::wrong_version:
+        return "the library has another version";
+    case error::no_seed:
+        return "the system has no random numbers";
+    default:
+        return dcsctp_error_text(static_cast<std::int32_t>(it));
+    }
+}
+
+class error_category_type final : public std::error_category {
+public:
+    const char *name() const noexcept override { return "dcsctp"; }
+    std::string message(int number) const override { return text_of(static_cast<error>(number)); }
+};
+
+inline const std::error_category &error_category() {
+    static const error_category_type category;
+    return category;
+}
+
+inline std::error_code make_error_code(error it) {
+    return {static_cast<int>(it), error_category()};
+}
+
+// ---- Views ----------------------------------------------------------------------------------------------------------
+
+// Elements that stand elsewhere, as std::span of C++20 has them. `data` is never null, as dcsctp.h wants it. A list in
+// braces is there until the call has returned.
+template <typename T>
+class view {
+    static constexpr bool has_bytes = std::is_same_v<T, std::uint8_t>;
+
+    template <typename Element>
+    static constexpr bool is_element =
+        std::is_same_v<Element, T> ||
+        (has_bytes && (std::is_same_v<Element, char> || std::is_same_v<Element, std::byte>));
+
+    template <typename Container>
+    using element_of = std::remove_const_t<std::remove_pointer_t<decltype(std::data(std::declval<Container &>()))>>;
+
+public:
+    view() = default;
+    view(const T *data, std::size_t size) : data_(data ? data : &nothing), size_(data ? size : 0) {}
+    view(std::initializer_list<T> list) : view(list.begin(), list.size()) {}
+
+    // A text up to its zero.
+    template <typename Bytes = T, typename = std::enable_if_t<std::is_same_v<Bytes, std::uint8_t>>>
+    view(const char *text) : view(text ? std::string_view(text) : std::string_view()) {}
+
+    // A vector, a string, or what else has elements in a row. Those of char and std::byte count as bytes. An array of
+    // char is a text, as above.
+    template <typename Container, typename Element = element_of<const Container>,
+              typename = std::enable_if_t<!std::is_base_of_v<view, Container> && is_element<Element> &&
+                                          !(std::is_array_v<Container> && std::is_same_v<Element, char>)>>
+    view(const Container &container)
+        : view(reinterpret_cast<const T *>(std::data(container)), std::size(container)) {}
+
+    const T *data() const { return data_; }
+    std::size_t size() const { return size_; }
+    bool empty() const { return size_ == 0; }
+    const T *begin() const { return data_; }
+    const T *end() const { return data_ + size_; }
+    const T &operator[](std::size_t at) const { return data_[at]; }
+
+private:
+    static constexpr T nothing{};
+    const T *data_ = &nothing;
+    std::size_t size_ = 0;
+};
+
+using bytes_view = view<std::uint8_t>;
+using streams_view = view<std::uint16_t>;
+
+inline std::string_view text_of(bytes_view bytes) {
+    return {reinterpret_cast<const char *>(bytes.data()), bytes.size()};
+}
+
+// ---- Options, events, messages --------------------------------------------------------------------------------------
+
+// The fields of dcsctp_options, which begin with their defaults. Times are nanoseconds.
+struct options : dcsctp_options {
+    options() : dcsctp_options() { dcsctp_options_init(this); }
+};
+
+enum class event_kind : std::uint32_t {
+    none = DCSCTP_EVENT_NONE,
+    send_packet = DCSCTP_EVENT_SEND_PACKET,
+    connected = DCSCTP_EVENT_CONNECTED,
+    closed = DCSCTP_EVENT_CLOSED,
+    connection_restarted = DCSCTP_EVENT_CONNECTION_RESTARTED,
+    aborted = DCSCTP_EVENT_ABORTED,
+    error = DCSCTP_EVENT_ERROR,
+    buffered_amount_low = DCSCTP_EVENT_BUFFERED_AMOUNT_LOW,
+    total_buffered_amount_low = DCSCTP_EVENT_TOTAL_BUFFERED_AMOUNT_LOW,
+    streams_reset_failed = DCSCTP_EVENT_STREAMS_RESET_FAILED,
+    streams_reset_performed = DCSCTP_EVENT_STREAMS_RESET_PERFORMED,
+    incoming_stream_reset = DCSCTP_EVENT_INCOMING_STREAM_RESET,
+    lifecycle_fully_sent = DCSCTP_EVENT_LIFECYCLE_FULLY_SENT,
+    lifecycle_maybe_expired = DCSCTP_EVENT_LIFECYCLE_MAYBE_EXPIRED,
+    lifecycle_expired = DCSCTP_EVENT_LIFECYCLE_EXPIRED,
+    lifecycle_delivered = DCSCTP_EVENT_LIFECYCLE_DELIVERED,
+    lifecycle_end = DCSCTP_EVENT_LIFECYCLE_END,
+};
+
+enum class error_kind : std::uint32_t {
+    no_error = DCSCTP_KIND_NO_ERROR,
+    too_many_retries = DCSCTP_KIND_TOO_MANY_RETRIES,
+    not_connected = DCSCTP_KIND_NOT_CONNECTED,
+    parse_failed = DCSCTP_KIND_PARSE_FAILED,
+    wrong_sequence = DCSCTP_KIND_WRONG_SEQUENCE,
+    peer_reported = DCSCTP_KIND_PEER_REPORTED,
+    protocol_violation = DCSCTP_KIND_PROTOCOL_VIOLATION,
+    resource_exhaustion = DCSCTP_KIND_RESOURCE_EXHAUSTION,
+    unsupported_operation = DCSCTP_KIND_UNSUPPORTED_OPERATION,
+};
+
+// What a socket tells. Later versions of the library may have more kinds: ignore them.
+struct event {
+    event_kind kind = event_kind::none;
+    error_kind about = error_kind::no_error; // of aborted and error
+    std::uint16_t stream_id = 0;             // of buffered_amount_low
+    std::uint64_t lifecycle_id = 0;          // of lifecycle_..
+    std::vector<std::uint8_t> bytes;         // of send_packet; and of aborted and error, which have a text
+    std::vector<std::uint16_t> streams;      // of streams_reset_.. and incoming_stream_reset; none there: all streams
+
+    std::string_view text() const { return text_of(bytes); }
+    const char *name() const { return dcsctp_event_name(static_cast<std::uint32_t>(kind)); }
+};
+
+// A message that has arrived.
+struct message {
+    std::uint16_t stream_id = 0;
+    std::uint32_t ppid = 0;
+    std::vector<std::uint8_t> payload;
+
+    std::string_view text() const { return text_of(payload); }
+};
+
+// A message of send_many. Its bytes are copied.
+struct outgoing_message {
+    std::uint16_t stream_id;
+    std::uint32_t ppid;
+    bytes_view payload;
+};
+
+// How a message is sent. By default: in order, until it is acknowledged.
+struct send_options {
+    std::uint64_t lifecycle_id = 0; // the name in events; 0: there are none
+    bool unordered = false;
+    std::optional<nanoseconds> lifetime;              // abandoned if it isn't acknowledged by then
+    std::optional<std::uint16_t> max_retransmissions; // or if it would be sent again more often
+};
+
+enum class socket_state : std::int32_t {
+    no_socket = DCSCTP_ERROR_NO_SOCKET, // it is empty
+    closed = DCSCTP_STATE_CLOSED,
+    connecting = DCSCTP_STATE_CONNECTING,
+    connected = DCSCTP_STATE_CONNECTED,
+    shutting_down = DCSCTP_STATE_SHUTTING_DOWN,
+};
+
+// ---- The socket -----------------------------------------------------------------------------------------------------
+
+using seed = std::array<std::uint8_t, 32>;
+
+// A seed from the system's generator. Each socket needs another one.
+inline std::optional<seed> random_seed() {
+    seed made;
+    std::FILE *file = std::fopen("/dev/urandom", "rb");
+    if (!file)
+        return std::nullopt;
+    std::setvbuf(file, nullptr, _IONBF, 0);
+    const bool is_whole = std::fread(made.data(), made.size(), 1, file) == 1;
+    std::fclose(file);
+    return is_whole ? std::optional(made) : std::nullopt;
+}
+
+class socket {
+public:
+    socket() = default;
+    ~socket() { destroy(); }
+    socket(socket &&other) noexcept : it_(std::exchange(other.it_, DCSCTP_SOCKET_INIT)) {}
+    socket &operator=(socket &&other) noexcept {
+        if (this != &other) {
+            destroy();
+            it_ = std::exchange(other.it_, DCSCTP_SOCKET_INIT);
+        }
+        return *this;
+    }
+    socket(const socket &) = delete;
+    socket &operator=(const socket &) = delete;
+
+    // Creates a closed socket whose clock stands at `now`, by a seed from the system, or by one that is given: that has
+    // to be secret and new.
+    error create(const dcsctp_options &how, nanoseconds now) {
+        const std::optional<seed> drawn = random_seed();
+        return drawn ? create(how, *drawn, now) : error::no_seed;
+    }
+    error create(const dcsctp_options &how, const seed &drawn, nanoseconds now) {
+        if ((dcsctp_version() & ~DCSCTP_VERSION_UNPROVED) != DCSCTP_VERSION)
+            return error::wrong_version;
+        return done(dcsctp_create(&it_, &how, drawn.data(), number(now)));
+    }
+
+    // Frees the socket, whatever it is doing. The peer is told nothing. It can be created again.
+    void destroy() { dcsctp_destroy(&it_); }
+
+    error connect() { return done(dcsctp_connect(&it_)); }
+    error shutdown() { return done(dcsctp_shutdown(&it_)); }
+    error close() { return done(dcsctp_close(&it_)); }
+
+    error handle_input(bytes_view packet) { return done(dcsctp_handle_input(&it_, packet.data(), packet.size())); }
+    error advance_time(nanoseconds now) { return done(dcsctp_advance_time(&it_, number(now))); }
+
+    // The next deadline. There is none, or it is further away than a clock can tell.
+    std::optional<nanoseconds> poll_timeout() const {
+        std::uint64_t moment = DCSCTP_NEVER;
+        dcsctp_poll_timeout(&it_, &moment);
+        if (moment > static_cast<std::uint64_t>(nanoseconds::max().count()))
+            return std::nullopt;
+        return nanoseconds(static_cast<nanoseconds::rep>(moment));
+    }
+
+    // Takes the oldest event. If there is none, `taken` is of kind none.
+    bool poll_event(event &taken) {
+        bytes_view packet;
+        const bool is_taken = poll_event(taken, packet);
+        if (!packet.empty())
+            taken.bytes.assign(packet.begin(), packet.end());
+        return is_taken;
+    }
+
+    // It doesn't copy a packet to `taken.bytes`, but shows it where it lies: until a call that isn't const. Of other
+    // events there is none.
+    bool poll_event(event &taken, bytes_view &packet) {
+        dcsctp_event it = dcsctp_event();
+        const bool is_taken = dcsctp_poll_event(&it_, &it) == 1;
+        taken.kind = static_cast<event_kind>(it.kind);
+        taken.about = static_cast<error_kind>(it.error_kind);
+        taken.stream_id = static_cast<std::uint16_t>(it.stream_id);
+        taken.lifecycle_id = it.lifecycle_id;
+        taken.bytes.clear();
+        taken.streams.clear();
+        switch (taken.kind) {
+        case event_kind::aborted:
+        case event_kind::error:
+            (void)copy(taken.bytes, it.length, dcsctp_event_bytes);
+            break;
+        case event_kind::streams_reset_failed:
+        case event_kind::streams_reset_performed:
+        case event_kind::incoming_stream_reset:
+            (void)copy(taken.streams, it.length, dcsctp_event_streams);
+            break;
+        default:
+            break;
+        }
+        packet = event_view();
+        return is_taken;
+    }
+
+    // The packet of the event that was taken last, where it lies: until a call that isn't const. It is empty if the
+    // event has none.
+    bytes_view event_view() const { return shown(dcsctp_event_view); }
+
+    std::size_t messages_ready_count() const { return counted(dcsctp_messages_ready_count); }
+
+    // Takes the message that became ready first. If there is none, `taken` has no bytes.
+    bool get_next_message(message &taken) {
+        bytes_view payload;
+        const bool is_taken = get_next_message(taken, payload);
+        taken.payload.assign(payload.begin(), payload.end());
+        return is_taken;
+    }
+
+    // It doesn't copy the bytes to `taken.payload`, but shows them where they lie: until a call that isn't const.
+    bool get_next_message(message &taken, bytes_view &payload) {
+        dcsctp_message it = dcsctp_message();
+        const bool is_taken = dcsctp_get_next_message(&it_, &it) == 1;
+        taken.stream_id = it.stream_id;
+        taken.ppid = it.ppid;
+        taken.payload.clear();
+        payload = message_view();
+        return is_taken;
+    }
+
+    // The bytes of the message that was taken last, where they lie: until a call that isn't const.
+    bytes_view message_view() const { return shown(dcsctp_message_view); }
+
+    error send(std::uint16_t stream_id, std::uint32_t ppid, bytes_view payload, const send_options &how = {}) {
+        const dcsctp_send_options options = in_c(how);
+        return done(dcsctp_send(&it_, stream_id, ppid, payload.data(), payload.size(), &options));
+    }
+
+    // Sends several messages in one call. `results` has one for each, unless the call returns an error that no message
+    // has: then it is empty.
+    error send_many(const std::vector<outgoing_message> &messages, std::vector<error> &results,
+                    const send_options &how = {}) {
+        const dcsctp_send_options options = in_c(how);
+        std::vector<dcsctp_outgoing_message> all;
+        for (const outgoing_message &it : messages)
+            all.push_back({it.payload.data(), it.payload.size(), it.ppid, it.stream_id, 0});
+        all.emplace_back(); // (a place to point to, if there are none)
+        std::vector<std::int32_t> numbers(all.size(), unwritten);
+        const error result = done(
+            dcsctp_send_many(&it_, all.data(), messages.size(), &options, numbers.data(), messages.size()));
+        results.clear();
+        for (std::size_t at = 0; at < messages.size() && numbers[at] != unwritten; at++)
+            results.push_back(static_cast<error>(numbers[at]));
+        return result;
+    }
+
+    error reset_streams(streams_view ids) { return done(dcsctp_reset_streams(&it_, ids.data(), ids.size())); }
+
+    std::size_t buffered_amount(std::uint16_t stream_id) const {
+        return counted([&](auto *at, auto *bytes) { return dcsctp_buffered_amount(at, stream_id, bytes); });
+    }
+    std::size_t buffered_amount_low_threshold(std::uint16_t stream_id) const {
+        return counted(
+            [&](auto *at, auto *bytes) { return dcsctp_buffered_amount_low_threshold(at, stream_id, bytes); });
+    }
+    error set_buffered_amount_low_threshold(std::uint16_t stream_id, std::size_t bytes) {
+        return done(dcsctp_set_buffered_amount_low_threshold(&it_, stream_id, bytes));
+    }
+    std::uint16_t stream_priority(std::uint16_t stream_id) const {
+        std::uint16_t priority = 0;
+        dcsctp_get_stream_priority(&it_, stream_id, &priority);
+        return priority;
+    }
+    error set_stream_priority(std::uint16_t stream_id, std::uint16_t priority) {
+        return done(dcsctp_set_stream_priority(&it_, stream_id, priority));
+    }
+
+    socket_state state() const { return static_cast<socket_state>(dcsctp_state(&it_)); }
+    bool is_empty() const { return state() == socket_state::no_socket; }
+    bool has_failed() const { return dcsctp_has_failed(&it_) == 1; }
+    error set_max_message_size(std::size_t bytes) { return done(dcsctp_set_max_message_size(&it_, bytes)); }
+
+    // The options. Of an empty socket: the defaults.
+    options get_options() const {
+        options read;
+        dcsctp_get_options(&it_, &read);
+        return read;
+    }
+
+    // The metrics. There are none where the peer isn't known.
+    std::optional<dcsctp_metrics> metrics() const {
+        dcsctp_metrics read = dcsctp_metrics();
+        read.size = sizeof read;
+        return dcsctp_get_metrics(&it_, &read) == 1 ? std::optional(read) : std::nullopt;
+    }
+
+    // What the socket has counted, whatever the state. Of an empty socket: nothing.
+    dcsctp_counts counts() const {
+        dcsctp_counts read = dcsctp_counts();
+        read.size = sizeof read;
+        dcsctp_get_counts(&it_, &read);
+        return read;
+    }
+
+    // Why the socket can't be handed over now: DCSCTP_HANDOVER_.., added up.
+    std::uint32_t handover_readiness() const {
+        std::uint32_t reasons = 0;
+        dcsctp_get_handover_readiness(&it_, &reasons);
+        return reasons;
+    }
+
+    // Takes a snapshot, and ends the association here. If the copy fails by out_of_memory, handover_bytes may be tried
+    // again.
+    error get_handover_state_and_close(std::vector<std::uint8_t> &snapshot) {
+        const error result = done(dcsctp_get_handover_state_and_close(&it_));
+        return result == error::ok ? handover_bytes(snapshot) : result;
+    }
+
+    // Copies the snapshot that was taken last.
+    error handover_bytes(std::vector<std::uint8_t> &snapshot) const {
+        std::uint8_t nowhere = 0;
+        std::size_t length = 0;
+        const error result = done(dcsctp_handover_bytes(&it_, &nowhere, 0, &length));
+        return result == error::buffer_too_small ? copy(snapshot, length, dcsctp_handover_bytes) : result;
+    }
+
+    error restore_from_state(bytes_view snapshot) {
+        return done(dcsctp_restore_from_state(&it_, snapshot.data(), snapshot.size()));
+    }
+
+private:
+    static constexpr std::int32_t unwritten = std::numeric_limits<std::int32_t>::max();
+
+    // What waits for an association is no error, and neither is a count.
+    static error done(std::int32_t result) { return result < 0 ? static_cast<error>(result) : error::ok; }
+
+    static std::uint64_t number(nanoseconds time) {
+        return time.count() < 0 ? 0 : static_cast<std::uint64_t>(time.count());
+    }
+
+    static dcsctp_send_options in_c(const send_options &how) {
+        dcsctp_send_options options = DCSCTP_SEND_INIT;
+        options.lifecycle_id = how.lifecycle_id;
+        options.lifetime = how.lifetime ? number(*how.lifetime) : 0;
+        options.max_retransmissions = how.max_retransmissions.value_or(0);
+        options.flags = (how.unordered ? DCSCTP_SEND_UNORDERED : 0) | (how.lifetime ? DCSCTP_SEND_LIFETIME : 0) |
+                        (how.max_retransmissions ? DCSCTP_SEND_MAX_RETRANSMISSIONS : 0);
+        return options;
+    }
+
+    // Copies so many elements by a call of the library.
+    template <typename T, typename Call>
+    error copy(std::vector<T> &list, std::size_t length, Call call) const {
+        T nowhere{};
+        std::size_t written = 0;
+        list.resize(length);
+        const error result = done(call(&it_, length ? list.data() : &nowhere, length, &written));
+        list.resize(result == error::ok ? written : 0);
+        return result;
+    }
+
+    // The bytes that a call of the library shows.
+    template <typename Call>
+    bytes_view shown(Call call) const {
+        const std::uint8_t *at = nullptr;
+        std::size_t length = 0;
+        return done(call(&it_, &at, &length)) == error::ok ? bytes_view(at, length) : bytes_view();
+    }
+
+    template <typename Call>
+    std::size_t counted(Call call) const {
+        std::size_t count = 0;
+        call(&it_, &count);
+        return count;
+    }
+
+    dcsctp_socket it_ = DCSCTP_SOCKET_INIT;
+};
+
+} // namespace dcsctp
+
+template <>
+struct std::is_error_code_enum<dcsctp::error> : std::true_type {};
+
+#endif

@@ -1,0 +1,422 @@
+// Tests of dcsctp.hpp: empty sockets, moves, views, ends, and calls in any order, with any bytes.
+#include "dcsctp.hpp"
+
+#include <cstdlib>
+#include <cstring>
+#include <deque>
+#include <memory>
+#include <string>
+
+using namespace std::chrono_literals;
+using dcsctp::error, dcsctp::event_kind, dcsctp::nanoseconds, dcsctp::socket_state;
+using bytes = std::vector<std::uint8_t>;
+
+static_assert(!std::is_copy_constructible_v<dcsctp::socket> && !std::is_copy_assignable_v<dcsctp::socket>);
+static_assert(std::is_nothrow_move_constructible_v<dcsctp::socket>);
+static_assert(std::is_nothrow_move_assignable_v<dcsctp::socket>);
+static_assert(!std::is_convertible_v<std::vector<int>, dcsctp::bytes_view>);
+static_assert(!std::is_convertible_v<bytes, dcsctp::streams_view>);
+
+namespace {
+
+void expect(bool holds, const char *what) {
+    if (!holds) {
+        std::fprintf(stderr, "test: not so: %s\n", what);
+        std::exit(1);
+    }
+}
+
+#define EXPECT(fact) expect((fact), #fact)
+
+dcsctp::socket create(const dcsctp_options &how = dcsctp::options()) {
+    dcsctp::socket socket;
+    EXPECT(socket.create(how, 1h) == error::ok);
+    return socket;
+}
+
+// Each call on a socket that is empty.
+void calls_without_socket(dcsctp::socket &it) {
+    dcsctp::event event;
+    dcsctp::message message;
+    bytes snapshot;
+    std::vector<error> results;
+    const error commands[] = {
+        it.connect(),
+        it.shutdown(),
+        it.close(),
+        it.handle_input("a packet"),
+        it.advance_time(2h),
+        it.send(1, 51, "hello"),
+        it.send_many({{1, 51, "hello"}}, results),
+        it.send_many({}, results),
+        it.reset_streams({1}),
+        it.set_buffered_amount_low_threshold(1, 5),
+        it.set_stream_priority(1, 5),
+        it.set_max_message_size(5),
+        it.get_handover_state_and_close(snapshot),
+        it.handover_bytes(snapshot),
+        it.restore_from_state("no snapshot"),
+    };
+    for (error result : commands)
+        EXPECT(result == error::no_socket);
+    event.kind = event_kind::closed;
+    event.bytes = {1};
+    message.payload = {1};
+    EXPECT(!it.poll_event(event) && event.kind == event_kind::none && event.bytes.empty());
+    EXPECT(!it.get_next_message(message) && message.payload.empty());
+    dcsctp::bytes_view packet = "a packet", payload = "hello";
+    EXPECT(!it.poll_event(event, packet) && packet.empty() && it.event_view().empty());
+    EXPECT(!it.get_next_message(message, payload) && payload.empty() && it.message_view().empty());
+    const dcsctp_counts counts = it.counts();
+    EXPECT(counts.rx_packets_count == 0 && counts.tx_packets_count == 0 && counts.tx_messages_count == 0);
+    EXPECT(!it.poll_timeout() && !it.metrics() && !it.has_failed());
+    EXPECT(it.messages_ready_count() == 0 && it.buffered_amount(1) == 0 && it.buffered_amount_low_threshold(1) == 0);
+    EXPECT(it.stream_priority(1) == 0 && it.handover_readiness() == 0 && results.empty());
+    EXPECT(it.state() == socket_state::no_socket && it.is_empty());
+    EXPECT(it.get_options().mtu == 1191);
+    it.destroy();
+}
+
+void empty_sockets() {
+    dcsctp::socket none;
+    calls_without_socket(none);
+    dcsctp::socket destroyed = create();
+    destroyed.destroy();
+    calls_without_socket(destroyed);
+    EXPECT(destroyed.create(dcsctp::options(), 1h) == error::ok);
+    EXPECT(destroyed.create(dcsctp::options(), 1h) == error::already_created);
+
+    dcsctp::socket first = create();
+    EXPECT(first.connect() == error::ok);
+    dcsctp::socket second = std::move(first);
+    calls_without_socket(first);
+    EXPECT(second.state() == socket_state::connecting);
+    destroyed = std::move(second);
+    calls_without_socket(second);
+    dcsctp::socket &same = destroyed;
+    destroyed = std::move(same);
+    EXPECT(destroyed.state() == socket_state::connecting);
+
+    std::vector<dcsctp::socket> many(3);
+    many[0] = create();
+    many.resize(100);
+    EXPECT(many[0].state() == socket_state::closed && many[99].is_empty());
+}
+
+void views() {
+    const std::string text = "hello";
+    const std::array<std::byte, 2> raw = {std::byte{1}, std::byte{2}};
+    const std::uint8_t numbers[] = {1, 2, 3};
+    const auto size = [](dcsctp::bytes_view it) { return it.size(); };
+    EXPECT(size("hello") == 5 && size(text) == 5 && size(std::string_view(text)) == 5 && size(bytes{1, 2}) == 2);
+    EXPECT(size(raw) == 2 && size(numbers) == 3 && size({numbers, 2}) == 2 && size({}) == 0 && size("") == 0);
+    EXPECT(size({4, 5, 6, 7}) == 4 && size({nullptr, 9}) == 0 && size(bytes()) == 0);
+    EXPECT(dcsctp::bytes_view(nullptr, 0).data() && dcsctp::bytes_view(bytes()).data());
+    EXPECT(dcsctp::bytes_view(text)[1] == 'e' && dcsctp::text_of(text) == "hello");
+}
+
+void errors() {
+    const std::error_code code = error::not_ready;
+    EXPECT(code && code.message() == "the socket can't be handed over now" && code == error::not_ready);
+    EXPECT(!std::error_code(error::ok) && std::string(code.category().name()) == "dcsctp");
+    EXPECT(std::strcmp(text_of(error::wrong_version), "the library has another version") == 0);
+    dcsctp::socket socket = create();
+    dcsctp_options other = dcsctp::options();
+    other.size -= 8;
+    dcsctp::socket none;
+    EXPECT(none.create(other, 1h) == error::wrong_size);
+    EXPECT(socket.handover_bytes(*std::make_unique<bytes>()) == error::nothing_to_copy);
+}
+
+// A message that takes many packets.
+void long_message() {
+    dcsctp::socket ends[2] = {create(), create()};
+    dcsctp::event event;
+    dcsctp::message message;
+    bytes payload(25600);
+    for (std::size_t at = 0; at < payload.size(); at++)
+        payload[at] = static_cast<std::uint8_t>(at * 31 >> 3);
+    EXPECT(ends[0].connect() == error::ok && ends[0].send(3, 53, payload) == error::ok);
+    for (int round = 0; round < 80; round++)
+        while (ends[round % 2].poll_event(event))
+            if (event.kind == event_kind::send_packet)
+                EXPECT(ends[1 - round % 2].handle_input(event.bytes) == error::ok);
+    EXPECT(ends[1].messages_ready_count() == 1 && ends[1].get_next_message(message));
+    EXPECT(message.stream_id == 3 && message.ppid == 53 && message.payload == payload);
+    EXPECT(!ends[1].get_next_message(message));
+}
+
+// ---- Ends -----------------------------------------------------------------------------------------------------------
+
+// Takes all events of a socket. Its packets go to the other one from where they lie. Returns how many there were.
+std::size_t carry(dcsctp::socket &from, dcsctp::socket &to) {
+    dcsctp::event event;
+    dcsctp::bytes_view packet;
+    std::size_t packets = 0;
+    while (from.poll_event(event, packet)) {
+        EXPECT(packet.empty() == (event.kind != event_kind::send_packet));
+        EXPECT(packet.empty() == from.event_view().empty());
+        if (packet.empty())
+            continue;
+        // (queries leave it where it is)
+        EXPECT(event.bytes.empty() && from.event_view().data() == packet.data() && from.counts().tx_packets_count > 0);
+        EXPECT(from.event_view().size() == packet.size() && to.handle_input(packet) == error::ok);
+        packets++;
+    }
+    EXPECT(packet.empty() && from.event_view().empty());
+    return packets;
+}
+
+struct couple {
+    dcsctp::socket a, b;
+    std::size_t of_a = 0, of_b = 0; // packets
+
+    explicit couple(const dcsctp_options &how = dcsctp::options()) : a(create(how)), b(create(how)) {
+        EXPECT(a.connect() == error::ok);
+        settle();
+        // INIT and COOKIE ECHO; INIT ACK and COOKIE ACK (RFC 9260, section 5.1)
+        EXPECT(of_a == 2 && of_b == 2 && b.state() == socket_state::connected);
+    }
+
+    // Carries packets both ways until none is left.
+    void settle() {
+        std::size_t more_of_a, more_of_b;
+        do {
+            of_a += more_of_a = carry(a, b);
+            of_b += more_of_b = carry(b, a);
+        } while (more_of_a + more_of_b > 0);
+    }
+
+    void close() {
+        EXPECT(a.close() == error::ok);
+        settle();
+        EXPECT(!a.metrics() && !b.metrics() && b.state() == socket_state::closed);
+    }
+};
+
+bool is_counted(const dcsctp::socket &socket, std::size_t sent, std::size_t handed_in, std::size_t messages) {
+    const dcsctp_counts counts = socket.counts();
+    return counts.tx_packets_count == sent && counts.rx_packets_count == handed_in &&
+           counts.tx_messages_count == messages;
+}
+
+void counts_after_an_end() {
+    EXPECT(is_counted(create(), 0, 0, 0));
+    couple pair;
+    for (int round = 0; round < 3; round++)
+        EXPECT(pair.a.send(1, 51, "hello") == error::ok);
+    pair.close();
+    EXPECT(is_counted(pair.a, pair.of_a, pair.of_b, 3) && is_counted(pair.b, pair.of_b, pair.of_a, 0));
+}
+
+void message_after_an_end(bool follow_rfc) {
+    dcsctp::options how;
+    how.follow_rfc = follow_rfc;
+    couple pair(how);
+    EXPECT(pair.a.send(1, 51, "hello") == error::ok && pair.a.send(2, 53, "good bye") == error::ok);
+    pair.close();
+    dcsctp::message message;
+    dcsctp::bytes_view payload = "before";
+    EXPECT(pair.b.messages_ready_count() == (follow_rfc ? 2 : 0));
+    EXPECT(pair.b.get_next_message(message, payload) == follow_rfc);
+    EXPECT(dcsctp::text_of(payload) == (follow_rfc ? "hello" : "") && message.payload.empty());
+    EXPECT(message.stream_id == (follow_rfc ? 1 : 0) && pair.b.message_view().data() == payload.data());
+    EXPECT(pair.b.get_next_message(message) == follow_rfc && message.text() == (follow_rfc ? "good bye" : ""));
+    EXPECT(!pair.b.get_next_message(message) && message.payload.empty() && pair.b.message_view().empty());
+}
+
+void message_until_the_next() {
+    couple pair;
+    dcsctp::message message;
+    EXPECT(pair.a.send(1, 51, "hello") == error::ok);
+    pair.close();
+    EXPECT(pair.b.messages_ready_count() == 1 && pair.a.connect() == error::ok);
+    pair.settle();
+    EXPECT(pair.b.state() == socket_state::connected && !pair.b.get_next_message(message));
+}
+
+void snapshot_and_options() {
+    couple pair;
+    bytes snapshot;
+    EXPECT(pair.a.get_handover_state_and_close(snapshot) == error::ok);
+    for (int row = 0; row < 7; row++) {
+        dcsctp::options how;
+        how.local_port = row == 0 ? 5001 : 5000;
+        how.remote_port = row == 1 ? 5001 : 5000;
+        how.announced_maximum_incoming_streams = row == 2 ? 9 : 65535;
+        how.announced_maximum_outgoing_streams = row == 3 ? 9 : 65535;
+        how.enable_partial_reliability = row != 4;
+        how.enable_message_interleaving = row == 5;
+        how.zero_checksum_method = row == 6;
+        dcsctp::socket other = create(how);
+        dcsctp::event event;
+        EXPECT(other.restore_from_state(snapshot) == error::other_options);
+        EXPECT(other.state() == socket_state::closed && !other.poll_event(event));
+    }
+    dcsctp::options how;
+    how.max_message_size = 1000;
+    pair.a = create(how);
+    for (std::size_t place : {std::size_t(0), snapshot.size() / 2, snapshot.size() - 1}) {
+        bytes changed = snapshot;
+        changed[place] ^= 1;
+        EXPECT(pair.a.restore_from_state(changed) == error::invalid_snapshot);
+    }
+    dcsctp::message message;
+    EXPECT(pair.a.restore_from_state(snapshot) == error::ok && pair.a.send(1, 51, "after") == error::ok);
+    pair.settle();
+    EXPECT(pair.b.get_next_message(message) && message.text() == "after");
+}
+
+// ---- Calls in any order ---------------------------------------------------------------------------------------------
+
+// Numbers without a pattern, the same in each run.
+std::uint32_t next(std::uint32_t below) {
+    static std::uint32_t number = 2463534242;
+    number ^= number << 13;
+    number ^= number >> 17;
+    number ^= number << 5;
+    return number % below;
+}
+
+bytes any_bytes(std::uint32_t limit) {
+    bytes made(next(limit + 1));
+    for (auto &it : made)
+        it = static_cast<std::uint8_t>(next(256));
+    return made;
+}
+
+struct end {
+    dcsctp::socket socket;
+    std::deque<bytes> packets;
+    nanoseconds now = 1h;
+};
+
+struct world {
+    end ends[2];
+    bytes snapshot;
+    unsigned connected = 0, messages = 0, errors = 0;
+
+    dcsctp::socket socket() {
+        dcsctp::options how;
+        how.max_message_size = 3000;
+        how.max_send_buffer_size = 9000;
+        return create(how);
+    }
+
+    void note(error result) {
+        EXPECT(result != error::no_socket && result != error::out_of_memory && result != error::buffer_too_small);
+        errors += result != error::ok;
+    }
+
+    void poll(std::uint32_t at) {
+        dcsctp::event event;
+        if (!ends[at].socket.poll_event(event))
+            return;
+        EXPECT(std::strcmp(event.name(), "unknown") != 0);
+        if (event.kind == event_kind::send_packet)
+            ends[1 - at].packets.push_back(event.bytes);
+        connected += event.kind == event_kind::connected;
+    }
+
+    void hand_in(std::uint32_t at) {
+        bytes packet = next(20) ? bytes() : any_bytes(60);
+        if (packet.empty() && !ends[at].packets.empty()) {
+            packet = ends[at].packets.front();
+            ends[at].packets.pop_front();
+        }
+        if (!packet.empty() && next(10) == 0)
+            packet[next(static_cast<std::uint32_t>(packet.size()))] ^= 1;
+        note(ends[at].socket.handle_input(packet));
+    }
+
+    void send(std::uint32_t at) {
+        dcsctp::send_options how;
+        std::vector<error> results;
+        how.lifecycle_id = next(3);
+        how.unordered = next(2);
+        if (next(4) == 0)
+            how.lifetime = 300ms;
+        const bytes payload = any_bytes(next(3) ? 10 : 3300);
+        const auto stream_id = static_cast<std::uint16_t>(next(3));
+        if (next(2)) {
+            note(ends[at].socket.send(stream_id, 51, payload, how));
+            return;
+        }
+        const std::vector<dcsctp::outgoing_message> all(next(4), {stream_id, 53, payload});
+        const error first = ends[at].socket.send_many(all, results, how);
+        EXPECT(results.size() == all.size());
+        error expected = error::ok;
+        for (error result : results)
+            if (expected == error::ok)
+                expected = result;
+        EXPECT(first == expected);
+    }
+
+    void end_it(std::uint32_t at) {
+        dcsctp::socket &it = ends[at].socket;
+        switch (next(8)) {
+        case 0: return note(it.shutdown());
+        case 1: return note(it.close());
+        case 2: return note(it.get_handover_state_and_close(snapshot));
+        case 3: return note(it.restore_from_state(snapshot));
+        case 4:
+            it = socket();
+            ends[at].now = 1h;
+            return note(it.restore_from_state(snapshot));
+        default: return;
+        }
+    }
+
+    void step() {
+        const std::uint32_t at = next(2), kind = next(100);
+        dcsctp::message message;
+        if (kind < 30)
+            poll(at);
+        else if (kind < 60)
+            hand_in(at);
+        else if (kind < 75)
+            send(at);
+        else if (kind < 85)
+            messages += ends[at].socket.get_next_message(message);
+        else if (kind < 90)
+            note(ends[at].socket.advance_time(ends[at].now += std::chrono::milliseconds(next(300))));
+        else if (kind < 93)
+            note(ends[at].socket.reset_streams({0, 1, 1}));
+        else if (kind < 96)
+            note(ends[at].socket.connect());
+        else if (kind < 98)
+            EXPECT(ends[at].socket.poll_timeout().value_or(nanoseconds::max()) >= ends[at].now);
+        else
+            end_it(at);
+    }
+};
+
+void any_order() {
+    unsigned connected = 0, messages = 0, errors = 0;
+    for (int run = 0; run < 15; run++) {
+        world world;
+        world.ends[0].socket = world.socket();
+        world.ends[1].socket = world.socket();
+        for (int count = 0; count < 2000; count++)
+            world.step();
+        connected += world.connected;
+        messages += world.messages;
+        errors += world.errors;
+    }
+    EXPECT(connected > 20 && messages > 50 && errors > 50);
+}
+
+} // namespace
+
+int main() {
+    empty_sockets();
+    views();
+    errors();
+    long_message();
+    counts_after_an_end();
+    message_after_an_end(true);
+    message_after_an_end(false);
+    message_until_the_next();
+    snapshot_and_options();
+    any_order();
+}

@@ -1,0 +1,3 @@
+module dcsctp
+
+go 1.19

@@ -1,0 +1,1080 @@
+"""An SCTP association (RFC 9260) for WebRTC data channels, without system calls: the C library of dcsctp, by ctypes.
+
+You hand a socket the packets that arrive, and the time. It hands you the packets to send, the messages that have
+arrived, and events:
+
+    with dcsctp.Socket(now=time.monotonic_ns()) as socket:
+        socket.connect()
+        while True:
+            for event in socket.events():
+                if isinstance(event, dcsctp.SendPacket):
+                    udp.send(event.packet)
+            for message in socket.messages():
+                use(message.stream_id, message.ppid, message.payload)
+            wait_until_readable(udp, socket.poll_timeout())
+            socket.advance_time(time.monotonic_ns())
+            socket.handle_input(udp.recv(65535))            # one packet, if one has come
+
+A call that hands something in, be it a packet, the time or a command, may add events and messages, and move the
+deadline. Take all messages before the next packet is handed in: when an association begins, those left are lost.
+
+A moment is a number of nanoseconds by a clock that never goes back, and a time is in nanoseconds, too. A call that
+fails raises an `Error`, and unless it says more, nothing has changed. Threads may share a socket: each call has a lock.
+Let DTLS be below, or another layer that lets in nothing but what the peer has sent.
+
+It needs Python 3.8. The library is the file that the environment names by DCSCTP_LIBRARY; or it is in `lib` of the
+package that this file was unpacked with; or where `make` or `make unproved` of the repository has put it; or the loader
+finds libdcsctp.so.0.
+"""
+
+from __future__ import annotations
+
+import ctypes
+import dataclasses
+import enum
+import operator
+import os
+import pathlib
+import threading
+from typing import ClassVar, Dict, Iterator, List, NoReturn, Optional, Sequence, Type, Union
+
+Bytes = Union[bytes, bytearray, memoryview]
+
+VERSION = 0x00_01_00
+VERSION_UNPROVED = 0x8000_0000
+NEVER = 2**64 - 1
+NO_LIMIT = 2**32 - 1
+
+# ---- Errors ---------------------------------------------------------------------------------------------------------
+
+
+class Error(Exception):
+    """A call failed. `number` is the number of the header, and `text` says what it means."""
+
+    number: int = 0
+    text: ClassVar[str] = "unknown"
+
+    def __init__(self, number: Optional[int] = None) -> None:
+        if number is not None:
+            self.number = number
+        super().__init__(self.text)
+
+
+class OutOfMemory(Error):
+    """An allocation of the library failed. The socket has failed now, unless the call says that it may be tried again;
+    `has_failed` tells."""
+
+    number = -1
+    text = "out of memory"
+
+
+class Failed(Error):
+    """An allocation failed in an earlier call. Events can be taken; all that is left to do is `destroy`."""
+
+    number = -2
+    text = "an allocation failed in an earlier call"
+
+
+class NoSocket(Error):
+    """There is no socket: it was destroyed."""
+
+    number = -3
+    text = "there is no socket"
+
+
+class AlreadyCreated(Error):
+    """There is a socket already. No method of `Socket` raises it."""
+
+    number = -4
+    text = "there is a socket already"
+
+
+class InvalidOptions(Error):
+    """No socket can be made with these options."""
+
+    number = -5
+    text = "no socket can be made with these options"
+
+
+class BufferTooSmall(Error):
+    """The buffer is too small. No method of `Socket` raises it."""
+
+    number = -6
+    text = "the buffer is too small"
+
+
+class NothingToCopy(Error):
+    """No snapshot was taken."""
+
+    number = -7
+    text = "there is nothing to copy"
+
+
+class EmptyPayload(Error):
+    """The message has no bytes."""
+
+    number = -8
+    text = "the message has no bytes"
+
+
+class MessageTooLarge(Error):
+    """The message is longer than `max_message_size`."""
+
+    number = -9
+    text = "the message is too large"
+
+
+class ResourceExhaustion(Error):
+    """The send buffer is full, in all or for this stream. Try again at `BufferedAmountLow` or
+    `TotalBufferedAmountLow`."""
+
+    number = -10
+    text = "the send buffer is full"
+
+
+class ShuttingDown(Error):
+    """The association is being shut down, and takes no message."""
+
+    number = -11
+    text = "the association is being shut down"
+
+
+class NotConnected(Error):
+    """There is no association, or the peer hasn't answered yet."""
+
+    number = -12
+    text = "the peer isn't connected"
+
+
+class NotSupported(Error):
+    """The peer doesn't reset streams (RFC 6525)."""
+
+    number = -13
+    text = "the peer doesn't reset streams"
+
+
+class NotReady(Error):
+    """The socket can't be handed over now: `handover_readiness` says why."""
+
+    number = -14
+    text = "the socket can't be handed over now"
+
+
+class InvalidSnapshot(Error):
+    """These bytes are no snapshot, or not all of them are as they were written."""
+
+    number = -15
+    text = "the snapshot isn't valid"
+
+
+class NotClosed(Error):
+    """The socket has an association, or begins one."""
+
+    number = -16
+    text = "the socket isn't closed"
+
+
+class InvalidSendOptions(Error):
+    """No method of `Socket` raises it, since `SendOptions` are always valid."""
+
+    number = -17
+    text = "the message can't be sent with these options"
+
+
+class WrongSize(Error):
+    """A struct has another size in the library, which has another header."""
+
+    number = -18
+    text = "the struct has another size in the library"
+
+
+class OtherOptions(Error):
+    """The snapshot is of a socket with other options: `Socket.restore_from_state` says which ones count."""
+
+    number = -19
+    text = "the snapshot is of a socket with other options"
+
+
+_ERRORS: Dict[int, Type[Error]] = {it.number: it for it in Error.__subclasses__()}
+
+
+def error_of(number: int) -> Error:
+    """The error that a result below 0 stands for."""
+    known = _ERRORS.get(number)
+    return known() if known else Error(number)
+
+
+# ---- Events ---------------------------------------------------------------------------------------------------------
+
+
+class ErrorKind(enum.IntEnum):
+    """What an error is about."""
+
+    NO_ERROR = 0
+    TOO_MANY_RETRIES = 1
+    """Something was sent too often without an answer."""
+    NOT_CONNECTED = 2
+    """It needs an association, and there is none."""
+    PARSE_FAILED = 3
+    """It can't be read, or isn't for this association."""
+    WRONG_SEQUENCE = 4
+    """It can't be handled in this state."""
+    PEER_REPORTED = 5
+    """The peer reported an error, or aborted."""
+    PROTOCOL_VIOLATION = 6
+    """The peer, or the caller, broke a rule."""
+    RESOURCE_EXHAUSTION = 7
+    """A buffer is full."""
+    UNSUPPORTED_OPERATION = 8
+    """It isn't supported."""
+
+
+@dataclasses.dataclass(frozen=True)
+class Event:
+    """What a socket tells. `name` has the words of `dcsctp_event_name`."""
+
+    kind: ClassVar[int] = 0
+    name: ClassVar[str] = "none"
+
+
+@dataclasses.dataclass(frozen=True)
+class SendPacket(Event):
+    """A packet for the peer, of at most `mtu` bytes."""
+
+    packet: bytes
+    kind = 1
+    name = "send packet"
+
+
+@dataclasses.dataclass(frozen=True)
+class Connected(Event):
+    """An association was made, by either end."""
+
+    kind = 2
+    name = "connected"
+
+
+@dataclasses.dataclass(frozen=True)
+class Closed(Event):
+    """It has ended: by a shutdown, `Socket.close` or a handover."""
+
+    kind = 3
+    name = "closed"
+
+
+@dataclasses.dataclass(frozen=True)
+class ConnectionRestarted(Event):
+    """The peer began anew: then `Connected` comes."""
+
+    kind = 4
+    name = "connection restarted"
+
+
+@dataclasses.dataclass(frozen=True)
+class Aborted(Event):
+    """It was cut off. `error` is an `ErrorKind`, unless a later version of the library has more, and `text` may be
+    empty."""
+
+    error: int
+    text: str
+    kind = 5
+    name = "aborted"
+
+
+@dataclasses.dataclass(frozen=True)
+class ErrorEvent(Event):
+    """Something went wrong, and the association goes on. Its fields are those of `Aborted`."""
+
+    error: int
+    text: str
+    kind = 6
+    name = "error"
+
+
+@dataclasses.dataclass(frozen=True)
+class BufferedAmountLow(Event):
+    """What waits on a stream has fallen to its threshold."""
+
+    stream_id: int
+    kind = 7
+    name = "buffered amount low"
+
+
+@dataclasses.dataclass(frozen=True)
+class TotalBufferedAmountLow(Event):
+    """What waits on all streams has fallen to the threshold."""
+
+    kind = 8
+    name = "total buffered amount low"
+
+
+@dataclasses.dataclass(frozen=True)
+class StreamsResetFailed(Event):
+    """Streams of this end that weren't reset."""
+
+    streams: List[int]
+    kind = 9
+    name = "streams reset failed"
+
+
+@dataclasses.dataclass(frozen=True)
+class StreamsResetPerformed(Event):
+    """Streams of this end that were reset."""
+
+    streams: List[int]
+    kind = 10
+    name = "streams reset performed"
+
+
+@dataclasses.dataclass(frozen=True)
+class IncomingStreamReset(Event):
+    """Streams of the peer that it has reset; none: all of them."""
+
+    streams: List[int]
+    kind = 11
+    name = "incoming stream reset"
+
+
+@dataclasses.dataclass(frozen=True)
+class LifecycleFullySent(Event):
+    """The whole message of this name was sent."""
+
+    lifecycle_id: int
+    kind = 12
+    name = "message fully sent"
+
+
+@dataclasses.dataclass(frozen=True)
+class LifecycleMaybeExpired(Event):
+    """It was abandoned after that."""
+
+    lifecycle_id: int
+    kind = 13
+    name = "message maybe expired"
+
+
+@dataclasses.dataclass(frozen=True)
+class LifecycleExpired(Event):
+    """It was abandoned before that."""
+
+    lifecycle_id: int
+    kind = 14
+    name = "message expired"
+
+
+@dataclasses.dataclass(frozen=True)
+class LifecycleDelivered(Event):
+    """The peer acknowledged it."""
+
+    lifecycle_id: int
+    kind = 15
+    name = "message delivered"
+
+
+@dataclasses.dataclass(frozen=True)
+class LifecycleEnd(Event):
+    """No event names it again."""
+
+    lifecycle_id: int
+    kind = 16
+    name = "message ended"
+
+
+@dataclasses.dataclass(frozen=True)
+class UnknownEvent(Event):
+    """A kind that a later version of the library may have. Ignore it."""
+
+    number: int
+    name = "unknown"
+
+
+_PLAIN = {it.kind: it for it in (Connected, Closed, ConnectionRestarted, TotalBufferedAmountLow)}
+_WITH_TEXT = {it.kind: it for it in (Aborted, ErrorEvent)}
+_WITH_STREAMS = {it.kind: it for it in (StreamsResetFailed, StreamsResetPerformed, IncomingStreamReset)}
+_WITH_NAME = {
+    it.kind: it
+    for it in (LifecycleFullySent, LifecycleMaybeExpired, LifecycleExpired, LifecycleDelivered, LifecycleEnd)
+}
+
+# ---- Options, messages and metrics ----------------------------------------------------------------------------------
+
+
+@dataclasses.dataclass
+class Options:
+    """What can be set. Sizes are bytes, times nanoseconds. `dcsctp.h` says of each what it does, and at
+    `dcsctp_options` which values connect."""
+
+    mtu: int = 1191
+    max_message_size: int = 262_144
+    max_receiver_window_buffer_size: int = 5_242_880
+    max_send_buffer_size: int = 2_000_000
+    per_stream_send_queue_limit: int = 2_000_000
+    total_buffered_amount_low_threshold: int = 1_800_000
+    default_stream_buffered_amount_low_threshold: int = 0
+    cwnd_mtus_initial: int = 10
+    cwnd_mtus_min: int = 4
+    rtt_max: int = 60_000_000_000
+    rto_initial: int = 500_000_000
+    rto_max: int = 60_000_000_000
+    rto_min: int = 400_000_000
+    t1_init_timeout: int = 1_000_000_000
+    t1_cookie_timeout: int = 1_000_000_000
+    cookie_lifetime: int = 60_000_000_000
+    max_timer_backoff_duration: int = NEVER
+    heartbeat_interval: int = 30_000_000_000
+    delayed_ack_max_timeout: int = 200_000_000
+    min_rtt_variance: int = 220_000_000
+    max_burst: int = 4
+    max_retransmissions: int = 10
+    max_init_retransmits: int = 8
+    zero_checksum_method: int = 0
+    enable_partial_reliability: bool = True
+    enable_message_interleaving: bool = False
+    disable_checksum_verification: bool = False
+    enable_handover_with_outstanding_data: bool = False
+    local_port: int = 5000
+    remote_port: int = 5000
+    announced_maximum_incoming_streams: int = 65_535
+    announced_maximum_outgoing_streams: int = 65_535
+    default_stream_priority: int = 256
+    follow_rfc: bool = True
+
+
+@dataclasses.dataclass(frozen=True)
+class Message:
+    """A message that has arrived, or that `Socket.send_many` sends. `ppid` is the payload protocol identifier
+    (RFC 8831, section 8)."""
+
+    stream_id: int
+    ppid: int
+    payload: bytes
+
+
+@dataclasses.dataclass(frozen=True)
+class SendOptions:
+    """How a message is sent. By default: in order, until it is acknowledged.
+
+    `lifecycle_id` is its name in `Lifecycle..` events; 0: there are none. `lifetime` is in nanoseconds. A message that
+    isn't acknowledged by then is abandoned, or that would be sent again more often than `max_retransmissions`; both
+    need partial reliability (RFC 3758) at both ends."""
+
+    lifecycle_id: int = 0
+    unordered: bool = False
+    lifetime: Optional[int] = None
+    max_retransmissions: Optional[int] = None
+
+
+_SENT_PLAINLY = SendOptions()
+
+
+class State(enum.IntEnum):
+    """The state of a socket."""
+
+    CLOSED = 0
+    CONNECTING = 1
+    CONNECTED = 2
+    SHUTTING_DOWN = 3
+
+
+class Peer(enum.IntEnum):
+    """Which program the peer runs, as its cookie tells. Later versions may have more numbers."""
+
+    UNKNOWN = 0
+    DCSCTP_RS = 1
+    DCSCTP_CC = 2
+    USRSCTP = 3
+    OTHER = 4
+
+
+class Handover(enum.IntFlag):
+    """Why a socket can't be handed over. Later versions may have more reasons."""
+
+    WRONG_CONNECTION_STATE = 1
+    SEND_QUEUE_NOT_EMPTY = 2
+    PENDING_STREAM_RESET_REQUEST = 4
+    DATA_TRACKER_TSN_BLOCKS_PENDING = 8
+    PENDING_STREAM_RESET = 16
+    STREAM_RESET_DEFERRED = 64
+    STREAM_HAS_UNASSEMBLED_CHUNKS = 128
+    RETRANSMISSION_QUEUE_OUTSTANDING_DATA = 512
+    RETRANSMISSION_QUEUE_FAST_RECOVERY = 1024
+    RETRANSMISSION_QUEUE_NOT_EMPTY = 2048
+
+
+@dataclasses.dataclass(frozen=True)
+class Metrics:
+    """Counts of the socket's whole life, and how the association is now. `dcsctp.h` says of each what it counts."""
+
+    rtx_bytes_count: int
+    srtt: int
+    tx_packets_count: int
+    tx_messages_count: int
+    rtx_packets_count: int
+    cwnd_bytes: int
+    unack_data_count: int
+    rx_packets_count: int
+    rx_messages_count: int
+    peer_rwnd_bytes: int
+    peer_implementation: int
+    uses_message_interleaving: bool
+    uses_zero_checksum: bool
+    negotiated_maximum_incoming_streams: int
+    negotiated_maximum_outgoing_streams: int
+
+
+@dataclasses.dataclass(frozen=True)
+class Counts:
+    """What a socket has counted in its whole life: packets handed in, readable or not; packets sent; messages that
+    `send` took."""
+
+    rx_packets_count: int
+    tx_packets_count: int
+    tx_messages_count: int
+
+
+# ---- The header -----------------------------------------------------------------------------------------------------
+
+
+class _Socket(ctypes.Structure):
+    _fields_ = [("at", ctypes.c_void_p), ("mark", ctypes.c_uint32)]
+
+
+class _Options(ctypes.Structure):
+    _fields_ = [
+        ("size", ctypes.c_size_t),
+        ("mtu", ctypes.c_size_t),
+        ("max_message_size", ctypes.c_size_t),
+        ("max_receiver_window_buffer_size", ctypes.c_size_t),
+        ("max_send_buffer_size", ctypes.c_size_t),
+        ("per_stream_send_queue_limit", ctypes.c_size_t),
+        ("total_buffered_amount_low_threshold", ctypes.c_size_t),
+        ("default_stream_buffered_amount_low_threshold", ctypes.c_size_t),
+        ("cwnd_mtus_initial", ctypes.c_size_t),
+        ("cwnd_mtus_min", ctypes.c_size_t),
+        ("rtt_max", ctypes.c_uint64),
+        ("rto_initial", ctypes.c_uint64),
+        ("rto_max", ctypes.c_uint64),
+        ("rto_min", ctypes.c_uint64),
+        ("t1_init_timeout", ctypes.c_uint64),
+        ("t1_cookie_timeout", ctypes.c_uint64),
+        ("cookie_lifetime", ctypes.c_uint64),
+        ("max_timer_backoff_duration", ctypes.c_uint64),
+        ("heartbeat_interval", ctypes.c_uint64),
+        ("delayed_ack_max_timeout", ctypes.c_uint64),
+        ("min_rtt_variance", ctypes.c_uint64),
+        ("max_burst", ctypes.c_int32),
+        ("max_retransmissions", ctypes.c_uint32),
+        ("max_init_retransmits", ctypes.c_uint32),
+        ("zero_checksum_method", ctypes.c_uint32),
+        ("enable_partial_reliability", ctypes.c_uint32),
+        ("enable_message_interleaving", ctypes.c_uint32),
+        ("disable_checksum_verification", ctypes.c_uint32),
+        ("enable_handover_with_outstanding_data", ctypes.c_uint32),
+        ("local_port", ctypes.c_uint16),
+        ("remote_port", ctypes.c_uint16),
+        ("announced_maximum_incoming_streams", ctypes.c_uint16),
+        ("announced_maximum_outgoing_streams", ctypes.c_uint16),
+        ("default_stream_priority", ctypes.c_uint16),
+        ("reserved", ctypes.c_uint16),
+        ("follow_rfc", ctypes.c_uint32),
+    ]
+
+
+class _Event(ctypes.Structure):
+    _fields_ = [
+        ("lifecycle_id", ctypes.c_uint64),
+        ("length", ctypes.c_size_t),
+        ("kind", ctypes.c_uint32),
+        ("error_kind", ctypes.c_uint32),
+        ("stream_id", ctypes.c_uint32),
+        ("reserved", ctypes.c_uint32),
+    ]
+
+
+class _Message(ctypes.Structure):
+    _fields_ = [
+        ("length", ctypes.c_size_t),
+        ("ppid", ctypes.c_uint32),
+        ("stream_id", ctypes.c_uint16),
+        ("reserved", ctypes.c_uint16),
+    ]
+
+
+class _SendOptions(ctypes.Structure):
+    _fields_ = [
+        ("lifecycle_id", ctypes.c_uint64),
+        ("lifetime", ctypes.c_uint64),
+        ("flags", ctypes.c_uint32),
+        ("max_retransmissions", ctypes.c_uint16),
+        ("reserved", ctypes.c_uint16),
+    ]
+
+
+class _OutgoingMessage(ctypes.Structure):
+    _fields_ = [
+        ("payload", ctypes.c_char_p),
+        ("length", ctypes.c_size_t),
+        ("ppid", ctypes.c_uint32),
+        ("stream_id", ctypes.c_uint16),
+        ("reserved", ctypes.c_uint16),
+    ]
+
+
+class _Metrics(ctypes.Structure):
+    _fields_ = [
+        ("size", ctypes.c_size_t),
+        ("rtx_bytes_count", ctypes.c_uint64),
+        ("srtt", ctypes.c_uint64),
+        ("tx_packets_count", ctypes.c_size_t),
+        ("tx_messages_count", ctypes.c_size_t),
+        ("rtx_packets_count", ctypes.c_size_t),
+        ("cwnd_bytes", ctypes.c_size_t),
+        ("unack_data_count", ctypes.c_size_t),
+        ("rx_packets_count", ctypes.c_size_t),
+        ("rx_messages_count", ctypes.c_size_t),
+        ("peer_rwnd_bytes", ctypes.c_uint32),
+        ("peer_implementation", ctypes.c_uint32),
+        ("uses_message_interleaving", ctypes.c_uint32),
+        ("uses_zero_checksum", ctypes.c_uint32),
+        ("negotiated_maximum_incoming_streams", ctypes.c_uint16),
+        ("negotiated_maximum_outgoing_streams", ctypes.c_uint16),
+        ("reserved", ctypes.c_uint32),
+    ]
+
+
+class _Counts(ctypes.Structure):
+    _fields_ = [
+        ("size", ctypes.c_size_t),
+        ("rx_packets_count", ctypes.c_size_t),
+        ("tx_packets_count", ctypes.c_size_t),
+        ("tx_messages_count", ctypes.c_size_t),
+    ]
+
+
+_BYTES = ctypes.c_char_p  # const uint8_t *, which points into the bytes of Python
+_SIZE = ctypes.c_size_t
+_SIZE_TO = ctypes.POINTER(ctypes.c_size_t)
+_U16 = ctypes.c_uint16
+_U16_TO = ctypes.POINTER(ctypes.c_uint16)
+_BUFFER = ctypes.POINTER(ctypes.c_uint8)
+_VIEW_TO = ctypes.POINTER(_BUFFER)  # const uint8_t **
+_AT = ctypes.POINTER(_Socket)
+
+# What each call takes. All but two return a result.
+_CALLS = {
+    "dcsctp_version": [],
+    "dcsctp_get_default_options": [ctypes.POINTER(_Options)],
+    "dcsctp_create": [_AT, ctypes.POINTER(_Options), _BYTES, ctypes.c_uint64],
+    "dcsctp_destroy": [_AT],
+    "dcsctp_connect": [_AT],
+    "dcsctp_shutdown": [_AT],
+    "dcsctp_close": [_AT],
+    "dcsctp_handle_input": [_AT, _BYTES, _SIZE],
+    "dcsctp_advance_time": [_AT, ctypes.c_uint64],
+    "dcsctp_poll_timeout": [_AT, ctypes.POINTER(ctypes.c_uint64)],
+    "dcsctp_poll_event": [_AT, ctypes.POINTER(_Event)],
+    "dcsctp_event_bytes": [_AT, _BUFFER, _SIZE, _SIZE_TO],
+    "dcsctp_event_view": [_AT, _VIEW_TO, _SIZE_TO],
+    "dcsctp_event_streams": [_AT, _U16_TO, _SIZE, _SIZE_TO],
+    "dcsctp_messages_ready_count": [_AT, _SIZE_TO],
+    "dcsctp_get_next_message": [_AT, ctypes.POINTER(_Message)],
+    "dcsctp_message_bytes": [_AT, _BUFFER, _SIZE, _SIZE_TO],
+    "dcsctp_message_view": [_AT, _VIEW_TO, _SIZE_TO],
+    "dcsctp_send": [_AT, _U16, ctypes.c_uint32, _BYTES, _SIZE, ctypes.POINTER(_SendOptions)],
+    "dcsctp_send_many": [
+        _AT,
+        ctypes.POINTER(_OutgoingMessage),
+        _SIZE,
+        ctypes.POINTER(_SendOptions),
+        ctypes.POINTER(ctypes.c_int32),
+        _SIZE,
+    ],
+    "dcsctp_reset_streams": [_AT, _U16_TO, _SIZE],
+    "dcsctp_buffered_amount": [_AT, _U16, _SIZE_TO],
+    "dcsctp_buffered_amount_low_threshold": [_AT, _U16, _SIZE_TO],
+    "dcsctp_set_buffered_amount_low_threshold": [_AT, _U16, _SIZE],
+    "dcsctp_get_stream_priority": [_AT, _U16, _U16_TO],
+    "dcsctp_set_stream_priority": [_AT, _U16, _U16],
+    "dcsctp_state": [_AT],
+    "dcsctp_has_failed": [_AT],
+    "dcsctp_set_max_message_size": [_AT, _SIZE],
+    "dcsctp_get_options": [_AT, ctypes.POINTER(_Options)],
+    "dcsctp_get_metrics": [_AT, ctypes.POINTER(_Metrics)],
+    "dcsctp_get_counts": [_AT, ctypes.POINTER(_Counts)],
+    "dcsctp_get_handover_readiness": [_AT, ctypes.POINTER(ctypes.c_uint32)],
+    "dcsctp_get_handover_state_and_close": [_AT],
+    "dcsctp_handover_bytes": [_AT, _BUFFER, _SIZE, _SIZE_TO],
+    "dcsctp_restore_from_state": [_AT, _BYTES, _SIZE],
+}
+
+
+def _load() -> ctypes.CDLL:
+    named = os.environ.get("DCSCTP_LIBRARY")
+    top = pathlib.Path(__file__).resolve().parents[2]
+    places = [
+        top / "lib/libdcsctp.so.0",
+        top / "lib/libdcsctp-unproved.so.0",
+        top / "out/libdcsctp.so.0",
+        top / "out/unproved/libdcsctp-unproved.so.0",
+    ]
+    found = [str(it) for it in places if it.exists()]
+    try:
+        library = ctypes.CDLL(named or (found + ["libdcsctp.so.0"])[0])
+    except OSError as error:
+        raise ImportError(f"there is no library: set DCSCTP_LIBRARY to libdcsctp.so.0 ({error})") from error
+    for name, parameters in _CALLS.items():
+        try:
+            call = getattr(library, name)
+        except AttributeError as error:
+            raise ImportError(f"the library has another version: {error}") from error
+        call.argtypes = parameters
+        call.restype = ctypes.c_int32
+    library.dcsctp_version.restype = ctypes.c_uint32
+    library.dcsctp_destroy.restype = None
+    if library.dcsctp_version() & ~VERSION_UNPROVED != VERSION:
+        raise ImportError("the library has another version")
+    return library
+
+
+_library = _load()
+
+
+def version() -> int:
+    """The version of the library: `VERSION`, and `VERSION_UNPROVED` added to it if it was built without proofs."""
+    return _library.dcsctp_version()
+
+
+# ---- The socket -----------------------------------------------------------------------------------------------------
+
+
+def _checked(name: str, value: int, kind: Type[ctypes._SimpleCData]) -> int:
+    """The number, if it is one of this type. ctypes would cut it."""
+    number = operator.index(value)
+    if kind(number).value != number:
+        raise ValueError(f"{name}: {number} is out of range")
+    return number
+
+
+def _whole(payload: Bytes) -> bytes:
+    return payload if isinstance(payload, bytes) else memoryview(payload).tobytes()
+
+
+def _filled(kind: Type[ctypes.Structure], values: object) -> ctypes.Structure:
+    """A struct whose fields are those of a dataclass, but for `size` and `reserved`."""
+    made = kind()
+    for name, field in kind._fields_:
+        if name == "size":
+            made.size = ctypes.sizeof(kind)
+        elif name != "reserved":
+            setattr(made, name, _checked(name, getattr(values, name), field))
+    return made
+
+
+def _send_options(options: SendOptions) -> _SendOptions:
+    lifetime, count = options.lifetime, options.max_retransmissions
+    return _SendOptions(
+        lifecycle_id=_checked("lifecycle_id", options.lifecycle_id, ctypes.c_uint64),
+        lifetime=_checked("lifetime", lifetime or 0, ctypes.c_uint64),
+        flags=bool(options.unordered) + 2 * (lifetime is not None) + 4 * (count is not None),
+        max_retransmissions=_checked("max_retransmissions", count or 0, ctypes.c_uint16),
+    )
+
+
+def _stream(stream_id: int) -> int:
+    return _checked("stream_id", stream_id, ctypes.c_uint16)
+
+
+class Socket:
+    """A socket. Leaving its `with` destroys it, and tells the peer nothing: `shutdown` or `close` does. It can't be
+    copied. A destroyed socket raises `NoSocket`.
+
+    It begins closed, with its clock at `now`. The seed has 32 bytes, is secret and never used twice: without one the
+    system's generator makes it. Raises `InvalidOptions` and `OutOfMemory`."""
+
+    def __init__(self, options: Optional[Options] = None, seed: Optional[bytes] = None, now: int = 0) -> None:
+        self._socket = _Socket()
+        self._lock = threading.RLock()
+        self._buffer = (ctypes.c_uint8 * 2048)()
+        seed = os.urandom(32) if seed is None else _whole(seed)
+        if len(seed) != 32:
+            raise ValueError("a seed has 32 bytes")
+        filled = _filled(_Options, options or Options())
+        self._do(_library.dcsctp_create, filled, seed, _checked("now", now, ctypes.c_uint64))
+
+    def __enter__(self) -> Socket:
+        return self
+
+    def __exit__(self, *_: object) -> None:
+        self.destroy()
+
+    def __del__(self) -> None:
+        if hasattr(self, "_lock"):
+            self.destroy()
+
+    def __copy__(self) -> NoReturn:
+        raise TypeError("of two copies of a socket only one could be used")
+
+    def __deepcopy__(self, _: object) -> NoReturn:
+        self.__copy__()
+
+    def __reduce__(self) -> NoReturn:
+        raise TypeError("hand over a socket by get_handover_state_and_close")
+
+    def destroy(self) -> None:
+        """Frees the socket, whatever it is doing. The peer is told nothing. Again it does nothing."""
+        with self._lock:
+            _library.dcsctp_destroy(self._socket)
+
+    def _do(self, call: ctypes._NamedFuncPointer, *arguments: object) -> int:
+        with self._lock:
+            result = call(self._socket, *arguments)
+        if result < 0:
+            raise error_of(result)
+        return result
+
+    def _number(self, call: ctypes._NamedFuncPointer, written: ctypes._SimpleCData, *arguments: object) -> int:
+        self._do(call, *arguments, written)
+        return written.value
+
+    def _copied(self, call: ctypes._NamedFuncPointer, length: int) -> bytes:
+        if length > len(self._buffer):
+            self._buffer = (ctypes.c_uint8 * length)()
+        written = ctypes.c_size_t()
+        self._do(call, self._buffer, len(self._buffer), written)
+        return ctypes.string_at(self._buffer, written.value)
+
+    def _shown(self, call: ctypes._NamedFuncPointer) -> bytes:
+        at, length = _BUFFER(), ctypes.c_size_t()
+        self._do(call, at, length)
+        return ctypes.string_at(at, length.value)
+
+    # Commands
+
+    def connect(self) -> None:
+        """Begins an association: `Connected` follows, or `Aborted`. On a socket that isn't closed it changes nothing.
+        Raises `NoSocket`, `Failed` and `OutOfMemory`."""
+        self._do(_library.dcsctp_connect)
+
+    def shutdown(self) -> None:
+        """Ends the association in an orderly way: `Closed` follows, or `Aborted`. From now on `send` is refused. Raises
+        `NoSocket`, `Failed` and `OutOfMemory`."""
+        self._do(_library.dcsctp_shutdown)
+
+    def close(self) -> None:
+        """Ends the association at once, by an ABORT: the last event is `Closed`. What is on its way is lost. Messages
+        that are ready can still be taken; without `follow_rfc` they are lost. Raises `NoSocket`, `Failed` and
+        `OutOfMemory`."""
+        self._do(_library.dcsctp_close)
+
+    # Packets and time
+
+    def handle_input(self, packet: Bytes) -> None:
+        """Handles a packet from the peer, of any bytes. One that can't be read adds an `ErrorEvent`. Raises `NoSocket`,
+        `Failed` and `OutOfMemory`."""
+        whole = _whole(packet)
+        self._do(_library.dcsctp_handle_input, whole, len(whole))
+
+    def advance_time(self, now: int) -> None:
+        """Tells the time, and handles what is due. A moment before the last one changes nothing. Raises `NoSocket`,
+        `Failed` and `OutOfMemory`."""
+        self._do(_library.dcsctp_advance_time, _checked("now", now, ctypes.c_uint64))
+
+    def poll_timeout(self) -> Optional[int]:
+        """The next deadline, by which `advance_time` has to be called. `None` if there is none. Raises `NoSocket`."""
+        moment = self._number(_library.dcsctp_poll_timeout, ctypes.c_uint64())
+        return None if moment == NEVER else moment
+
+    # Events and messages
+
+    def poll_event(self) -> Optional[Event]:
+        """Takes the oldest event. `None` if there is none. Raises `NoSocket`."""
+        event = _Event()
+        with self._lock:
+            if self._do(_library.dcsctp_poll_event, event) != 1:
+                return None
+            if event.kind == SendPacket.kind:
+                return SendPacket(self._shown(_library.dcsctp_event_view))
+            if event.kind in _WITH_TEXT:
+                text = self._copied(_library.dcsctp_event_bytes, event.length).decode("utf-8", "replace")
+                known = event.error_kind in ErrorKind._value2member_map_
+                return _WITH_TEXT[event.kind](ErrorKind(event.error_kind) if known else event.error_kind, text)
+            if event.kind in _WITH_STREAMS:
+                return _WITH_STREAMS[event.kind](self._event_streams(event.length))
+        if event.kind in _PLAIN:
+            return _PLAIN[event.kind]()
+        if event.kind in _WITH_NAME:
+            return _WITH_NAME[event.kind](event.lifecycle_id)
+        if event.kind == BufferedAmountLow.kind:
+            return BufferedAmountLow(event.stream_id)
+        return UnknownEvent(event.kind)
+
+    def _event_streams(self, count: int) -> List[int]:
+        streams, written = (ctypes.c_uint16 * max(count, 1))(), ctypes.c_size_t()
+        self._do(_library.dcsctp_event_streams, streams, len(streams), written)
+        return list(streams[: written.value])
+
+    def events(self) -> Iterator[Event]:
+        """Takes all events, one at a time."""
+        while (event := self.poll_event()) is not None:
+            yield event
+
+    def messages_ready_count(self) -> int:
+        """How many messages are ready to be taken. Raises `NoSocket`."""
+        return self._number(_library.dcsctp_messages_ready_count, ctypes.c_size_t())
+
+    def get_next_message(self) -> Optional[Message]:
+        """Takes the message that became ready first. `None` if there is none. It may be of an association that has
+        ended. What isn't taken when the next one begins is lost, and without `follow_rfc` when its own ends. Raises
+        `NoSocket`."""
+        message = _Message()
+        with self._lock:
+            if self._do(_library.dcsctp_get_next_message, message) != 1:
+                return None
+            payload = self._shown(_library.dcsctp_message_view)
+        return Message(message.stream_id, message.ppid, payload)
+
+    def messages(self) -> Iterator[Message]:
+        """Takes all messages, one at a time."""
+        while (message := self.get_next_message()) is not None:
+            yield message
+
+    def send(self, stream_id: int, ppid: int, payload: Bytes, options: SendOptions = _SENT_PLAINLY) -> None:
+        """Sends a message, whose bytes are copied. It waits after the others of its stream, and before an association
+        is made, too. Where it is refused, an `ErrorEvent` says the same. After `OutOfMemory` it may be tried again if
+        `has_failed` is false.
+
+        Raises `NoSocket`, `EmptyPayload`, `MessageTooLarge`, `ShuttingDown`, `ResourceExhaustion`, `Failed` and
+        `OutOfMemory`."""
+        whole, how = _whole(payload), _send_options(options)
+        under = _checked("ppid", ppid, ctypes.c_uint32)
+        self._do(_library.dcsctp_send, _stream(stream_id), under, whole, len(whole), how)
+
+    def send_many(
+        self, messages: Sequence[Message], options: SendOptions = _SENT_PLAINLY
+    ) -> List[Optional[Error]]:
+        """Sends several messages, each as `send` does, with the same options. What waits is sent once, after the last.
+        Returns for each message `None`, or what refused it: that doesn't refuse those after it.
+
+        Raises `NoSocket`, `Failed` and `OutOfMemory`. After the last it may be tried again if `has_failed` is false;
+        else some of the messages may have been sent."""
+        count = len(messages)
+        outgoing = (_OutgoingMessage * max(count, 1))()
+        for at, message in zip(outgoing, messages):
+            whole = _whole(message.payload)
+            at.payload, at.length = whole, len(whole)
+            at.ppid = _checked("ppid", message.ppid, ctypes.c_uint32)
+            at.stream_id = _stream(message.stream_id)
+        unwritten = 1
+        results = (ctypes.c_int32 * max(count, 1))(*[unwritten] * max(count, 1))
+        try:
+            self._do(_library.dcsctp_send_many, outgoing, count, _send_options(options), results, count)
+        except Error:
+            # An error that refuses one message is written, and the others are not.
+            if count == 0 or results[0] == unwritten:
+                raise
+        return [error_of(it) if it < 0 else None for it in results[:count]]
+
+    # Streams
+
+    def reset_streams(self, stream_ids: Sequence[int]) -> None:
+        """Resets streams of this end, which closes data channels. Messages on them that weren't begun are dropped:
+        first wait until `buffered_amount` of each and `unack_data_count` of `metrics` are 0. `StreamsResetPerformed` or
+        `StreamsResetFailed` follows; the peer gets `IncomingStreamReset`.
+
+        Raises `NoSocket`, `NotConnected`, `NotSupported`, `Failed` and `OutOfMemory`."""
+        ids = [_stream(it) for it in stream_ids]
+        self._do(_library.dcsctp_reset_streams, (ctypes.c_uint16 * max(len(ids), 1))(*ids), len(ids))
+
+    def buffered_amount(self, stream_id: int) -> int:
+        """How many bytes wait to be sent on a stream. Raises `NoSocket`."""
+        return self._number(_library.dcsctp_buffered_amount, ctypes.c_size_t(), _stream(stream_id))
+
+    def buffered_amount_low_threshold(self, stream_id: int) -> int:
+        """The low threshold of a stream: `BufferedAmountLow` comes when what waits falls to it. Raises `NoSocket`."""
+        return self._number(_library.dcsctp_buffered_amount_low_threshold, ctypes.c_size_t(), _stream(stream_id))
+
+    def set_buffered_amount_low_threshold(self, stream_id: int, size: int) -> None:
+        """Sets that threshold. It outlasts an association. Raises `NoSocket`, `Failed` and `OutOfMemory`."""
+        size = _checked("size", size, ctypes.c_size_t)
+        self._do(_library.dcsctp_set_buffered_amount_low_threshold, _stream(stream_id), size)
+
+    def stream_priority(self, stream_id: int) -> int:
+        """The priority of a stream: one of the greatest priority is sent first. Raises `NoSocket`."""
+        return self._number(_library.dcsctp_get_stream_priority, ctypes.c_uint16(), _stream(stream_id))
+
+    def set_stream_priority(self, stream_id: int, priority: int) -> None:
+        """Sets that priority. It outlasts an association. Raises `NoSocket`, `Failed` and `OutOfMemory`."""
+        priority = _checked("priority", priority, ctypes.c_uint16)
+        self._do(_library.dcsctp_set_stream_priority, _stream(stream_id), priority)
+
+    # Queries
+
+    def state(self) -> State:
+        """The state. Raises `NoSocket`."""
+        return State(self._do(_library.dcsctp_state))
+
+    def has_failed(self) -> bool:
+        """Whether an allocation has failed, so that the socket is of no more use. Raises `NoSocket`."""
+        return self._do(_library.dcsctp_has_failed) == 1
+
+    def set_max_message_size(self, size: int) -> None:
+        """Sets how long a message may be from now on. Raises `NoSocket`."""
+        self._do(_library.dcsctp_set_max_message_size, _checked("size", size, ctypes.c_size_t))
+
+    def options(self) -> Options:
+        """The options. `max_message_size` is as it was set last. Raises `NoSocket`."""
+        read = _Options(size=ctypes.sizeof(_Options))
+        self._do(_library.dcsctp_get_options, read)
+        return Options(**{it.name: type(it.default)(getattr(read, it.name)) for it in dataclasses.fields(Options)})
+
+    def metrics(self) -> Optional[Metrics]:
+        """The metrics. `None` where the peer isn't known. Raises `NoSocket`."""
+        read = _Metrics(size=ctypes.sizeof(_Metrics))
+        if self._do(_library.dcsctp_get_metrics, read) != 1:
+            return None
+        values = {it.name: getattr(read, it.name) for it in dataclasses.fields(Metrics)}
+        for name in ("uses_message_interleaving", "uses_zero_checksum"):
+            values[name] = bool(values[name])
+        return Metrics(**values)
+
+    def counts(self) -> Counts:
+        """What the socket has counted, whatever the state: an association that has ended doesn't matter. Raises
+        `NoSocket`."""
+        read = _Counts(size=ctypes.sizeof(_Counts))
+        self._do(_library.dcsctp_get_counts, read)
+        return Counts(read.rx_packets_count, read.tx_packets_count, read.tx_messages_count)
+
+    # Handover to another process
+
+    def handover_readiness(self) -> Handover:
+        """Why the socket can't be handed over now; 0: it can. Raises `NoSocket`."""
+        return Handover(self._number(_library.dcsctp_get_handover_readiness, ctypes.c_uint32()))
+
+    def get_handover_state_and_close(self) -> bytes:
+        """Takes a snapshot, from which `restore_from_state` goes on in another process, and ends the association here.
+        The peer isn't told, and the last event is `Closed`. Take all messages first. The snapshot is as secret as the
+        messages, is used once, and by the same version of the library.
+
+        Raises `NoSocket`, `NotReady`, `Failed` and `OutOfMemory`."""
+        with self._lock:
+            self._do(_library.dcsctp_get_handover_state_and_close)
+            return self.handover_bytes()
+
+    def handover_bytes(self) -> bytes:
+        """The snapshot that was taken last. Raises `NoSocket`, `NothingToCopy` and `OutOfMemory`."""
+        length = ctypes.c_size_t()
+        with self._lock:
+            try:
+                self._do(_library.dcsctp_handover_bytes, self._buffer, 0, length)
+            except BufferTooSmall:
+                pass
+            return self._copied(_library.dcsctp_handover_bytes, length.value)
+
+    def restore_from_state(self, snapshot: Bytes) -> None:
+        """Goes on from a snapshot that another socket with these options gave: `Connected` follows. Let the clock of
+        the socket be past a minute. Restore only what you trust. `OtherOptions`: they differ in a port, an announced
+        number of streams, `enable_partial_reliability`, `enable_message_interleaving` or `zero_checksum_method`.
+
+        Raises `NoSocket`, `NotClosed`, `InvalidSnapshot`, `OtherOptions`, `Failed` and `OutOfMemory`."""
+        whole = _whole(snapshot)
+        self._do(_library.dcsctp_restore_from_state, whole, len(whole))

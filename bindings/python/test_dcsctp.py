@@ -1,0 +1,406 @@
+"""Tests of dcsctp.py: it says what the header says; calls in any order, with any values, return or raise an error."""
+
+import copy
+import ctypes
+import dataclasses
+import pathlib
+import pickle
+import random
+import re
+import threading
+import unittest
+
+import dcsctp
+
+HEADER = pathlib.Path(__file__).resolve().parents[2] / "include/dcsctp.h"
+
+# The types of C, but for `const`, and those of ctypes.
+TYPES = {
+    "void *": ctypes.c_void_p,
+    "size_t": ctypes.c_size_t,
+    "uint64_t": ctypes.c_uint64,
+    "uint32_t": ctypes.c_uint32,
+    "uint16_t": ctypes.c_uint16,
+    "int32_t": ctypes.c_int32,
+    "size_t *": ctypes.POINTER(ctypes.c_size_t),
+    "uint64_t *": ctypes.POINTER(ctypes.c_uint64),
+    "uint32_t *": ctypes.POINTER(ctypes.c_uint32),
+    "uint16_t *": ctypes.POINTER(ctypes.c_uint16),
+    "int32_t *": ctypes.POINTER(ctypes.c_int32),
+    "uint8_t *": ctypes.POINTER(ctypes.c_uint8),
+    "const uint8_t *": ctypes.c_char_p,
+    "const uint8_t * *": ctypes.POINTER(ctypes.POINTER(ctypes.c_uint8)),
+}
+STRUCTS = {
+    "dcsctp_socket": dcsctp._Socket,
+    "dcsctp_options": dcsctp._Options,
+    "dcsctp_event": dcsctp._Event,
+    "dcsctp_message": dcsctp._Message,
+    "dcsctp_send_options": dcsctp._SendOptions,
+    "dcsctp_outgoing_message": dcsctp._OutgoingMessage,
+    "dcsctp_metrics": dcsctp._Metrics,
+    "dcsctp_counts": dcsctp._Counts,
+}
+
+
+def header():
+    """The text of the header without comments, and without what tools that read declarations leave out."""
+    text = re.sub(r"/\*.*?\*/", "", HEADER.read_text(encoding="utf-8"), flags=re.S)
+    return re.sub(r"static inline .*?\n}\n", "", text, flags=re.S)
+
+
+def declared(text):
+    """The name and the type of ctypes of a parameter or a field."""
+    words = re.sub(r"(\w+)\[\d+\]", r"*\1", text).replace("*", " * ").split()
+    name = words.pop() if words[-1] != "*" else ""
+    kind = " ".join(words)
+    plain = kind.replace("const ", "")
+    if plain.rstrip(" *") in STRUCTS:
+        return name, ctypes.POINTER(STRUCTS[plain.rstrip(" *")])
+    return name, TYPES.get(kind) or TYPES[plain]
+
+
+def numbers(prefix):
+    """The enumerators and macros of the header that begin so, without that."""
+    text = header()
+    found = re.findall(rf"\bDCSCTP_{prefix}(\w+) = (-?\d+),", text)
+    found += re.findall(rf"#define DCSCTP_{prefix}(\w+) (\d+)u\n", text.replace("  ", "").replace(" \n", "\n"))
+    return {name: int(number) for name, number in found}
+
+
+def pascal(name):
+    return "".join(it.capitalize() for it in name.split("_"))
+
+
+class Header(unittest.TestCase):
+    def test_structs_have_the_fields_of_the_header(self):
+        found = re.findall(r"typedef struct (\w+) \{(.*?)\}", header(), flags=re.S)
+        self.assertEqual({name for name, _ in found}, set(STRUCTS))
+        for name, fields in found:
+            each = [declared(it) for it in fields.split(";") if it.strip()]
+            self.assertEqual(each, STRUCTS[name]._fields_, name)
+
+    def test_calls_take_what_the_header_says(self):
+        found = re.findall(r"^(\w+) (dcsctp_\w+)\(([^)]*)\)", header(), flags=re.M)
+        self.assertEqual([name for _, name, _ in found], list(dcsctp._CALLS))
+        results = {"int32_t": ctypes.c_int32, "uint32_t": ctypes.c_uint32, "void": None}
+        for result, name, parameters in found:
+            each = [declared(it)[1] for it in parameters.split(",") if it != "void"]
+            self.assertEqual(each, dcsctp._CALLS[name], name)
+            self.assertEqual(getattr(dcsctp._library, name).restype, results[result], name)
+
+    def test_numbers_are_those_of_the_header(self):
+        rows = [
+            ("KIND_", dcsctp.ErrorKind, 9),
+            ("STATE_", dcsctp.State, 4),
+            ("PEER_", dcsctp.Peer, 5),
+            ("HANDOVER_", dcsctp.Handover, 10),
+        ]
+        for prefix, kind, count in rows:
+            self.assertEqual(numbers(prefix), {it.name: it.value for it in kind}, prefix)
+            self.assertEqual(len(kind), count, prefix)
+        self.assertEqual(numbers("SEND_"), {"UNORDERED": 1, "LIFETIME": 2, "MAX_RETRANSMISSIONS": 4})
+        errors = {pascal(name): number for name, number in numbers("ERROR_").items()}
+        self.assertEqual(errors, {it.__name__: it.number for it in dcsctp.Error.__subclasses__()})
+        self.assertEqual(len(errors), 19)
+
+    def test_events_are_those_of_the_header(self):
+        events = {pascal(name): number for name, number in numbers("EVENT_").items() if name != "NONE"}
+        events["ErrorEvent"] = events.pop("Error")
+        kinds = [it for it in dcsctp.Event.__subclasses__() if it is not dcsctp.UnknownEvent]
+        self.assertEqual(events, {it.__name__: it.kind for it in kinds})
+        text = HEADER.read_text(encoding="utf-8")
+        names = dict(re.findall(r'case DCSCTP_EVENT_(\w+):\s+return "([^"]*)"', text))
+        for kind in kinds:
+            key = next(it for it in names if pascal(it) == kind.__name__.replace("ErrorEvent", "Error"))
+            self.assertEqual(kind.name, names[key])
+
+    def test_default_options_are_those_of_the_library(self):
+        options = dcsctp._Options(size=ctypes.sizeof(dcsctp._Options))
+        self.assertEqual(dcsctp._library.dcsctp_get_default_options(options), 0)
+        self.assertEqual(bytes(dcsctp._filled(dcsctp._Options, dcsctp.Options())), bytes(options))
+        with dcsctp.Socket() as socket:
+            self.assertEqual(socket.options(), dcsctp.Options())
+
+    def test_send_options_set_their_fields_and_flags(self):
+        how = dcsctp._send_options(dcsctp.SendOptions(7, True, 9, 3))
+        self.assertEqual((how.lifecycle_id, how.lifetime, how.flags, how.max_retransmissions), (7, 9, 7, 3))
+        rows = [({}, 0), ({"unordered": True}, 1), ({"lifetime": 0}, 2), ({"max_retransmissions": 0}, 4)]
+        for options, flags in rows:
+            self.assertEqual(dcsctp._send_options(dcsctp.SendOptions(**options)).flags, flags, options)
+
+
+# Each method that calls the library, with values that it takes.
+CALLS = {
+    "connect": (),
+    "shutdown": (),
+    "close": (),
+    "handle_input": (b"packet",),
+    "advance_time": (5,),
+    "poll_timeout": (),
+    "poll_event": (),
+    "messages_ready_count": (),
+    "get_next_message": (),
+    "send": (1, 51, b"hello"),
+    "send_many": ([dcsctp.Message(1, 51, b"hello")],),
+    "reset_streams": ([1],),
+    "buffered_amount": (1,),
+    "buffered_amount_low_threshold": (1,),
+    "set_buffered_amount_low_threshold": (1, 5),
+    "stream_priority": (1,),
+    "set_stream_priority": (1, 5),
+    "state": (),
+    "has_failed": (),
+    "set_max_message_size": (5000,),
+    "options": (),
+    "metrics": (),
+    "counts": (),
+    "handover_readiness": (),
+    "get_handover_state_and_close": (),
+    "handover_bytes": (),
+    "restore_from_state": (b"no snapshot",),
+}
+
+
+class Misuse(unittest.TestCase):
+    def test_destroyed_socket_raises_no_socket(self):
+        with dcsctp.Socket() as socket:
+            socket.connect()
+        socket.destroy()
+        for name, arguments in CALLS.items():
+            with self.assertRaises(dcsctp.NoSocket, msg=name):
+                getattr(socket, name)(*arguments)
+        self.assertRaises(dcsctp.NoSocket, list, socket.events())
+        others = {"events", "messages", "destroy"}
+        methods = {it for it in vars(dcsctp.Socket) if not it.startswith("_")}
+        self.assertEqual(methods, set(CALLS) | others, "each method is in the table")
+
+    def test_socket_is_not_copied(self):
+        with dcsctp.Socket() as socket:
+            for copied in (copy.copy, copy.deepcopy, pickle.dumps):
+                self.assertRaises(TypeError, copied, socket)
+
+    def test_numbers_out_of_range_are_refused(self):
+        with dcsctp.Socket() as socket:
+            for call in (
+                lambda: socket.send(65536, 51, b"hello"),
+                lambda: socket.send(-1, 51, b"hello"),
+                lambda: socket.send(1, 2**32, b"hello"),
+                lambda: socket.send(1, 51, b"hello", dcsctp.SendOptions(lifetime=-1)),
+                lambda: socket.send(1, 51, b"hello", dcsctp.SendOptions(max_retransmissions=65536)),
+                lambda: socket.send_many([dcsctp.Message(1, -5, b"hello")]),
+                lambda: socket.reset_streams([1, 70000]),
+                lambda: socket.buffered_amount(65536),
+                lambda: socket.advance_time(2**64),
+                lambda: socket.set_stream_priority(1, 65536),
+                lambda: socket.set_max_message_size(-1),
+                lambda: dcsctp.Socket(now=-1),
+                lambda: dcsctp.Socket(seed=bytes(31)),
+                lambda: dcsctp.Socket(dcsctp.Options(local_port=65536)),
+            ):
+                self.assertRaises(ValueError, call)
+            for call in (
+                lambda: socket.send(1, 51, "hello"),
+                lambda: socket.send(1, 51, 5),
+                lambda: socket.send("1", 51, b"hello"),
+                lambda: socket.handle_input(None),
+                lambda: socket.advance_time(1.5),
+                lambda: socket.restore_from_state(3),
+            ):
+                self.assertRaises(TypeError, call)
+            self.assertIsNone(socket.poll_event(), "nothing has changed")
+
+    def test_no_messages_and_no_streams(self):
+        with dcsctp.Socket() as socket:
+            self.assertEqual(socket.send_many([]), [])
+            self.assertRaises(dcsctp.NotConnected, socket.reset_streams, [])
+
+    def test_calls_in_any_order_return(self):
+        chance = random.Random(1)
+        connected, raised = 0, set()
+        for _ in range(10):
+            sockets, packets, snapshot = [self.socket(), self.socket()], [[], []], b""
+            for _ in range(1500):
+                at = chance.randrange(2)
+                name = chance.choice(list(CALLS) + ["poll_event", "packet"] * 25 + ["send"] * 8)
+                if name in ("close", "shutdown", "get_handover_state_and_close") and chance.random() < 0.9:
+                    continue
+                arguments = CALLS.get(name, ())
+                if name == "packet":
+                    noise = chance.getrandbits(240).to_bytes(30, "big")
+                    name, arguments = "handle_input", (packets[at].pop(0) if packets[at] else noise,)
+                elif name == "send":
+                    payload = b"x" * chance.choice([0, 5, 3000, 6000])
+                    arguments = (chance.randrange(3), 53, bytearray(payload))
+                elif name == "restore_from_state" and chance.random() < 0.5:
+                    sockets[at].destroy()
+                    sockets[at] = self.socket()
+                    arguments = (snapshot,)
+                try:
+                    result = getattr(sockets[at], name)(*arguments)
+                except dcsctp.Error as error:
+                    raised.add(type(error))
+                    continue
+                if isinstance(result, dcsctp.SendPacket):
+                    packets[1 - at].append(result.packet)
+                connected += isinstance(result, dcsctp.Connected)
+                if isinstance(result, bytes):
+                    snapshot = result
+        self.assertGreater(connected, 10)
+        for error in (dcsctp.EmptyPayload, dcsctp.MessageTooLarge, dcsctp.NotConnected, dcsctp.InvalidSnapshot):
+            self.assertIn(error, raised)
+        self.assertNotIn(dcsctp.NoSocket, raised)
+        self.assertNotIn(dcsctp.OutOfMemory, raised)
+
+    def test_threads_share_a_socket(self):
+        with dcsctp.Socket() as a, dcsctp.Socket() as b:
+            a.connect()
+            failures = []
+
+            def carry(source, target):
+                try:
+                    for _ in range(300):
+                        source.send(1, 53, b"hello")
+                        for event in source.events():
+                            if isinstance(event, dcsctp.SendPacket):
+                                target.handle_input(event.packet)
+                        list(source.messages())
+                except Exception as failure:  # what a thread raises is lost otherwise
+                    failures.append(failure)
+
+            threads = [threading.Thread(target=carry, args=it) for it in [(a, b), (b, a), (a, b)]]
+            for thread in threads:
+                thread.start()
+            for thread in threads:
+                thread.join()
+            self.assertEqual(failures, [])
+
+    def socket(self):
+        return dcsctp.Socket(dcsctp.Options(max_message_size=5000, max_send_buffer_size=20000))
+
+
+def carry(source, target):
+    """Takes all events of a socket. Its packets go to the other one. Returns how many there were."""
+    packets = [event.packet for event in source.events() if isinstance(event, dcsctp.SendPacket)]
+    for packet in packets:
+        target.handle_input(packet)
+    return len(packets)
+
+
+def settle(a, b):
+    """Carries packets both ways until none is left. Returns how many each has sent."""
+    of_a, of_b = 0, 0
+    while True:
+        more_of_a, more_of_b = carry(a, b), carry(b, a)
+        of_a, of_b = of_a + more_of_a, of_b + more_of_b
+        if more_of_a + more_of_b == 0:
+            return of_a, of_b
+
+
+class Ends(unittest.TestCase):
+    """What is left of an association that has ended."""
+
+    def connected(self, **options):
+        a, b = (self.socket(**options) for _ in range(2))
+        a.connect()
+        # INIT and COOKIE ECHO; INIT ACK and COOKIE ACK (RFC 9260, section 5.1)
+        self.assertEqual(settle(a, b), (2, 2))
+        return a, b
+
+    def socket(self, **options):
+        socket = dcsctp.Socket(dcsctp.Options(**options), now=3600 * 10**9)
+        self.addCleanup(socket.destroy)
+        return socket
+
+    def test_counts_outlast_their_association(self):
+        self.assertEqual(self.socket().counts(), dcsctp.Counts(0, 0, 0))
+        a, b = self.connected()
+        for _ in range(3):
+            a.send(1, 51, b"hello")
+        with_messages = settle(a, b)
+        a.close()
+        last = settle(a, b)
+        of_a, of_b = (2 + with_messages[at] + last[at] for at in range(2))
+        self.assertEqual((a.metrics(), b.metrics(), b.state()), (None, None, dcsctp.State.CLOSED))
+        self.assertEqual(a.counts(), dcsctp.Counts(of_b, of_a, 3))
+        self.assertEqual(b.counts(), dcsctp.Counts(of_a, of_b, 0))
+
+    def test_message_outlasts_its_association_by_follow_rfc(self):
+        for follow_rfc in (True, False):
+            a, b = self.connected(follow_rfc=follow_rfc)
+            a.send(1, 51, b"hello")
+            a.send(2, 53, b"good bye")
+            a.close()
+            settle(a, b)
+            self.assertEqual(b.state(), dcsctp.State.CLOSED)
+            expected = [dcsctp.Message(1, 51, b"hello"), dcsctp.Message(2, 53, b"good bye")]
+            self.assertEqual(list(b.messages()), expected if follow_rfc else [], follow_rfc)
+
+    def test_message_is_lost_when_the_next_association_begins(self):
+        a, b = self.connected()
+        a.send(1, 51, b"hello")
+        a.close()
+        settle(a, b)
+        self.assertEqual((b.state(), b.messages_ready_count()), (dcsctp.State.CLOSED, 1))
+        a.connect()
+        settle(a, b)
+        self.assertEqual((b.state(), b.get_next_message()), (dcsctp.State.CONNECTED, None))
+
+    def test_snapshot_is_for_the_options_that_it_was_made_with(self):
+        a, b = self.connected()
+        snapshot = a.get_handover_state_and_close()
+        for options in (
+            {"local_port": 5001},
+            {"remote_port": 5001},
+            {"announced_maximum_incoming_streams": 9},
+            {"announced_maximum_outgoing_streams": 9},
+            {"enable_partial_reliability": False},
+            {"enable_message_interleaving": True},
+            {"zero_checksum_method": 1},
+        ):
+            other = self.socket(**options)
+            with self.assertRaises(dcsctp.OtherOptions, msg=options):
+                other.restore_from_state(snapshot)
+            self.assertEqual((other.state(), other.poll_event()), (dcsctp.State.CLOSED, None), options)
+        same = self.socket(max_message_size=1000)
+        for place in (0, len(snapshot) // 2, len(snapshot) - 1):
+            changed = bytearray(snapshot)
+            changed[place] ^= 1
+            with self.assertRaises(dcsctp.InvalidSnapshot, msg=place):
+                same.restore_from_state(changed)
+        same.restore_from_state(snapshot)
+        same.send(1, 51, b"after")
+        settle(same, b)
+        self.assertEqual(b.get_next_message(), dcsctp.Message(1, 51, b"after"))
+
+
+class Values(unittest.TestCase):
+    def test_long_message_comes_back_whole(self):
+        payload = bytes(range(256)) * 100
+        with dcsctp.Socket() as a, dcsctp.Socket() as b:
+            a.connect()
+            a.send(3, 53, memoryview(payload))
+            for source, target in [(a, b), (b, a)] * 40:
+                for event in source.events():
+                    if isinstance(event, dcsctp.SendPacket):
+                        target.handle_input(bytearray(event.packet))
+            self.assertEqual(b.messages_ready_count(), 1)
+            self.assertEqual(list(b.messages()), [dcsctp.Message(3, 53, payload)])
+            self.assertEqual(a.metrics().peer_implementation, dcsctp.Peer.DCSCTP_RS)
+
+    def test_thresholds_and_priorities_are_kept(self):
+        with dcsctp.Socket() as socket:
+            socket.set_buffered_amount_low_threshold(3, 77)
+            socket.set_stream_priority(3, 9)
+            self.assertEqual([socket.buffered_amount_low_threshold(it) for it in (3, 4)], [77, 0])
+            self.assertEqual([socket.stream_priority(it) for it in (3, 4)], [9, 256])
+            socket.set_max_message_size(4)
+            self.assertEqual(dataclasses.replace(socket.options(), max_message_size=262144), dcsctp.Options())
+            self.assertRaises(dcsctp.MessageTooLarge, socket.send, 1, 51, b"hello")
+
+    def test_version_is_that_of_the_header(self):
+        self.assertEqual(dcsctp.version() & ~dcsctp.VERSION_UNPROVED, 256)
+
+
+if __name__ == "__main__":
+    unittest.main()

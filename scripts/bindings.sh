@@ -1,0 +1,115 @@
+#!/usr/bin/env bash
+# Tries the bindings in a package of `make dist`, which is unpacked elsewhere: their tests, their programs, which have
+# to print bindings/expected.txt, and what bindings/README.md shows. What isn't installed here is left out.
+#
+#     scripts/bindings.sh PACKAGE NAME        PACKAGE: a .tar.gz; NAME: dcsctp or dcsctp-unproved
+set -euo pipefail
+shopt -s inherit_errexit
+[ $# = 2 ] || { sed -n '5s/^# *//p' "$0" >&2; exit 2; }
+name=$2
+folder=$(mktemp -d)
+trap 'rm -rf "$folder"' EXIT
+tar -xzf "$1" -C "$folder" --strip-components=1 --touch
+bindings=$folder/bindings
+# Whoever installs a package has none of these.
+unset DCSCTP_LIB_DIR DCSCTP_LIB_NAME DCSCTP_LIBRARY
+
+# has COMMAND WHAT: is it installed? Else it says what isn't tried.
+has() {
+    command -v "$1" >/dev/null && return
+    echo "check: no $1, so the binding for $2 isn't tried"
+    return 1
+}
+
+# tours COMMAND..: its programs print what those of the others do.
+tours() {
+    timeout 300 "$@" | diff "$bindings/expected.txt" -
+}
+
+# shown LANGUAGE: the program of bindings/README.md.
+shown() {
+    sed -n "/^\`\`\`$1\$/,/^\`\`\`\$/p" "$bindings/README.md" | sed '1d; $d'
+}
+
+# says_hello COMMAND..: that is all that it prints.
+says_hello() {
+    timeout 300 "$@" | diff <(echo hello) -
+}
+
+# under_valgrind COMMAND PROGRAM..: the command on the program under valgrind, where that is installed. Leaks count.
+under_valgrind() {
+    command -v valgrind >/dev/null || return 0
+    "$1" valgrind -q --leak-check=full --errors-for-leak-kinds=definite,possible --error-exitcode=9 "${@:2}"
+}
+
+try_rust() {
+    cd "$bindings/rust"
+    export CARGO_TARGET_DIR=$folder/cargo
+    cargo test --offline --quiet >"$folder/log" 2>&1 || { cat "$folder/log" >&2; return 1; }
+    tours cargo run --offline --quiet --example tour
+    under_valgrind tours "$CARGO_TARGET_DIR/debug/examples/tour"
+    { echo "//! Shown." && shown rust; } >dcsctp/examples/shown.rs
+    says_hello cargo run --offline --quiet --example shown
+}
+
+command -v valgrind >/dev/null || echo "check: no valgrind, so no binding is run under it"
+if has cargo Rust; then
+    echo "check: bindings/rust"
+    (try_rust)
+fi
+if has python3 Python; then
+    echo "check: bindings/python"
+    export PYTHONDONTWRITEBYTECODE=1
+    (cd "$bindings/python" && timeout 300 python3 -m unittest -q 2>"$folder/log" || { cat "$folder/log" >&2; exit 1; })
+    tours python3 "$bindings/python/tour.py"
+    shown python >"$bindings/python/shown.py"
+    says_hello python3 "$bindings/python/shown.py"
+fi
+
+# try_cpp COMPILER..: it compiles without warnings, and without exceptions.
+try_cpp() {
+    local include=("-I$bindings/cpp" "-I$folder/include") it
+    local strict=(-std=c++17 -Wall -Wextra -Wshadow -pedantic -Werror)
+    echo '#include "dcsctp.hpp"' |
+        "$@" "${strict[@]}" -fno-exceptions -fno-rtti "${include[@]}" -fsyntax-only -x c++ -
+    shown cpp >"$bindings/cpp/shown.cpp"
+    for it in tour test shown; do
+        "$@" "${strict[@]}" -O1 -gdwarf-4 "${include[@]}" "$bindings/cpp/$it.cpp" "$folder/lib/lib$name.a" \
+            -o "$folder/$it"
+    done
+    tours "$folder/tour"
+    says_hello "$folder/shown"
+    timeout 300 "$folder/test"
+    under_valgrind tours "$folder/tour"
+    under_valgrind env "$folder/test"
+}
+
+read -ra compile <<<"${CXX:-c++}"
+if has "${compile[0]}" C++; then
+    echo "check: bindings/cpp"
+    try_cpp "${compile[@]}"
+fi
+
+try_go() {
+    local tags=() changed
+    [[ $name != *-unproved ]] || tags=(-tags unproved)
+    cd "$bindings/go"
+    export PKG_CONFIG_LIBDIR=$folder/lib/pkgconfig LD_LIBRARY_PATH=$folder/lib GOPROXY=off GOTOOLCHAIN=local GOFLAGS=
+    changed=$(gofmt -l .)
+    [ -z "$changed" ] || { echo "bindings: gofmt changes $changed" >&2; return 1; }
+    timeout 300 go test -count=1 "${tags[@]}" ./... >"$folder/log" 2>&1 || { cat "$folder/log" >&2; return 1; }
+    go build "${tags[@]}" -o "$folder/tour-go" ./tour
+    tours "$folder/tour-go"
+    # (in a module of its own, as of a user)
+    mkdir "$folder/shown-go"
+    cd "$folder/shown-go"
+    { printf 'package main\n\nimport (\n\t"dcsctp"\n\t"fmt"\n\t"log"\n)\n\n' && shown go; } >main.go
+    go mod init shown 2>"$folder/log"
+    go mod edit -require dcsctp@v0.0.0 -replace "dcsctp=$bindings/go"
+    says_hello go run "${tags[@]}" .
+}
+
+if has go Go && has pkg-config Go; then
+    echo "check: bindings/go"
+    (try_go)
+fi
