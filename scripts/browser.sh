@@ -2,9 +2,10 @@
 # Has a page in headless Chromium use data channels to a program over the C library: examples/browser. It needs these
 # packages, by their names in apt: chromium, python3-aiortc. Where one isn't installed it says so, and that is all.
 #
-#     scripts/browser.sh LIBRARY FOLDER        LIBRARY is the shared one; FOLDER gets channels.so and browser.png
+#     scripts/browser.sh LIBRARY FOLDER [PAGE]        LIBRARY is the shared one; FOLDER gets channels.so and
+#                                                     browser.png; PAGE is served in place of the example's
 set -euo pipefail
-[ $# = 2 ] || { sed -n '5s/^# *//p' "$0" >&2; exit 2; }
+[ $# = 2 ] || [ $# = 3 ] || { sed -n '5s/^# *//p' "$0" >&2; exit 2; }
 cd "$(dirname "$0")/.."
 missing=''
 command -v chromium >/dev/null || missing+=' chromium'
@@ -15,6 +16,6 @@ python=python3
 [ -z "$missing" ] || { echo "browser: it isn't run, since this isn't installed:$missing"; exit 0; }
 mkdir -p "$2"
 library=$(realpath "$1")
-${CC:-cc} -std=c11 -Wall -Wextra -Wshadow -pedantic -Werror -O2 -Iinclude -shared -fPIC examples/browser/channels.c \
+${CC:-cc} -std=c11 -Wall -Wextra -Wshadow -pedantic -O2 -Iinclude -shared -fPIC examples/browser/channels.c \
     examples/c/data_channel.c "$library" -Wl,-rpath,"$(dirname "$library")" -o "$2/channels.so"
-PYTHONDONTWRITEBYTECODE=1 timeout 150 "$python" examples/browser/browser.py "$2/channels.so" "$2/browser.png"
+PYTHONDONTWRITEBYTECODE=1 timeout 150 "$python" examples/browser/browser.py "$2/channels.so" "$2/browser.png" "${@:3}"

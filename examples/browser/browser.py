@@ -1,11 +1,12 @@
 #!/usr/bin/env python3
 """A page in headless Chromium has data channels to this program, whose SCTP is the C library.
 
-    browser.py CHANNELS SCREENSHOT        run by scripts/browser.sh, which makes CHANNELS
+    browser.py CHANNELS SCREENSHOT [PAGE]        run by scripts/browser.sh, which makes CHANNELS
 
 ICE and DTLS are aiortc's. Its own SCTP is replaced by `Transport` below. The page, index.html, sends
 what comes back, and closes and opens channels. It shows what it did, and tells it here in the end.
-The program exits with 0 only if the page and it saw all that they should.
+The program exits with 0 only if the page and it saw all that they should. With PAGE it serves that
+file in place of index.html, and judges nothing.
 """
 
 import asyncio
@@ -186,8 +187,8 @@ class Program:
 # ---- The page and its server --------------------------------------------------------------------
 
 
-def make_handler(loop, answer, result, finished):
-    """Serves the page. It posts its offer and what it did. /finished answers after that: since the
+def make_handler(page, loop, answer, result, finished):
+    """Serves the page of this file. It posts its offer and what it did. /finished answers after that: since the
     page has it as an image, Chromium waits for it before it takes the screenshot."""
 
     class Handler(http.server.BaseHTTPRequestHandler):
@@ -200,7 +201,7 @@ def make_handler(loop, answer, result, finished):
 
         def do_GET(self):
             if self.path == "/":
-                with open(os.path.join(FOLDER, "index.html"), "rb") as file:
+                with open(page, "rb") as file:
                     self.reply("text/html; charset=utf-8", file.read())
             elif self.path == "/finished":
                 finished.wait(PATIENCE)
@@ -225,19 +226,24 @@ def make_handler(loop, answer, result, finished):
 
 async def run_page(url, result, screenshot, finished):
     """Runs Chromium until it has taken a screenshot, and returns what the page has told."""
-    with tempfile.TemporaryDirectory(ignore_cleanup_errors=True) as profile:
+    with tempfile.TemporaryDirectory(ignore_cleanup_errors=True) as profile, tempfile.TemporaryFile() as log:
         browser = subprocess.Popen(
             ["chromium", "--headless=new", "--no-sandbox", "--disable-gpu", "--hide-scrollbars"]
+            + ["--enable-logging=stderr"]
             + [f"--user-data-dir={profile}", "--window-size=760,480", f"--screenshot={screenshot}"]
             + [url],
             stdout=subprocess.DEVNULL,
-            stderr=subprocess.DEVNULL,
+            stderr=log,
         )
         try:
             told = await asyncio.wait_for(result, PATIENCE)
             finished.set()
             await asyncio.to_thread(browser.wait, PATIENCE)
             return told
+        except asyncio.TimeoutError:
+            log.seek(0)
+            said = [line for line in log.read().decode(errors="replace").split("\n") if "CONSOLE" in line]
+            sys.exit("\n".join(["browser: the page told nothing; its script may be wrong", *said]))
         finally:
             finished.set()
             browser.terminate()
@@ -256,7 +262,8 @@ def judge(program, steps):
     return wrong + [f"failed: {failure}" for failure in program.failures]
 
 
-async def main(channels, screenshot):
+async def main(channels, screenshot, page=None):
+    """Runs the page of the example and judges it, or runs another one."""
     loop = asyncio.get_running_loop()
     library, program = dcsctp.load(os.path.abspath(channels)), Program()
     aiortc.rtcpeerconnection.RTCSctpTransport = lambda transport: Transport(
@@ -270,7 +277,7 @@ async def main(channels, screenshot):
         return {"type": peer.localDescription.type, "sdp": peer.localDescription.sdp}
 
     result, finished = loop.create_future(), threading.Event()
-    handler = make_handler(loop, answer, result, finished)
+    handler = make_handler(page or os.path.join(FOLDER, "index.html"), loop, answer, result, finished)
     server = http.server.ThreadingHTTPServer(("127.0.0.1", 0), handler)
     server.daemon_threads = True
     threading.Thread(target=server.serve_forever, daemon=True).start()
@@ -282,6 +289,8 @@ async def main(channels, screenshot):
         server.shutdown()
     for name, detail, right in steps:
         print(f"page: {'right' if right else 'WRONG'}: {name}: {detail}")
+    if page:
+        return bool(program.failures)
     wrong = judge(program, steps)
     print("\n".join(wrong) if wrong else "browser: all as it should be")
     return bool(wrong)
