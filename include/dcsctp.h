@@ -743,7 +743,7 @@ typedef struct dcsctp_counts {
     size_t size;              /* sizeof(dcsctp_counts) */
     size_t rx_packets_count;  /* packets handed in, readable or not */
     size_t tx_packets_count;  /* packets sent */
-    size_t tx_messages_count; /* messages that dcsctp_send took */
+    size_t tx_messages_count; /* messages that dcsctp_send and dcsctp_send_many took */
 } dcsctp_counts;
 
 /* Writes the counts, where `size` is set, whatever the state: an association that has ended doesn't
